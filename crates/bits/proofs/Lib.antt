@@ -1,0 +1,5 @@
+pub mod Tested
+pub mod Tabled
+pub mod BitLaws
+pub mod MaskLaws
+pub mod Determined

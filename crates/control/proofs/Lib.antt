@@ -1,0 +1,3 @@
+pub mod ByGroup
+pub mod BitSeven
+pub mod ModeTwo

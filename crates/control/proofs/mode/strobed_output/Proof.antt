@@ -1,0 +1,27 @@
+-- `control::mode::strobed_output` meets its contract: its masks agree with the rule at every word.
+-- Rests on ByGroup.
+use mathlib.Core.Bool.{_||_}
+use lib.Bits.{bitAnd}
+use lib.Dec.{eqb}
+use borrow.Author.Needs.{needs}
+use Rattle.bits.specs.Bit.{bitOf}
+use Rattle.control.specs.declared.Group.the-variants.{A, B}
+use Rattle.control.specs.Mode.{strobedOutput, modeOf, inputOf}
+use Rattle.control.proofs.ByGroup.{bit-of-group}
+use Rattle.control.proofs.mode.strobed_output.Statement.{statement}
+use Rattle.control.proofs.mode.strobed_output.Tie as tie
+
+returns : tie.Need-returns
+unfolding strobedOutput modeOf inputOf bitOf
+returns c =
+    let a = c .before .before .args in
+    bit-of-group (λ w. eqb (bitAnd w 0x40) 0x40 || eqb (bitAnd w 0x30) 0x20) strobedOutput A tt (a .word) (a .group) (search needs) (c .enum-told .given .1)
+
+returns-2 : tie.Need-returns-2
+unfolding strobedOutput modeOf inputOf bitOf
+returns-2 c =
+    let a = c .before .before .args in
+    bit-of-group (λ w. eqb (bitAnd w 0x06) 0x04) strobedOutput B tt (a .word) (a .group) (search needs) (c .enum-told2 .given .1)
+
+pub strobed-output-spec : {M : Type 1} → statement M
+strobed-output-spec = tie.close (tie.spec (λ c. search needs) (λ c. search needs) returns returns-2)

@@ -1,0 +1,2 @@
+pub mod BitSeven
+pub mod ModeTwo
