@@ -8,10 +8,7 @@ pub mod table;
 pub fn lookup(word: u8, pin: u8) -> u8
     ensures { λ r. ⌜ r ≡ lookupOf word pin ⌝ }
 {
-    if word < 128 {
-        return 255;
-    }
-    if 7 < pin {
+    if (word < 128) | (7 < pin) {
         return 255;
     }
     let roles = table::published();

@@ -1,2 +1,3 @@
 pub mod BitSeven
 pub mod ModeTwo
+pub mod PinByMasks
