@@ -8,6 +8,7 @@ pub enum Control {
     Bit(u8, bool),
 }
 
+// What a byte written to the control address says: bit 7 chooses; the pin stands in bits 3 to 1, and its value in bit 0.
 pub fn decode(byte: u8) -> Control
     ensures { λ r. ⌜ r ≡ controlOf byte ⌝ }
 {

@@ -1,6 +1,7 @@
 -- `control::mode::strobed_input` meets its contract: its masks agree with the rule at every word.
 -- Rests on ByGroup.
-use mathlib.Core.Bool.{_||_}
+use mathlib.Core.Bool.{Bool, _||_}
+use Prim.Native.Nat.{ℕ}
 use lib.Bits.{bitAnd}
 use lib.Dec.{eqb}
 use borrow.Author.Needs.{needs}
@@ -11,17 +12,24 @@ use Rattle.control.proofs.ByGroup.{bit-of-group}
 use Rattle.control.proofs.mode.strobed_input.Statement.{statement}
 use Rattle.control.proofs.mode.strobed_input.Tie as tie
 
+-- What the code works out of a word, for each group.
+abbrev codeA : ℕ → Bool
+codeA w = eqb (bitAnd w 0x40) 0x40 || eqb (bitAnd w 0x30) 0x30
+
+abbrev codeB : ℕ → Bool
+codeB w = eqb (bitAnd w 0x06) 0x06
+
 returns : tie.Need-returns
 unfolding strobedInput modeOf inputOf bitOf
 returns c =
     let a = c .before .before .args in
-    bit-of-group (λ w. eqb (bitAnd w 0x40) 0x40 || eqb (bitAnd w 0x30) 0x30) strobedInput A tt (a .word) (a .group) (search needs) (c .enum-told .given .1)
+    bit-of-group codeA strobedInput A tt (a .word) (a .group) (search needs) (c .enum-told .given .1)
 
 returns-2 : tie.Need-returns-2
 unfolding strobedInput modeOf inputOf bitOf
 returns-2 c =
     let a = c .before .before .args in
-    bit-of-group (λ w. eqb (bitAnd w 0x06) 0x06) strobedInput B tt (a .word) (a .group) (search needs) (c .enum-told2 .given .1)
+    bit-of-group codeB strobedInput B tt (a .word) (a .group) (search needs) (c .enum-told2 .given .1)
 
 pub strobed-input-spec : {M : Type 1} → statement M
 strobed-input-spec = tie.close (tie.spec (λ c. search needs) (λ c. search needs) returns returns-2)
