@@ -10,13 +10,16 @@ const GROUP_A: u64 = 0xf8f8_f8f8_38c8_0000;
 pub fn handshake(word: u8) -> u8
     ensures { λ r. ⌜ r ≡ handshakePins word ⌝ }
 {
-    let at = (word / 16 % 8 * 8) as u64;
-    ((GROUP_A >> at) % 256) as u8 | (word / 4 % 2 * 7)
+    let at = ((word >> 1) & 0x38) as u64;
+    let other = bits::choose(bits::bit(word, 2), 0x07, 0);
+    ((GROUP_A >> at) % 256) as u8 | other
 }
 
 // The pins that are outputs: those of an output half that no handshake uses.
 pub fn outputs(word: u8) -> u8
     ensures { λ r. ⌜ r ≡ outputPins word ⌝ }
 {
-    !(handshake(word) | (word / 8 % 2 * 0xf0) | (word % 2 * 0x0f))
+    let upper = bits::choose(bits::bit(word, 3), 0xf0, 0);
+    let lower = bits::choose(bits::bit(word, 0), 0x0f, 0);
+    !(handshake(word) | upper | lower)
 }
