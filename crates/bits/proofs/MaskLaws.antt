@@ -7,7 +7,7 @@ use native.Mathlib.Nat.{mod-lt}
 use native.Mathlib.Omega.{arith}
 use lib.Dec.{T, eqb, lit<}
 use lib.Bits.{bitAnd, bitOr, and-shr, or-shr, and-mod, or-mod, and-lt, or-lt}
-use Rattle.bits.specs.Bit.{bitOf, blendOf}
+use Rattle.bits.specs.Bit.{bitOf, assembled, blendOf}
 use Rattle.bits.proofs.Tested.{all, same, bits-of-two}
 use Rattle.bits.proofs.BitLaws.{bit-of-assembled, byte-by-bits}
 
@@ -32,6 +32,11 @@ bit-or = bit-by-bit bitOr _||_ or-shr or-mod tt
 pub bit-not : (x n : ℕ) → x < 256 → n < 8 → bitOf (255 - x) n ≡ not (bitOf x n)
 unfolding bitOf
 bit-not = bits-of-two 256 8 (λ x n. bitOf (255 - x) n) (λ x n. not (bitOf x n)) tt
+
+-- A blend is assembled of its bits.
+pub blend-assembled : (m x y : ℕ) → blendOf m x y ≡ assembled (λ k. cond (bitOf m k) (bitOf x k) (bitOf y k))
+unfolding blendOf
+blend-assembled m x y = refl
 
 -- What the contract of blend says of each bit.
 pub bit-of-blend : (m x y k : ℕ) → k < 8 → bitOf (blendOf m x y) k ≡ cond (bitOf m k) (bitOf x k) (bitOf y k)

@@ -11,7 +11,7 @@ use Rattle.bits.proofs.BitLaws.{bit-of-assembled}
 use Rattle.control.specs.declared.Group.the-variants.{B}
 use Rattle.control.specs.Mode.{modeOf, inputOf, upperInput, lowerInput, strobedInput}
 use Rattle.roles.specs.Role.{Role, input, output, INTR, IBF, OBF, STB, ACK, number, usesOf, freeRole, roleOf}
-use Rattle.roles.specs.Pins.{isHandshake, isOutput, handshakePins, outputPins}
+use Rattle.roles.specs.Pins.{isHandshake, isOutput, handshakePins, outputPins, handshakeRole}
 
 -- Two roles with one number are one role: a number has its role back.
 abbrev numbered : ℕ → Role
@@ -28,10 +28,6 @@ numbered-back ACK = refl
 
 pub number-one : (r s : Role) → number r ≡ number s → r ≡ s
 number-one r s e = sym (numbered-back r) ∙ ap numbered e ∙ numbered-back s
-
--- The one role that a handshake can give to a pin; of pins 1 and 2, by whether port B is a strobed input.
-abbrev pub handshakeRole : Bool → ℕ → Role
-handshakeRole taking n = getD (INTR ∷ cond taking IBF OBF ∷ cond taking STB ACK ∷ INTR ∷ STB ∷ IBF ∷ ACK ∷ OBF ∷ []) n input
 
 -- A pin in its handshake's role, or free.
 abbrev pub sorted : Bool → Bool → Bool → ℕ → Role

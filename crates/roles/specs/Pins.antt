@@ -1,6 +1,8 @@
 -- The pins of port C that have certain roles, as a byte with a one at each ("Port C roles").
-use mathlib.Core.Bool.{Bool, true, false}
+use mathlib.Core.Bool.{Bool, true, false, cond}
+use mathlib.Core.List.{[], _∷_}
 use Prim.Native.Nat.{ℕ}
+use lib.ListN.{getD}
 use Rattle.bits.specs.Bit.{assembled}
 use Rattle.roles.specs.Role.{Role, input, output, INTR, IBF, OBF, STB, ACK, roleOf}
 
@@ -31,3 +33,7 @@ handshakePins w = assembled (λ n. isHandshake (roleOf w n))
 -- The pins that are free outputs under the mode word w.
 unfoldable pub outputPins : ℕ → ℕ
 outputPins w = assembled (λ n. isOutput (roleOf w n))
+
+-- The one role that a handshake can give to a pin; of pins 1 and 2, by whether port B is a strobed input.
+abbrev pub handshakeRole : Bool → ℕ → Role
+handshakeRole taking n = getD (INTR ∷ cond taking IBF OBF ∷ cond taking STB ACK ∷ INTR ∷ STB ∷ IBF ∷ ACK ∷ OBF ∷ []) n input

@@ -1,0 +1,63 @@
+// What a letter names of the chip and of its last answer.
+use super::print;
+use channel::Fill;
+use channel::Side;
+use channel::Tally;
+use chip::Chip;
+use control::Group;
+use step::Stepped;
+
+fn counts(tally: Tally) {
+    print::word(b", offered ");
+    print::number(tally.offered);
+    print::word(b", handed over ");
+    print::number(tally.handed);
+    print::word(b", overwritten ");
+    print::number(tally.overwritten);
+    print::word(b", swallowed ");
+    print::number(tally.swallowed);
+    print::word(b", cleared ");
+    print::number(tally.cleared);
+}
+
+// Whether a byte waits in the channel, and its tallies.
+fn channel(chip: Chip, group: Group, side: Side) {
+    let core = chip.core;
+    let channel = chip::channels::find(core, group, side);
+    let fill = channel.fill;
+    match fill {
+        Fill::Empty => print::word(b"empty"),
+        Fill::Waiting => print::word(b"waiting"),
+        Fill::Fetching => print::word(b"fetching"),
+    }
+    counts(chip::channels::tally(chip, group, side));
+}
+
+// A capital letter is a port's levels, a small one its driven pins.
+fn pins(chip: Chip, name: u8) {
+    let port = match name {
+        b'A' | b'a' => 0,
+        b'B' | b'b' => 1,
+        b'C' | b'c' => 2,
+        _ => 3,
+    };
+    let pins = ports::view::pins(chip, port);
+    match name {
+        b'a' | b'b' | b'c' | b'd' => print::byte(pins.driven),
+        _ => print::byte(pins.levels),
+    }
+}
+
+pub(super) fn field(last: Stepped, name: u8) {
+    match name {
+        b'0' => channel(last.chip, Group::A, Side::Input),
+        b'1' => channel(last.chip, Group::A, Side::Output),
+        b'2' => channel(last.chip, Group::B, Side::Input),
+        b'3' => channel(last.chip, Group::B, Side::Output),
+        b'n' => print::byte(last.number),
+        b'y' => print::byte(last.byte),
+        b'r' => print::byte(ports::read::value(last.chip, 2)),
+        b'w' => print::byte(last.chip.core.word),
+        _ => pins(last.chip, name),
+    }
+}

@@ -1,0 +1,66 @@
+// The signs in the text of the cases, followed byte by byte:
+//
+//     <030309>   runs an event: a kind and two operands, in six hexadecimal digits
+//     %A %a      the levels and the driven pins of port A; so for B and C, and with D and d for a port that there is not
+//     %n %y      the number and the byte of the last event
+//     %r %w      a read of port C, and the stored mode word
+//     %0 to %3   a channel and its tallies: A in, A out, B in, B out
+//     !P         another chip: at power-up, or as states.rt has it
+use super::print;
+use super::show;
+use super::states;
+use step::Stepped;
+
+// The sign that stands open after a byte, or a space.
+fn open_after(sign: u8, code: u8) -> u8 {
+    match sign {
+        b'<' => if code == b'>' { b' ' } else { sign },
+        b'%' | b'!' => b' ',
+        _ => code,
+    }
+}
+
+// The digits of an event so far, in one number.
+fn digits_after(sign: u8, digits: u32, code: u8) -> u32 {
+    let digit = if code < b'A' {
+        code % 16
+    } else {
+        code % 16 + 9
+    };
+    if sign == b'<' {
+        digits % 0x100000 * 16 + digit as u32
+    } else {
+        0
+    }
+}
+
+fn copy(code: u8) {
+    match code {
+        b'<' | b'%' | b'!' => {}
+        _ => print::word(&[code]),
+    }
+}
+
+fn act(last: Stepped, sign: u8, digits: u32, code: u8) -> Stepped {
+    match sign {
+        b'<' => if code == b'>' {
+            return states::event(last.chip, digits);
+        },
+        b'!' => return states::other(last.chip, code),
+        b'%' => show::field(last, code),
+        _ => copy(code),
+    }
+    last
+}
+
+pub(super) fn follow(text: &[u8]) {
+    let mut last = states::at_power_up();
+    let mut sign = b' ';
+    let mut digits = 0u32;
+    for at in 0..text.len() {
+        let code = text[at];
+        last = act(last, sign, digits, code);
+        digits = digits_after(sign, digits, code);
+        sign = open_after(sign, code);
+    }
+}

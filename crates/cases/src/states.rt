@@ -1,0 +1,101 @@
+// How the chip comes to be in a state: by an event, by very many strobes, or by hand, where no history leads there.
+use channel::Channel;
+use channel::Fill;
+use chip::Chip;
+use chip::Core;
+use chip::Phase;
+use chip::Port;
+use step::Stepped;
+
+pub(super) fn event(chip: Chip, digits: u32) -> Stepped {
+    step::step(
+        chip,
+        (digits / 65536 % 256) as u8,
+        (digits / 256 % 256) as u8,
+        (digits % 256) as u8,
+    )
+}
+
+fn put(chip: Chip) -> Stepped {
+    Stepped {
+        chip,
+        number: 0,
+        byte: 0,
+    }
+}
+
+pub(super) fn at_power_up() -> Stepped {
+    put(chip::power_up())
+}
+
+// The STB of port A falls and rises.
+fn strobe(chip: Chip) -> Chip {
+    let fallen = event(chip, 0x0502ef);
+    let risen = event(fallen.chip, 0x0502ff);
+    risen.chip
+}
+
+// One strobe short of as many as a tally can tell apart.
+fn strobes(start: Chip) -> Chip {
+    let mut chip = start;
+    for _ in 0..65535u32 {
+        chip = strobe(chip);
+    }
+    chip
+}
+
+fn marked(channel: Channel, fill: Fill) -> Channel {
+    let tally = channel.tally;
+    Channel {
+        fill,
+        latch: channel.latch,
+        tally,
+    }
+}
+
+fn output_fetching(mut port: Port) -> Port {
+    port.output = marked(port.output, Fill::Fetching);
+    port
+}
+
+fn both_waiting(mut port: Port) -> Port {
+    port.input = marked(port.input, Fill::Waiting);
+    port.output = marked(port.output, Fill::Waiting);
+    port
+}
+
+// The mode word B0 without its bit 7; the output of A fetching; bytes waiting in both channels of A.
+fn core_by_hand(mut core: Core, name: u8) -> Core {
+    match name {
+        b'W' => core.word = 0x30,
+        b'F' => core.a = output_fetching(core.a),
+        b'U' => core.a = both_waiting(core.a),
+        _ => {}
+    }
+    core
+}
+
+// A read of a port and a write to an address that there are not.
+fn phase_by_hand(phase: Phase, name: u8) -> Phase {
+    match name {
+        b'R' => Phase::Reading(7),
+        b'T' => Phase::Writing(9, 0x55),
+        _ => phase,
+    }
+}
+
+fn by_hand(chip: Chip, name: u8) -> Chip {
+    let phase = chip.phase;
+    Chip {
+        phase: phase_by_hand(phase, name),
+        core: core_by_hand(chip.core, name),
+    }
+}
+
+pub(super) fn other(chip: Chip, name: u8) -> Stepped {
+    match name {
+        b'P' => at_power_up(),
+        b'S' => put(strobes(chip)),
+        _ => put(by_hand(chip, name)),
+    }
+}

@@ -1,0 +1,40 @@
+-- The four things that can happen to a channel, and what each leaves of it ("Handshake").
+use mathlib.Core.Bool.{true, cond}
+use Prim.Native.Nat.{ℕ}
+use Rattle.channel.specs.declared.Fill.{Fill}
+use Rattle.channel.specs.declared.Fill.the-variants.{Empty, Waiting}
+use Rattle.channel.specs.declared.Channel.{Channel}
+use Rattle.channel.specs.Channel.{isWaiting, counted, offered, handed, overwritten, swallowed, cleared}
+
+-- A byte is brought in by STB, or written to be given out. It stands in the latch and waits, and a byte that waited there
+-- before is lost under it.
+unfoldable pub afterOffer : Channel → ℕ → Channel
+afterOffer ch b = record {
+  fill = Waiting;
+  latch = b;
+  tally = counted overwritten (isWaiting (ch .fill)) (counted offered true (ch .tally));
+}
+
+-- The byte is taken, by a read that begins or by ACK. What that leaves is for the caller to say: an input is fetched from until
+-- the read ends, an output has room again. Where no byte waits, nothing is taken.
+unfoldable pub afterHandOver : Channel → Fill → Channel
+afterHandOver ch left =
+    cond (isWaiting (ch .fill))
+    (record { fill = left; latch = ch .latch; tally = counted handed true (ch .tally) })
+    ch
+
+-- The end of a read frees the channel whatever came in meanwhile: a byte that waits then is read by nobody.
+unfoldable pub afterEndRead : Channel → Channel
+afterEndRead ch = record {
+  fill = Empty;
+  latch = ch .latch;
+  tally = counted swallowed (isWaiting (ch .fill)) (ch .tally);
+}
+
+-- A mode word or a reset wipes latch and channel, and a byte that waited is counted for it ("Mode words", "State").
+unfoldable pub afterClear : Channel → Channel
+afterClear ch = record {
+  fill = Empty;
+  latch = 0;
+  tally = counted cleared (isWaiting (ch .fill)) (ch .tally);
+}

@@ -1,0 +1,133 @@
+// One strobed channel: whether a byte waits in it, its latch, and what became of the bytes offered to it. The four channels of a
+// chip are all of this kind.
+ghost use mathlib.Core.Path.{_≡_};
+ghost use Rattle.channel.specs.Channel.{isWaiting, isEmpty, flagOf, next};
+ghost use Rattle.channel.specs.Moves.{afterOffer, afterHandOver, afterEndRead, afterClear};
+
+// Which way a channel's bytes go: an input takes them in by STB, an output gives them out by ACK.
+pub enum Side {
+    Input,
+    Output,
+}
+
+// Whether a byte waits. A channel is fetching while the read that was handed its byte still runs.
+pub enum Fill {
+    Empty,
+    Waiting,
+    Fetching,
+}
+
+// How many bytes were offered, and how many met each fate, modulo 65,536.
+pub struct Tally {
+    pub offered: u16,
+    pub handed: u16,
+    pub overwritten: u16,
+    pub swallowed: u16,
+    pub cleared: u16,
+}
+
+pub struct Channel {
+    pub fill: Fill,
+    pub latch: u8,
+    pub tally: Tally,
+}
+
+fn waiting(fill: Fill) -> bool
+    ensures { λ r. ⌜ r ≡ isWaiting fill ⌝ }
+{
+    match fill {
+        Fill::Empty => false,
+        Fill::Waiting => true,
+        Fill::Fetching => false,
+    }
+}
+
+fn empty(fill: Fill) -> bool
+    ensures { λ r. ⌜ r ≡ isEmpty fill ⌝ }
+{
+    match fill {
+        Fill::Empty => true,
+        Fill::Waiting => false,
+        Fill::Fetching => false,
+    }
+}
+
+// The channel's buffer flag: IBF of an input, OBF of an output.
+pub fn flag(side: Side, fill: Fill) -> bool
+    ensures { λ r. ⌜ r ≡ flagOf side fill ⌝ }
+{
+    match side {
+        Side::Input => !empty(fill),
+        Side::Output => !waiting(fill),
+    }
+}
+
+fn next_if(on: bool, count: u16) -> u16
+    ensures { λ r. ⌜ r ≡ next on count ⌝ }
+{
+    if on {
+        std::num::wrapping_add_u16(count, 1)
+    } else {
+        count
+    }
+}
+
+// A byte is offered, and one that waits is overwritten.
+pub fn offer(channel: Channel, byte: u8) -> Channel
+    ensures { λ r. ⌜ r ≡ afterOffer channel byte ⌝ }
+{
+    let fill = channel.fill;
+    let mut tally = channel.tally;
+    tally.offered = next_if(true, tally.offered);
+    tally.overwritten = next_if(waiting(fill), tally.overwritten);
+    Channel {
+        fill: Fill::Waiting,
+        latch: byte,
+        tally,
+    }
+}
+
+// A byte that waits is handed over, and the channel is left as named: fetching by a read that begins, empty by ACK.
+pub fn hand_over(channel: Channel, left: Fill) -> Channel
+    ensures { λ r. ⌜ r ≡ afterHandOver channel left ⌝ }
+{
+    let fill = channel.fill;
+    let mut tally = channel.tally;
+    if waiting(fill) {
+        tally.handed = next_if(true, tally.handed);
+        return Channel {
+            fill: left,
+            latch: channel.latch,
+            tally,
+        };
+    }
+    channel
+}
+
+// The end of a read: the channel is empty, and a byte that waits is swallowed.
+pub fn end_read(channel: Channel) -> Channel
+    ensures { λ r. ⌜ r ≡ afterEndRead channel ⌝ }
+{
+    let fill = channel.fill;
+    let mut tally = channel.tally;
+    tally.swallowed = next_if(waiting(fill), tally.swallowed);
+    Channel {
+        fill: Fill::Empty,
+        latch: channel.latch,
+        tally,
+    }
+}
+
+// A mode word or a reset: latch and channel are empty, and a byte that waits is cleared.
+pub fn clear(channel: Channel) -> Channel
+    ensures { λ r. ⌜ r ≡ afterClear channel ⌝ }
+{
+    let fill = channel.fill;
+    let mut tally = channel.tally;
+    tally.cleared = next_if(waiting(fill), tally.cleared);
+    Channel {
+        fill: Fill::Empty,
+        latch: 0,
+        tally,
+    }
+}

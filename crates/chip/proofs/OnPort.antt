@@ -1,0 +1,49 @@
+-- What a rule applied at an address makes of each port, and what it leaves alone.
+-- Rests on nothing.
+use mathlib.Core.Path.{_≡_, refl}
+use mathlib.Core.Bool.{Bool, true, false, cond}
+use Prim.Native.Nat.{ℕ}
+use lib.Dec.{eqb}
+use borrow.Author.Tests.{eqb-true}
+use Rattle.control.specs.declared.Group.{Group}
+use Rattle.control.specs.declared.Group.the-variants.{A, B}
+use Rattle.chip.specs.declared.Port.{Port}
+use Rattle.chip.specs.declared.Core.{Core}
+use Rattle.chip.specs.State.{portOf, withPort, onPort}
+use Rattle.chip.specs.Handshakes.{ownAddress}
+
+module _ (c : Core) (x : ℕ) (f : Group → Port → Port) where
+  first : (a b : Bool) → portOf (cond a (withPort c A (f A (c .a))) (cond b (withPort c B (f B (c .b))) c)) A ≡ cond a (f A (c .a)) (c .a)
+  first true b = refl
+  first false true = refl
+  first false false = refl
+
+  second : (a : Bool) → eqb x 0 ≡ a
+      → portOf (cond a (withPort c A (f A (c .a))) (cond (eqb x 1) (withPort c B (f B (c .b))) c)) B ≡ cond (eqb x 1) (f B (c .b)) (c .b)
+  second true e = rw (eqb-true x 0 e)
+  second false e = go (eqb x 1)
+    where
+      go : (b : Bool) → portOf (cond b (withPort c B (f B (c .b))) c) B ≡ cond b (f B (c .b)) (c .b)
+      go true = refl
+      go false = refl
+
+  -- A port changes where the address is its own, and else stays.
+  pub port-on : (g : Group) → portOf (onPort c x f) g ≡ cond (ownAddress x g) (f g (portOf c g)) (portOf c g)
+  port-on A = first (eqb x 0) (eqb x 1)
+  port-on B = second (eqb x 0) refl
+
+  rest : (a b : Bool) {X : Type 0} (p : Core → X) → p (withPort c A (f A (c .a))) ≡ p c → p (withPort c B (f B (c .b))) ≡ p c
+      → p (cond a (withPort c A (f A (c .a))) (cond b (withPort c B (f B (c .b))) c)) ≡ p c
+  rest true b p h k = h
+  rest false true p h k = k
+  rest false false p h k = refl
+
+  -- The mode word, the lines of port C and the enables stay.
+  pub word-on : onPort c x f .word ≡ c .word
+  word-on = rest (eqb x 0) (eqb x 1) (λ c. c .word) refl refl
+
+  pub lines-on : onPort c x f .c ≡ c .c
+  lines-on = rest (eqb x 0) (eqb x 1) (λ c. c .c) refl refl
+
+  pub enables-on : onPort c x f .inte ≡ c .inte
+  enables-on = rest (eqb x 0) (eqb x 1) (λ c. c .inte) refl refl

@@ -1,0 +1,2 @@
+pub mod State
+pub mod Handshakes

@@ -1,0 +1,79 @@
+-- The chip at power-up, and the names of its four channels ("State").
+use mathlib.Core.Bool.{false, cond}
+use Prim.Native.Nat.{ℕ}
+use lib.Dec.{eqb}
+use Rattle.control.specs.declared.Group.{Group}
+use Rattle.control.specs.declared.Group.the-variants.{A, B}
+use Rattle.channel.specs.declared.Side.{Side}
+use Rattle.channel.specs.declared.Side.the-variants.{Input, Output}
+use Rattle.channel.specs.declared.Fill.the-variants.{Empty}
+use Rattle.channel.specs.declared.Tally.{Tally}
+use Rattle.channel.specs.declared.Channel.{Channel}
+use Rattle.chip.specs.declared.Phase.the-variants.{Idle}
+use Rattle.chip.specs.declared.Port.{Port}
+use Rattle.chip.specs.declared.Enables.{Enables}
+use Rattle.chip.specs.declared.Core.{Core}
+use Rattle.chip.specs.declared.Chip.{Chip}
+
+abbrev pub noTally : Tally
+noTally = record { offered = 0; handed = 0; overwritten = 0; swallowed = 0; cleared = 0 }
+
+abbrev pub noByte : Channel
+noByte = record { fill = Empty; latch = 0; tally = noTally }
+
+abbrev pub noEnables : Enables
+noEnables = record { input = false; output = false; b = false }
+
+-- A port at power-up, under these outside levels.
+abbrev pub freshPort : ℕ → Port
+freshPort d = record { input = noByte; output = noByte; outside = d }
+
+-- The chip as it is switched on: all ports inputs in mode 0, which is the word 9B, every line high, and nothing anywhere else.
+abbrev pub powerUp : Chip
+powerUp = record {
+  phase = Idle;
+  core = record {
+    word = 0x9b;
+    a = freshPort 0xff;
+    b = freshPort 0xff;
+    c = record { latch = 0; outside = 0xff };
+    inte = noEnables;
+  };
+}
+
+-- The four channels are A in, A out, B in and B out: a port's group and a side.
+abbrev pub portOf : Core → Group → Port
+portOf c A = c .a
+portOf c B = c .b
+
+abbrev pub sideOf : Port → Side → Channel
+sideOf p Input = p .input
+sideOf p Output = p .output
+
+abbrev pub channelOf : Core → Group → Side → Channel
+channelOf c g s = sideOf (portOf c g) s
+
+abbrev pub tallyOf : Chip → Group → Side → Tally
+tallyOf c g s = channelOf (c .core) g s .tally
+
+-- A port with another channel, and a core with another port, another latch of port C, or other enables.
+abbrev pub withInput : Port → Channel → Port
+withInput p ch = record { input = ch; output = p .output; outside = p .outside }
+
+abbrev pub withOutput : Port → Channel → Port
+withOutput p ch = record { input = p .input; output = ch; outside = p .outside }
+
+abbrev pub withPort : Core → Group → Port → Core
+withPort c A p = record { word = c .word; a = p; b = c .b; c = c .c; inte = c .inte }
+withPort c B p = record { word = c .word; a = c .a; b = p; c = c .c; inte = c .inte }
+
+abbrev pub withLatch : Core → ℕ → Core
+withLatch c x = record { word = c .word; a = c .a; b = c .b; c = record { latch = x; outside = c .c .outside }; inte = c .inte }
+
+abbrev pub withEnables : Core → Enables → Core
+withEnables c e = record { word = c .word; a = c .a; b = c .b; c = c .c; inte = e }
+
+-- Ports A and B are at 0 and 1 on the bus: the port at an address becomes what a rule makes of it, and any other address has
+-- none ("Events and numbers").
+abbrev pub onPort : Core → ℕ → (Group → Port → Port) → Core
+onPort c x f = cond (eqb x 0) (withPort c A (f A (c .a))) (cond (eqb x 1) (withPort c B (f B (c .b))) c)

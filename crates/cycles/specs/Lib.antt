@@ -1,0 +1,2 @@
+pub mod Read
+pub mod Write

@@ -1,0 +1,106 @@
+-- INTR as the sheet gives it, in every state: the equation under its figure of mode 2, and each half alone in mode 1; and that the
+-- beginning of the own read or write drops it ("Handshake").
+-- Rests on ChannelPins, on control's ModeTwo and Strobed, and on the outcomes of a step.
+use mathlib.Core.Path.{_≡_, _∙_, refl, ap, sym}
+use mathlib.Core.Bool.{Bool, true, false, not, _&&_, _||_}
+use Prim.Native.Nat.{ℕ, _<_}
+use borrow.Author.Tests.{not-true}
+use Rattle.bits.specs.Bit.{bitOf}
+use Rattle.control.specs.declared.Group.{Group}
+use Rattle.control.specs.declared.Group.the-variants.{A}
+use Rattle.control.specs.Mode.{modeOf, inputOf}
+use Rattle.control.proofs.ModeTwo.{mode-2-both-ways}
+use Rattle.control.proofs.Strobed.{mode-1-takes, mode-1-gives}
+use Rattle.channel.specs.declared.Side.{Side}
+use Rattle.channel.specs.declared.Side.the-variants.{Input, Output}
+use Rattle.chip.specs.declared.Chip.{Chip}
+use Rattle.chip.specs.Handshakes.{strobed, lineOf, enableOf, ownAddress, running}
+use Rattle.status.specs.Status.{flagAt, requestOf, intrOf}
+use Rattle.step.specs.Numbers.{numberOf}
+use Rattle.step.specs.Step.{stepOf}
+use Rattle.step.proofs.Outcome.{step-accepts}
+use Rattle.laws.specs.Seen.{pin, intrPin, flagPin}
+use Rattle.laws.proofs.ChannelPins.{flag-pin, line-pin, intr-pin}
+
+-- One half of INTR, told by the pins: INTE and the flag and the line high and no own cycle running.
+abbrev pub half : Chip → Group → Side → Bool
+half c g s = enableOf (c .core .inte) g s && pin c (flagPin g s) && pin c (lineOf g s) && not (running (c .phase) g s)
+
+half-is : (c : Chip) → c .core .word < 256 → (g : Group) (s : Side) → strobed (c .core .word) g s ≡ true → requestOf c g s ≡ half c g s
+unfolding requestOf
+half-is c hw g s on = rw (on, flag-pin c hw g s on, line-pin c hw g s on)
+
+-- Mode 2: the pin is either half.
+pub intr-in-mode-2 : (c : Chip) → c .core .word < 256 → modeOf (c .core .word) A ≡ 2 → pin c 3 ≡ (half c A Input || half c A Output)
+unfolding intrOf
+intr-in-mode-2 c hw two =
+    let both = mode-2-both-ways (c .core .word) two in
+    intr-pin c hw A Input (both .taking)
+    ∙ rw (half-is c hw A Input (both .taking), half-is c hw A Output (both .giving))
+
+or-false : (b : Bool) → (b || false) ≡ b
+or-false true = refl
+or-false false = refl
+
+dropped : (a b d e : Bool) → (a && b && d && e && not true) ≡ false
+dropped true true true true = refl
+dropped true true true false = refl
+dropped true true false e = refl
+dropped true false d e = refl
+dropped false b d e = refl
+
+-- Mode 1: only one side is strobed, and the pin is its half.
+abbrev other : Side → Side
+other Input = Output
+other Output = Input
+
+one-side : (w : ℕ) (g : Group) (s : Side) → modeOf w g ≡ 1 → strobed w g s ≡ true → strobed w g (other s) ≡ false
+one-side w g Input one on = mode-1-gives w g one ∙ ap not (sym (mode-1-takes w g one) ∙ on)
+one-side w g Output one on = mode-1-takes w g one ∙ not-true (inputOf w g) (sym (mode-1-gives w g one) ∙ on)
+
+quiet : (c : Chip) (g : Group) (s : Side) → strobed (c .core .word) g s ≡ false → requestOf c g s ≡ false
+unfolding requestOf
+quiet c g s off = rw (off)
+
+either-half : (c : Chip) (g : Group) (s : Side) → requestOf c g (other s) ≡ false → intrOf c g ≡ requestOf c g s
+unfolding intrOf
+either-half c g Input none = rw (none) (or-false (requestOf c g Input))
+either-half c g Output none = rw (none)
+
+pub intr-in-mode-1 : (c : Chip) → c .core .word < 256 → (g : Group) (s : Side) → modeOf (c .core .word) g ≡ 1
+    → strobed (c .core .word) g s ≡ true → pin c (intrPin g) ≡ half c g s
+intr-in-mode-1 c hw g s one on =
+    intr-pin c hw g s on ∙ either-half c g s (quiet c g (other s) (one-side (c .core .word) g s one on)) ∙ half-is c hw g s on
+
+-- The own cycle drops its half, whatever else holds.
+pub cycle-drops-half : (c : Chip) (g : Group) (s : Side) → running (c .phase) g s ≡ true → requestOf c g s ≡ false
+unfolding requestOf
+cycle-drops-half c g s r =
+    rw (r) (dropped (strobed (c .core .word) g s) (enableOf (c .core .inte) g s) (flagAt (c .core) g s) (bitOf (c .core .c .outside) (lineOf g s)))
+
+-- So INTR is low in mode 1 while the own cycle runs, and in mode 2 it is the other half.
+pub intr-low-in-own-cycle : (c : Chip) → c .core .word < 256 → (g : Group) (s : Side) → modeOf (c .core .word) g ≡ 1
+    → strobed (c .core .word) g s ≡ true → running (c .phase) g s ≡ true → pin c (intrPin g) ≡ false
+intr-low-in-own-cycle c hw g s one on r =
+    intr-pin c hw g s on ∙ either-half c g s (quiet c g (other s) (one-side (c .core .word) g s one on)) ∙ cycle-drops-half c g s r
+
+both-sides : (w : ℕ) (s : Side) → modeOf w A ≡ 2 → strobed w A s ≡ true
+both-sides w Input two = mode-2-both-ways w two .taking
+both-sides w Output two = mode-2-both-ways w two .giving
+
+other-other : (s : Side) → other (other s) ≡ s
+other-other Input = refl
+other-other Output = refl
+
+pub intr-in-own-cycle-of-mode-2 : (c : Chip) → c .core .word < 256 → (s : Side) → modeOf (c .core .word) A ≡ 2
+    → running (c .phase) A s ≡ true → pin c 3 ≡ half c A (other s)
+intr-in-own-cycle-of-mode-2 c hw s two r =
+    let on = both-sides (c .core .word) (other s) two in
+    intr-pin c hw A (other s) on ∙ either-half c A (other s) (rw (other-other s) (cycle-drops-half c A s r)) ∙ half-is c hw A (other s) on
+
+-- The own cycle runs from its beginning: an accepted read for an input, an accepted write for an output.
+pub begun-read-runs : (c : Chip) (g : Group) (x d : ℕ) → numberOf (c .phase) 1 x ≡ 0 → running (stepOf c 1 x d .chip .phase) g Input ≡ ownAddress x g
+begun-read-runs c g x d ok = rw (step-accepts c 1 x d ok)
+
+pub begun-write-runs : (c : Chip) (g : Group) (x d : ℕ) → numberOf (c .phase) 3 x ≡ 0 → running (stepOf c 3 x d .chip .phase) g Output ≡ ownAddress x g
+begun-write-runs c g x d ok = rw (step-accepts c 3 x d ok)

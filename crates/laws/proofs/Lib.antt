@@ -1,0 +1,14 @@
+pub mod Refusals
+pub mod ChannelPins
+pub mod Interrupts
+pub mod PortsAfter
+pub mod InputFlag
+pub mod OutputFlag
+pub mod ModeWords
+pub mod OwnPort
+pub mod ModeZero
+pub mod ModeTwo
+pub mod OnePin
+pub mod OtherModels
+pub mod Marked
+pub mod Determined

@@ -1,0 +1,35 @@
+-- The marked cases P1 to P13 hold of the definitions: one theorem for the whole table, which the checker computes.
+-- Rests on nothing.
+use mathlib.Core.Path.{_≡_, refl}
+use mathlib.Core.List.{List, [], _∷_}
+use Prim.Native.Nat.{ℕ}
+use Rattle.bits.specs.Bit.{bitOf, valueOf, withBit}
+use Rattle.control.specs.Mode.{modeOf, inputOf, upperInput, lowerInput, strobedInput, strobedOutput, outputOf}
+use Rattle.control.specs.Word.{controlOf}
+use Rattle.roles.specs.Role.{usesOf, freeRole, roleOf}
+use Rattle.channel.specs.Channel.{flagOf}
+use Rattle.channel.specs.Moves.{afterOffer, afterHandOver, afterEndRead, afterClear}
+use Rattle.status.specs.Status.{requestOf, intrOf}
+use Rattle.settings.specs.Renewed.{clearedPort, renewed}
+use Rattle.settings.specs.Commanded.{pinSet, commanded}
+use Rattle.cycles.specs.Read.{begunRead, endedRead}
+use Rattle.cycles.specs.Write.{storedBy, latchWritten, written}
+use Rattle.levels.specs.Levels.{fallen, edged, levelledLines, levelled}
+use Rattle.ports.specs.Reads.{readPort, readLines, readOf}
+use Rattle.ports.specs.Pins.{drivesPort, pinsOfPort, pinsOfLines, pinsOf}
+use Rattle.step.specs.Numbers.{numberOf}
+use Rattle.step.specs.Step.{stepOf}
+use Rattle.laws.specs.Marked.{Case, given, cases}
+
+-- Each case of a list, by what the model gives and by what the table says.
+abbrev modelled : List Case → List (List ℕ)
+modelled [] = []
+modelled (c ∷ cs) = given c ∷ modelled cs
+
+abbrev stated : List Case → List (List ℕ)
+stated [] = []
+stated (c ∷ cs) = c .results ∷ stated cs
+
+pub marked : modelled cases ≡ stated cases
+unfolding bitOf valueOf withBit modeOf inputOf upperInput lowerInput strobedInput strobedOutput outputOf controlOf usesOf freeRole roleOf flagOf afterOffer afterHandOver afterEndRead afterClear requestOf intrOf clearedPort renewed pinSet commanded begunRead endedRead storedBy latchWritten written fallen edged levelledLines levelled readPort readLines readOf drivesPort pinsOfPort pinsOfLines pinsOf numberOf stepOf
+marked = refl

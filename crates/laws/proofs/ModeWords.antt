@@ -1,0 +1,125 @@
+-- Every mode word, the same one again included, and a reset make the chip anew; after a reset every pin is an input ("State",
+-- "Mode words").
+-- Rests on the channel's Left and on the step's Ends and Outcome.
+use mathlib.Core.Path.{_≡_, refl}
+use mathlib.Core.Bool.{Bool, true, false, cond}
+use Prim.Native.Nat.{ℕ, _<_}
+use lib.Dec.{eqb}
+use Rattle.bits.specs.Bit.{bitOf, valueOf}
+use Rattle.bits.proofs.Tested.{numbers}
+use Rattle.control.specs.declared.Group.{Group}
+use Rattle.control.specs.declared.Group.the-variants.{A, B}
+use Rattle.control.specs.Mode.{modeOf, inputOf, upperInput, lowerInput, strobedInput, outputOf}
+use Rattle.control.specs.Word.{controlOf}
+use Rattle.roles.specs.Role.{input, number, usesOf, freeRole, roleOf}
+use Rattle.roles.proofs.PinByMasks.{number-one}
+use Rattle.channel.specs.declared.Side.{Side}
+use Rattle.channel.specs.declared.Side.the-variants.{Input, Output}
+use Rattle.channel.specs.declared.Fill.the-variants.{Empty}
+use Rattle.channel.specs.Channel.{isWaiting, counted, cleared}
+use Rattle.channel.specs.Moves.{afterClear}
+use Rattle.chip.specs.declared.Phase.the-variants.{Idle, Writing}
+use Rattle.chip.specs.declared.Core.{Core}
+use Rattle.chip.specs.declared.Chip.{Chip}
+use Rattle.chip.specs.State.{portOf, channelOf}
+use Rattle.chip.specs.Handshakes.{enableOf}
+use Rattle.settings.specs.Renewed.{clearedPort, renewed}
+use Rattle.settings.specs.Commanded.{commanded}
+use Rattle.cycles.specs.Write.{written}
+use Rattle.ports.specs.Reads.{readPort}
+use Rattle.ports.specs.Pins.{drivesPort, pinsOfPort, pinsOfLines, pinsOf}
+use Rattle.step.specs.Numbers.{numberOf}
+use Rattle.step.specs.Step.{stepOf}
+use Rattle.step.proofs.Ends.{write-ends}
+
+-- What a chip made anew is, beside the one that it was.
+pub record Anew (before : Core) (w : ℕ) (after : Core) : Type 0 where
+  pub word : after .word ≡ w
+  pub empty : (g : Group) (s : Side) → channelOf after g s .fill ≡ Empty
+  pub latches : (g : Group) (s : Side) → channelOf after g s .latch ≡ 0
+  pub lines : after .c .latch ≡ 0
+  pub enables : (g : Group) (s : Side) → enableOf (after .inte) g s ≡ false
+  pub tallies : (g : Group) (s : Side)
+      → channelOf after g s .tally ≡ counted cleared (isWaiting (channelOf before g s .fill)) (channelOf before g s .tally)
+  pub levels : (g : Group) → portOf after g .outside ≡ portOf before g .outside
+  pub linesLevels : after .c .outside ≡ before .c .outside
+
+anew : (c : Core) (w : ℕ) → Anew c w (renewed c w)
+unfolding renewed clearedPort afterClear
+anew c w = record {
+  word = refl;
+  empty = λ g s. all-clear g s .0;
+  latches = λ g s. all-clear g s .1;
+  lines = refl;
+  enables = off;
+  tallies = λ g s. all-clear g s .2;
+  levels = stay;
+  linesLevels = refl;
+}
+  where
+    all-clear : (g : Group) (s : Side)
+        → (channelOf (renewed c w) g s .fill ≡ Empty) × (channelOf (renewed c w) g s .latch ≡ 0)
+        × (channelOf (renewed c w) g s .tally ≡ counted cleared (isWaiting (channelOf c g s .fill)) (channelOf c g s .tally))
+    all-clear A Input = (refl, refl, refl)
+    all-clear A Output = (refl, refl, refl)
+    all-clear B Input = (refl, refl, refl)
+    all-clear B Output = (refl, refl, refl)
+
+    off : (g : Group) (s : Side) → enableOf (renewed c w .inte) g s ≡ false
+    off A Input = refl
+    off A Output = refl
+    off B Input = refl
+    off B Output = refl
+
+    stay : (g : Group) → portOf (renewed c w) g .outside ≡ portOf c g .outside
+    stay A = refl
+    stay B = refl
+
+-- A mode word, whatever the last one was.
+pub record Obeyed (c : Chip) (w : ℕ) (after : Chip) (number byte : ℕ) : Type 0 where
+  pub idle : after .phase ≡ Idle
+  pub core : Anew (c .core) w (after .core)
+  pub taken : number ≡ 0
+  pub silent : byte ≡ 0
+
+mode-word : (c : Core) (w : ℕ) → bitOf w 7 ≡ true → written c 3 w ≡ renewed c w
+unfolding written commanded controlOf
+mode-word c w set = rw (set)
+
+pub mode-word-renews : (c : Chip) (w x d : ℕ) → c .phase ≡ Writing 3 w → bitOf w 7 ≡ true
+    → Obeyed c w (stepOf c 4 x d .chip) (stepOf c 4 x d .number) (stepOf c 4 x d .byte)
+mode-word-renews c w x d phase set =
+    rw (write-ends c 3 w x d phase, mode-word (c .core) w set) (record { idle = refl; core = anew (c .core) w; taken = refl; silent = refl })
+
+-- The same word again.
+pub same-word-renews : (c : Chip) (x d : ℕ) → c .phase ≡ Writing 3 (c .core .word) → bitOf (c .core .word) 7 ≡ true
+    → Anew (c .core) (c .core .word) (stepOf c 4 x d .chip .core)
+same-word-renews c x d phase set = mode-word-renews c (c .core .word) x d phase set .core
+
+-- A reset, in any phase.
+pub reset-renews : (c : Chip) (x d : ℕ) → Obeyed c 0x9b (stepOf c 0 x d .chip) (stepOf c 0 x d .number) (stepOf c 0 x d .byte)
+unfolding stepOf numberOf
+reset-renews c x d = record { idle = refl; core = anew (c .core) 0x9b; taken = refl; silent = refl }
+
+-- After it every pin of port C is an input, nothing is driven, and ports A and B read as their outside levels.
+pub reset-roles : (n : ℕ) → n < 8 → roleOf 0x9b n ≡ input
+unfolding roleOf usesOf freeRole modeOf inputOf upperInput lowerInput bitOf
+reset-roles n h = number-one (roleOf 0x9b n) input (numbers 8 (λ n. number (roleOf 0x9b n)) (λ n. 0) tt n h)
+
+pub reset-drives-nothing : (c : Chip) (x d p : ℕ) → pinsOf (stepOf c 0 x d .chip) p .driven ≡ 0
+unfolding stepOf numberOf renewed pinsOf pinsOfPort pinsOfLines drivesPort outputOf modeOf inputOf roleOf usesOf freeRole upperInput lowerInput bitOf valueOf
+reset-drives-nothing c x d p = go (eqb p 0) (eqb p 1) (eqb p 2)
+  where
+    go : (a b l : Bool)
+        → cond a (pinsOfPort (stepOf c 0 x d .chip .core .a) (drivesPort (stepOf c 0 x d .chip .core) A))
+        (cond b (pinsOfPort (stepOf c 0 x d .chip .core .b) (drivesPort (stepOf c 0 x d .chip .core) B))
+        (cond l (pinsOfLines (stepOf c 0 x d .chip)) (record { levels = 0; driven = 0 }))) .driven ≡ 0
+    go true b l = refl
+    go false true l = refl
+    go false false true = refl
+    go false false false = refl
+
+pub reset-reads-outside : (c : Chip) (x d : ℕ) (g : Group) → readPort 0x9b g (portOf (stepOf c 0 x d .chip .core) g) ≡ portOf (c .core) g .outside
+unfolding stepOf numberOf renewed clearedPort readPort strobedInput outputOf modeOf inputOf bitOf
+reset-reads-outside c x d A = refl
+reset-reads-outside c x d B = refl

@@ -1,0 +1,112 @@
+-- The marked cases P1 to P13, as one table: a history from power-up, what is asked after it, and the results ("Marked cases").
+use mathlib.Core.List.{List, [], _∷_, _++_}
+use Prim.Native.Nat.{ℕ}
+use Rattle.control.specs.declared.Group.the-variants.{A}
+use Rattle.channel.specs.declared.Side.the-variants.{Input}
+use Rattle.chip.specs.State.{powerUp, tallyOf}
+use Rattle.ports.specs.Reads.{readOf}
+use Rattle.ports.specs.Pins.{pinsOf}
+use Rattle.step.specs.declared.Stepped.{Stepped}
+use Rattle.step.specs.Step.{accepted, stepOf}
+
+-- An event: a kind and two operands.
+pub record Event : Type 0 where
+  pub kind : ℕ
+  pub first : ℕ
+  pub second : ℕ
+
+abbrev pub event : ℕ → ℕ → ℕ → Event
+event k x d = record { kind = k; first = x; second = d }
+
+abbrev pub after : Stepped → List Event → Stepped
+after s [] = s
+after s (e ∷ es) = after (stepOf (s .chip) (e .kind) (e .first) (e .second)) es
+
+-- A whole write, outside levels, and the two ends of a read.
+abbrev pub write : ℕ → ℕ → List Event
+write a d = event 3 a d ∷ event 4 0 0 ∷ []
+
+abbrev pub levels : ℕ → ℕ → List Event
+levels p d = event 5 p d ∷ []
+
+abbrev pub beginRead : ℕ → List Event
+beginRead a = event 1 a 0 ∷ []
+
+abbrev pub endRead : List Event
+endRead = event 2 0 0 ∷ []
+
+-- A byte put on port A, and STB lowered and raised; port C is otherwise high.
+abbrev pub strobe : ℕ → List Event
+strobe d = levels 0 d ++ levels 2 0xef ++ levels 2 0xff
+
+-- What may be asked: the levels and the driven mask of a port, a read of port C, the byte of the last event, two tallies of A in.
+pub data Asked : Type 0 where
+  pins driven : ℕ → Asked
+  readC byte offered overwritten : Asked
+
+abbrev pub answer : Stepped → Asked → ℕ
+answer s (pins p) = pinsOf (s .chip) p .levels
+answer s (driven p) = pinsOf (s .chip) p .driven
+answer s readC = readOf (s .chip) 2
+answer s byte = s .byte
+answer s offered = tallyOf (s .chip) A Input .offered
+answer s overwritten = tallyOf (s .chip) A Input .overwritten
+
+pub record Case : Type 0 where
+  pub history : List Event
+  pub asked : List Asked
+  pub results : List ℕ
+
+abbrev pub answers : Stepped → List Asked → List ℕ
+answers s [] = []
+answers s (q ∷ later) = answer s q ∷ answers s later
+
+abbrev pub given : Case → List ℕ
+given c = answers (after (accepted powerUp 0) (c .history)) (c .asked)
+
+infixl 60 _asks_gives_
+abbrev pub _asks_gives_ : List Event → List Asked → List ℕ → Case
+h asks q gives r = record { history = h; asked = q; results = r }
+
+abbrev pub P2 : List Event
+P2 = write 3 0xb0
+
+abbrev pub P3 : List Event
+P3 = P2 ++ write 3 0x09 ++ levels 0 0x41 ++ levels 2 0xef
+
+abbrev pub P4 : List Event
+P4 = P3 ++ levels 2 0xff
+
+abbrev pub P5 : List Event
+P5 = P4 ++ beginRead 0
+
+abbrev pub P7 : List Event
+P7 = write 3 0xc0
+
+abbrev pub P8 : List Event
+P8 = P7 ++ write 3 0x0d
+
+abbrev pub P9 : List Event
+P9 = P8 ++ write 0 0x55
+
+abbrev pub P13 : List Event
+P13 = write 3 0xb0 ++ strobe 0x41 ++ strobe 0x42
+
+abbrev pub cases : List Case
+cases =
+    ([] asks (pins 0 ∷ pins 1 ∷ pins 2 ∷ driven 0 ∷ driven 1 ∷ driven 2 ∷ []) gives (0xff ∷ 0xff ∷ 0xff ∷ 0 ∷ 0 ∷ 0 ∷ []))
+    ∷ (P2 asks (pins 2 ∷ []) gives (0x10 ∷ []))
+    ∷ (P3 asks (pins 2 ∷ readC ∷ []) gives (0x20 ∷ 0x30 ∷ []))
+    ∷ (P4 asks (pins 2 ∷ readC ∷ []) gives (0x38 ∷ 0x38 ∷ []))
+    ∷ (P5 asks (byte ∷ pins 2 ∷ []) gives (0x41 ∷ 0x30 ∷ []))
+    ∷ ((P5 ++ endRead) asks (pins 2 ∷ []) gives (0x10 ∷ []))
+    ∷ (P7 asks (pins 2 ∷ readC ∷ []) gives (0xd0 ∷ 0x80 ∷ []))
+    ∷ (P8 asks (pins 2 ∷ readC ∷ []) gives (0xd8 ∷ 0xc8 ∷ []))
+    ∷ ((P8 ++ (event 3 0 0x55 ∷ [])) asks (pins 2 ∷ []) gives (0xd0 ∷ []))
+    ∷ (P9 asks (pins 2 ∷ []) gives (0x50 ∷ []))
+    ∷ ((P9 ++ levels 2 0xbf) asks (pins 0 ∷ driven 0 ∷ pins 2 ∷ []) gives (0x55 ∷ 0xff ∷ 0x90 ∷ []))
+    ∷ (write 3 0x9c asks (pins 2 ∷ readC ∷ []) gives (0xf6 ∷ 0xf2 ∷ []))
+    ∷ ((write 3 0xb0 ++ write 2 0xff) asks (pins 2 ∷ []) gives (0x17 ∷ []))
+    ∷ (P13 asks (offered ∷ overwritten ∷ []) gives (2 ∷ 1 ∷ []))
+    ∷ ((P13 ++ beginRead 0) asks (byte ∷ []) gives (0x42 ∷ []))
+    ∷ []

@@ -1,0 +1,38 @@
+-- The words in which the theorems speak: what is seen of the chip from outside, and the pins of each channel.
+use mathlib.Core.Bool.{Bool, false, _&&_}
+use Prim.Native.Nat.{ℕ}
+use lib.Dec.{eqb}
+use Rattle.bits.specs.Bit.{bitOf}
+use Rattle.control.specs.declared.Group.{Group}
+use Rattle.control.specs.declared.Group.the-variants.{A, B}
+use Rattle.channel.specs.declared.Side.{Side}
+use Rattle.channel.specs.declared.Side.the-variants.{Input, Output}
+use Rattle.chip.specs.declared.Phase.{Phase}
+use Rattle.chip.specs.declared.Phase.the-variants.{Idle, Reading, Writing}
+use Rattle.chip.specs.declared.Chip.{Chip}
+use Rattle.ports.specs.Reads.{readOf}
+use Rattle.ports.specs.Pins.{pinsOf}
+
+-- The level of pin n of port C in the pin view.
+abbrev pub pin : Chip → ℕ → Bool
+pin c n = bitOf (pinsOf c 2 .levels) n
+
+-- Bit n of a read of port C.
+abbrev pub told : Chip → ℕ → Bool
+told c n = bitOf (readOf c 2) n
+
+-- The pin of a group's INTR, and that of a channel's IBF or OBF ("Port C roles").
+abbrev pub intrPin : Group → ℕ
+intrPin A = 3
+intrPin B = 0
+
+abbrev pub flagPin : Group → Side → ℕ
+flagPin A Input = 5
+flagPin A Output = 7
+flagPin B s = 1
+
+-- A write of a mode word runs, which will make the chip anew at its end.
+abbrev pub makesAnew : Phase → Bool
+makesAnew Idle = false
+makesAnew (Reading p) = false
+makesAnew (Writing a d) = eqb a 3 && bitOf d 7

@@ -1,0 +1,1 @@
+// No code: what the definitions of the chip say, as theorems about every state (proofs/).

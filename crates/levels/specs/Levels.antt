@@ -1,0 +1,58 @@
+-- Outside levels, and what their falling edges do ("Handshake").
+use mathlib.Core.Bool.{Bool, cond, not, _&&_}
+use Prim.Native.Nat.{ℕ}
+use lib.Dec.{eqb}
+use Rattle.bits.specs.Bit.{bitOf}
+use Rattle.control.specs.declared.Group.{Group}
+use Rattle.control.specs.declared.Group.the-variants.{A, B}
+use Rattle.channel.specs.declared.Side.{Side}
+use Rattle.channel.specs.declared.Side.the-variants.{Input, Output}
+use Rattle.channel.specs.declared.Fill.the-variants.{Empty}
+use Rattle.channel.specs.declared.Channel.{Channel}
+use Rattle.channel.specs.Moves.{afterOffer, afterHandOver}
+use Rattle.chip.specs.declared.Port.{Port}
+use Rattle.chip.specs.declared.Core.{Core}
+use Rattle.chip.specs.State.{portOf, onPort}
+use Rattle.chip.specs.Handshakes.{strobed, lineOf}
+
+-- A fall takes two levels, a high one and then a low one; a line that stays low makes none.
+unfoldable pub fallen : ℕ → ℕ → ℕ → Bool
+fallen before after n = bitOf before n && not (bitOf after n)
+
+-- The fall of STB brings in what stands on the port's lines.
+abbrev pub strobedWith : Channel → Bool → ℕ → Channel
+strobedWith ch on levels = cond on (afterOffer ch levels) ch
+
+-- The fall of ACK takes the byte out and leaves room.
+abbrev pub acknowledged : Channel → Bool → Channel
+acknowledged ch on = cond on (afterHandOver ch Empty) ch
+
+-- Each edge has its channel to itself, so that two in one event do not meet.
+unfoldable pub edged : Port → Bool → Bool → Port
+edged p strobe acknowledge = record {
+  input = strobedWith (p .input) strobe (p .outside);
+  output = acknowledged (p .output) acknowledge;
+  outside = p .outside;
+}
+
+-- The channel's STB or ACK falls as the levels of port C become d; a channel that the mode word does not strobe takes no part.
+abbrev pub lineFalls : Core → ℕ → Group → Side → Bool
+lineFalls c d g s = strobed (c .word) g s && fallen (c .c .outside) d (lineOf g s)
+
+abbrev pub edgesOn : Core → ℕ → Group → Port
+edgesOn c d g = edged (portOf c g) (lineFalls c d g Input) (lineFalls c d g Output)
+
+unfoldable pub levelledLines : Core → ℕ → Core
+levelledLines c d = record {
+  word = c .word;
+  a = edgesOn c d A;
+  b = edgesOn c d B;
+  c = record { latch = c .c .latch; outside = d };
+  inte = c .inte;
+}
+
+-- New levels on a port; on port C they may be edges.
+unfoldable pub levelled : Core → ℕ → ℕ → Core
+levelled c x d =
+    cond (eqb x 2) (levelledLines c d)
+    (onPort c x (λ g p. record { input = p .input; output = p .output; outside = d }))

@@ -1,0 +1,56 @@
+-- One event: the new state, the number and the byte ("Events and numbers", "State").
+use mathlib.Core.Bool.{cond}
+use Prim.Native.Nat.{ℕ}
+use lib.Dec.{eqb}
+use Rattle.chip.specs.declared.Phase.{Phase}
+use Rattle.chip.specs.declared.Phase.the-variants.{Idle, Reading, Writing}
+use Rattle.chip.specs.declared.Core.{Core}
+use Rattle.chip.specs.declared.Chip.{Chip}
+use Rattle.settings.specs.Renewed.{renewed}
+use Rattle.cycles.specs.Read.{begunRead, endedRead}
+use Rattle.cycles.specs.Write.{written}
+use Rattle.levels.specs.Levels.{levelled}
+use Rattle.ports.specs.Reads.{readOf}
+use Rattle.step.specs.declared.Stepped.{Stepped}
+use Rattle.step.specs.Numbers.{numberOf}
+
+abbrev pub onBus : Phase → Core → Chip
+onBus ph c = record { phase = ph; core = c }
+
+-- Each end is that of its own cycle.
+abbrev pub afterEndRead : Core → Phase → Core
+afterEndRead c Idle = c
+afterEndRead c (Reading p) = endedRead c p
+afterEndRead c (Writing a d) = c
+
+abbrev pub afterEndWrite : Core → Phase → Core
+afterEndWrite c Idle = c
+afterEndWrite c (Reading p) = c
+afterEndWrite c (Writing a d) = written c a d
+
+-- The state after an accepted event of kind k with operands x and d: 00 reset, which drops a running cycle and sets mode word 9B;
+-- 01 begin read at address x; 02 end read; 03 begin write of d at address x; 04 end write; 05 outside levels on port x become d.
+abbrev pub afterOf : Chip → ℕ → ℕ → ℕ → Chip
+afterOf c k x d =
+    cond (eqb k 0) (onBus Idle (renewed (c .core) 0x9b))
+    (cond (eqb k 1) (onBus (Reading x) (begunRead (c .core) x))
+    (cond (eqb k 2) (onBus Idle (afterEndRead (c .core) (c .phase)))
+    (cond (eqb k 3) (onBus (Writing x d) (c .core))
+    (cond (eqb k 4) (onBus Idle (afterEndWrite (c .core) (c .phase)))
+    (onBus (c .phase) (levelled (c .core) x d))))))
+
+-- Only a read that begins has a byte to give.
+abbrev pub byteGiven : Chip → ℕ → ℕ → ℕ
+byteGiven c k x = cond (eqb k 1) (readOf c x) 0
+
+abbrev pub accepted : Chip → ℕ → Stepped
+accepted c b = record { chip = c; number = 0; byte = b }
+
+-- A refusal gives its number, and the state back as it was.
+abbrev pub refused : Chip → ℕ → Stepped
+refused c n = record { chip = c; number = n; byte = 0 }
+
+-- One event, of kind k with operands x and d.
+unfoldable pub stepOf : Chip → ℕ → ℕ → ℕ → Stepped
+stepOf c k x d =
+    cond (eqb (numberOf (c .phase) k x) 0) (accepted (afterOf c k x d) (byteGiven c k x)) (refused c (numberOf (c .phase) k x))
