@@ -12,3 +12,5 @@ pub mod OnePin
 pub mod OtherModels
 pub mod Marked
 pub mod Determined
+pub mod Operands
+pub mod Unreached
