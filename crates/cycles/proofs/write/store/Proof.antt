@@ -1,4 +1,7 @@
 -- `cycles::write::store` meets its contract, output or not.
+use mathlib.Core.Path.{_≡_, _∙_, sym}
+use mathlib.Core.Bool.{true, false}
+use Rattle.control.specs.Mode.{outputOf}
 use Rattle.cycles.specs.Write.{storedBy}
 use Rattle.cycles.proofs.write.store.Statement.{statement}
 use Rattle.cycles.proofs.write.store.Tie as tie
@@ -6,5 +9,9 @@ use Rattle.cycles.proofs.write.store.Tie as tie
 pub store-spec : {M : Type 1} → statement M
 unfolding storedBy
 store-spec = tie.close (tie.spec (λ c κs. tt) (λ c κs. tt) (λ c κs. tt)
-    (λ c. rw (← c .before .before .before .output .ensures, c .before .before .if1 .taken, c .stored .ensures, c .before .strobed-output .ensures))
-    (λ c. rw (← c .before .output .ensures, c .if1 .left)))
+    (λ c. let a = c .before .before .before .before .args in
+    let out : outputOf (a .word) (a .group) ≡ true = sym (c .before .before .before .output .ensures) ∙ c .before .before .if1 .taken in
+    rw (out, c .stored .ensures, c .before .strobed-output .ensures))
+    (λ c. let a = c .before .before .args in
+    let none : outputOf (a .word) (a .group) ≡ false = sym (c .before .output .ensures) ∙ c .if1 .left in
+    rw (none)))
