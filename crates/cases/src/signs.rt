@@ -11,7 +11,7 @@ use super::show;
 use super::states;
 use step::Stepped;
 
-// The sign that stands open after a byte, or a space.
+// The sign that stands open after a byte; a plain byte stands for itself, and opens none.
 fn open_after(sign: u8, code: u8) -> u8 {
     match sign {
         b'<' => if code == b'>' { b' ' } else { sign },

@@ -14,3 +14,4 @@ pub mod Marked
 pub mod Determined
 pub mod Operands
 pub mod Unreached
+pub mod Unstrobed

@@ -7,10 +7,8 @@ use lib.Dec.{eqb}
 use borrow.Author.Tests.{lt-ltb, eqb-true}
 use Rattle.bits.specs.Bit.{bitOf}
 use Rattle.control.specs.declared.Group.{Group}
-use Rattle.control.specs.declared.Group.the-variants.{A, B}
 use Rattle.control.specs.Mode.{strobedInput, strobedOutput, outputOf}
 use Rattle.control.proofs.Strobed.{giving-is-output}
-use Rattle.roles.specs.Role.{Role}
 use Rattle.channel.specs.declared.Side.the-variants.{Output}
 use Rattle.channel.specs.declared.Fill.{Fill}
 use Rattle.channel.specs.declared.Fill.the-variants.{Empty, Waiting, Fetching}
@@ -35,9 +33,9 @@ use Rattle.step.proofs.Outcome.{step-accepts, step-refuses, step-either}
 use Rattle.laws.specs.Seen.{pin, flagPin, makesAnew}
 use Rattle.laws.proofs.Refusals.{row-refuses}
 use Rattle.laws.proofs.ChannelPins.{flag-pin}
-use Rattle.laws.proofs.OnePin.{OnePin, bit-set-changes-one}
+use Rattle.laws.proofs.OnePin.{one-port, bit-set-changes-one}
 use Rattle.laws.proofs.OwnPort.{own-write}
-use Rattle.laws.proofs.PortsAfter.{fetching, finishing, storing, under, word-begun, word-ended, word-levelled, edges-of, flag, flag-under, line-falls, line-stays, levels-accepted, either-way, flag-on}
+use Rattle.laws.proofs.PortsAfter.{fetching, finishing, storing, under, word-begun, word-ended, word-levelled, edges-of, flag, flag-under, line-falls, line-stays, levels-accepted, either-way, flag-on, ports-under-latch}
 
 write-lowers : (c : Core) (a b : ℕ) (g : Group) → strobedOutput (c .word) g ≡ true → ownAddress a g ≡ true → flagAt (written c a b) g Output ≡ false
 unfolding storedBy flagOf
@@ -81,10 +79,6 @@ unfolding flagOf
 low-stored ch true d low = rw (offer-waits ch d)
 low-stored ch false d low = low
 
-ports-under-latch : (c : Core) (x : ℕ) (g : Group) → portOf (withLatch c x) g ≡ portOf c g
-ports-under-latch c x A = refl
-ports-under-latch c x B = refl
-
 low-written : (c : Core) (a b : ℕ) (g : Group) → eqb a 3 ≡ false → flagAt c g Output ≡ false → flagAt (written c a b) g Output ≡ false
 unfolding written storedBy
 low-written c a b g other low =
@@ -101,10 +95,6 @@ word-under c a b other = rw (other) (go (eqb a 2))
     go : (lines : Bool) → cond lines (withLatch c (latchWritten (c .word) (c .c .latch) b)) (onPort c a (storing c b)) .word ≡ c .word
     go true = refl
     go false = word-on c a (storing c b)
-
-one-port : {c : Core} {n : ℕ} {v : Bool} {r : Role} {c′ : Core} → OnePin c n v r c′ → (g : Group) → portOf c′ g ≡ portOf c g
-one-port one A = one .a
-one-port one B = one .b
 
 module _ (c : Chip) (hw : c .core .word < 256) (g : Group) (on : strobed (c .core .word) g Output ≡ true) where
   -- The end of the write lowers OBF.

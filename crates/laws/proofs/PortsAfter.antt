@@ -14,7 +14,7 @@ use Rattle.chip.specs.declared.Phase.{Phase}
 use Rattle.chip.specs.declared.Port.{Port}
 use Rattle.chip.specs.declared.Core.{Core}
 use Rattle.chip.specs.declared.Chip.{Chip}
-use Rattle.chip.specs.State.{sideOf, portOf, onPort}
+use Rattle.chip.specs.State.{sideOf, portOf, withLatch, onPort}
 use Rattle.chip.specs.Handshakes.{strobed, lineOf, ownAddress}
 use Rattle.chip.proofs.OnPort.{port-on, word-on}
 use Rattle.status.specs.Status.{flagAt}
@@ -58,6 +58,10 @@ pub edges-of : (c : Core) (d : ℕ) (g : Group) → portOf (levelledLines c d) g
 unfolding levelledLines
 edges-of c d A = refl
 edges-of c d B = refl
+
+pub ports-under-latch : (c : Core) (x : ℕ) (g : Group) → portOf (withLatch c x) g ≡ portOf c g
+ports-under-latch c x A = refl
+ports-under-latch c x B = refl
 
 -- The flag of one port's channel.
 abbrev pub flag : Side → Port → Bool

@@ -8,7 +8,7 @@ use control::Group;
 fn port(word: u8, group: Group, port: Port) -> u8
     ensures { λ r. ⌜ r ≡ readPort word group port ⌝ }
 {
-    let driving = bits::choose(
+    let unstrobed = bits::choose(
         control::mode::output(word, group),
         port.output.latch,
         port.outside,
@@ -16,7 +16,7 @@ fn port(word: u8, group: Group, port: Port) -> u8
     bits::choose(
         control::mode::strobed_input(word, group),
         port.input.latch,
-        driving,
+        unstrobed,
     )
 }
 
