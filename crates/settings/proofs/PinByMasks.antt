@@ -30,8 +30,9 @@ told : (c : Core) (v taking : Bool) → table (lineSet c v) 8 ≡ table (λ n. s
 told c v true = refl
 told c v false = refl
 
-pub line-by-role : (c : Core) (n : ℕ) (v taking : Bool) → n < 8 → lineSet c v n ≡ setAs c n v (handshakeRole taking n)
-line-by-role c n v taking h =
+pub line-by-role : (c : Core) (n : ℕ) (v : Bool) → n < 8 → lineSet c v n ≡ setAs c n v (handshakeRole (strobedInput (c .word) B) n)
+line-by-role c n v h =
+    let taking = strobedInput (c .word) B in
     sym (table-at (lineSet c v) c 8 n h) ∙ ap (λ (cs : List Core). getD cs n c) (told c v taking)
     ∙ table-at (λ n. setAs c n v (handshakeRole taking n)) c 8 n h
 
