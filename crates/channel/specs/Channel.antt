@@ -8,11 +8,13 @@ use Rattle.channel.specs.declared.Fill.{Fill}
 use Rattle.channel.specs.declared.Fill.the-variants.{Empty, Waiting, Fetching}
 use Rattle.channel.specs.declared.Tally.{Tally}
 
+-- A byte waits in the channel ("State").
 abbrev pub isWaiting : Fill → Bool
 isWaiting Empty = false
 isWaiting Waiting = true
 isWaiting Fetching = false
 
+-- There is none, and none is being fetched.
 abbrev pub isEmpty : Fill → Bool
 isEmpty Empty = true
 isEmpty Waiting = false
@@ -33,6 +35,7 @@ next false n = n
 pub data Counter : Type 0 where
   offered handed overwritten swallowed cleared : Counter
 
+-- Their places among the tallies.
 abbrev pub place : Counter → ℕ
 place offered = 0
 place handed = 1

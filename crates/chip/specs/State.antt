@@ -15,12 +15,15 @@ use Rattle.chip.specs.declared.Enables.{Enables}
 use Rattle.chip.specs.declared.Core.{Core}
 use Rattle.chip.specs.declared.Chip.{Chip}
 
+-- Nothing counted yet.
 abbrev pub noTally : Tally
 noTally = record { offered = 0; handed = 0; overwritten = 0; swallowed = 0; cleared = 0 }
 
+-- A channel that never had a byte.
 abbrev pub noByte : Channel
 noByte = record { fill = Empty; latch = 0; tally = noTally }
 
+-- No interrupt enabled.
 abbrev pub noEnables : Enables
 noEnables = record { input = false; output = false; b = false }
 
@@ -46,13 +49,16 @@ abbrev pub portOf : Core → Group → Port
 portOf c A = c .a
 portOf c B = c .b
 
+-- The channel of a port on one side.
 abbrev pub sideOf : Port → Side → Channel
 sideOf p Input = p .input
 sideOf p Output = p .output
 
+-- One of the four channels.
 abbrev pub channelOf : Core → Group → Side → Channel
 channelOf c g s = sideOf (portOf c g) s
 
+-- Its five tallies.
 abbrev pub tallyOf : Chip → Group → Side → Tally
 tallyOf c g s = channelOf (c .core) g s .tally
 

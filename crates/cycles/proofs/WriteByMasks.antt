@@ -16,16 +16,19 @@ use Rattle.roles.proofs.PinByMasks.{bit-of-outputs}
 use Rattle.cycles.specs.Write.{writable, latchWritten}
 
 -- All eight bits, or the lower four.
-half : (all : Bool) (n : ℕ) → n < 8 → bitOf (cond all 0xff 0x0f) n ≡ (ltb n 4 || all)
+abbrev reached : Bool → ℕ
+reached all = cond all 0xff 0x0f
+
+bit-of-reached : (all : Bool) (n : ℕ) → n < 8 → bitOf (reached all) n ≡ (ltb n 4 || all)
 unfolding bitOf
-half true = bits 8 (λ n. bitOf 0xff n) (λ n. ltb n 4 || true) tt
-half false = bits 8 (λ n. bitOf 0x0f n) (λ n. ltb n 4 || false) tt
+bit-of-reached true = bits 8 (λ n. bitOf (reached true) n) (λ n. ltb n 4 || true) tt
+bit-of-reached false = bits 8 (λ n. bitOf (reached false) n) (λ n. ltb n 4 || false) tt
 
 pub latch-by-masks : (w x d : ℕ)
-    → blendOf (bitAnd (outputPins w) (cond (eqb (modeOf w A) 0) 0xff 0x0f)) d x ≡ latchWritten w x d
+    → blendOf (bitAnd (outputPins w) (reached (eqb (modeOf w A) 0))) d x ≡ latchWritten w x d
 unfolding latchWritten
 latch-by-masks w x d =
-    let mask = bitAnd (outputPins w) (cond (eqb (modeOf w A) 0) 0xff 0x0f) in
+    let mask = bitAnd (outputPins w) (reached (eqb (modeOf w A) 0)) in
     blend-assembled mask d x
     ∙ assembled-same (λ n. cond (bitOf mask n) (bitOf d n) (bitOf x n)) (λ n. cond (writable w n) (bitOf d n) (bitOf x n))
-    (λ n hn. rw (bit-and (outputPins w) (cond (eqb (modeOf w A) 0) 0xff 0x0f) n, bit-of-outputs w n hn, half (eqb (modeOf w A) 0) n hn))
+    (λ n hn. rw (bit-and (outputPins w) (reached (eqb (modeOf w A) 0)) n, bit-of-outputs w n hn, bit-of-reached (eqb (modeOf w A) 0) n hn))

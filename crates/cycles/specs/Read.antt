@@ -16,8 +16,10 @@ fetchedFrom p strobed = cond strobed (withInput p (afterHandOver (p .input) Fetc
 abbrev pub doneWith : Port → Bool → Port
 doneWith p strobed = cond strobed (withInput p (afterEndRead (p .input))) p
 
+-- A read begins at the address x: ports A and B may have a byte to give ("Events and numbers").
 unfoldable pub begunRead : Core → ℕ → Core
 begunRead c x = onPort c x (λ g p. fetchedFrom p (strobedInput (c .word) g))
 
+-- It ends there.
 unfoldable pub endedRead : Core → ℕ → Core
 endedRead c x = onPort c x (λ g p. doneWith p (strobedInput (c .word) g))

@@ -28,6 +28,7 @@ storedBy p w g d = cond (outputOf w g) (withOutput p (storedIn (p .output) (stro
 abbrev pub writable : ℕ → ℕ → Bool
 writable w n = isOutput (roleOf w n) && (ltb n 4 || eqb (modeOf w A) 0)
 
+-- Port C's latch x after a write of d, bit by bit.
 unfoldable pub latchWritten : ℕ → ℕ → ℕ → ℕ
 latchWritten w x d = assembled (λ n. cond (writable w n) (bitOf d n) (bitOf x n))
 

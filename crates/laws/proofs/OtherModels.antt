@@ -19,7 +19,7 @@ use Rattle.chip.specs.declared.Phase.the-variants.{Idle, Reading, Writing}
 use Rattle.chip.specs.declared.Core.{Core}
 use Rattle.chip.specs.declared.Chip.{Chip}
 use Rattle.chip.specs.State.{withLatch}
-use Rattle.chip.specs.Handshakes.{groupAt, strobed, lineOf, enableOf, ownAddress}
+use Rattle.chip.specs.Handshakes.{groupAt, strobed, lineOf, enableOf, ownAddress, running}
 use Rattle.chip.proofs.OnPort.{port-on, word-on, lines-on, enables-on}
 use Rattle.cycles.specs.Read.{begunRead}
 use Rattle.cycles.specs.Write.{writable, latchWritten, written}
@@ -92,27 +92,16 @@ begins-idle Idle x ok = refl
 begins-idle (Reading p) x ok = absurd (row-refuses (Reading p) 1 x 3 refl ok)
 begins-idle (Writing a b) x ok = absurd (row-refuses (Writing a b) 1 x 3 refl ok)
 
+runs-elsewhere : (x : ℕ) (g : Group) (s : Side) → ownAddress x g ≡ false → running (Reading x) g s ≡ running Idle g s
+runs-elsewhere x g Input other = other
+runs-elsewhere x g Output other = refl
+
 same-request : (c : Chip) (x : ℕ) (g : Group) (s : Side) → c .phase ≡ Idle → ownAddress x g ≡ false
     → requestOf (onBus (Reading x) (begunRead (c .core) x)) g s ≡ requestOf c g s
 unfolding requestOf begunRead
-same-request c x g Input idle other =
-    rw (
-      word-on (c .core) x (fetching (c .core)),
-      enables-on (c .core) x (fetching (c .core)),
-      lines-on (c .core) x (fetching (c .core)),
-      port-on (c .core) x (fetching (c .core)) g,
-      other,
-      idle,
-    )
-same-request c x g Output idle other =
-    rw (
-      word-on (c .core) x (fetching (c .core)),
-      enables-on (c .core) x (fetching (c .core)),
-      lines-on (c .core) x (fetching (c .core)),
-      port-on (c .core) x (fetching (c .core)) g,
-      other,
-      idle,
-    )
+same-request c x g s idle other =
+    let f = fetching (c .core) in
+    rw (word-on (c .core) x f, enables-on (c .core) x f, lines-on (c .core) x f, port-on (c .core) x f g, other, idle, runs-elsewhere x g s other)
 
 pub read-elsewhere-keeps-intr : (c : Chip) (g : Group) (x d : ℕ) → ownAddress x g ≡ false → intrOf (stepOf c 1 x d .chip) g ≡ intrOf c g
 unfolding intrOf

@@ -14,6 +14,7 @@ use Rattle.channel.specs.declared.Fill.{Fill}
 use Rattle.channel.specs.declared.Fill.the-variants.{Empty, Waiting, Fetching}
 use Rattle.channel.specs.declared.Channel.{Channel}
 use Rattle.channel.specs.Channel.{flagOf}
+use Rattle.channel.specs.Moves.{afterHandOver, afterEndRead}
 use Rattle.channel.proofs.Left.{leaves, offer-waits, hand-over-leaves}
 use Rattle.chip.specs.declared.Phase.{Phase}
 use Rattle.chip.specs.declared.Phase.the-variants.{Idle, Reading, Writing}
@@ -35,7 +36,7 @@ use Rattle.laws.proofs.Refusals.{row-refuses}
 use Rattle.laws.proofs.ChannelPins.{flag-pin}
 use Rattle.laws.proofs.OnePin.{one-port, bit-set-changes-one}
 use Rattle.laws.proofs.OwnPort.{own-write}
-use Rattle.laws.proofs.PortsAfter.{fetching, finishing, storing, under, word-begun, word-ended, word-levelled, edges-of, flag, flag-under, line-falls, line-stays, levels-accepted, either-way, flag-on, ports-under-latch}
+use Rattle.laws.proofs.PortsAfter.{readBy, storing, under, word-begun, word-ended, word-levelled, edges-of, flag, flag-under, line-falls, line-stays, levels-accepted, either-way, flag-on, ports-under-latch}
 
 write-lowers : (c : Core) (a b : ℕ) (g : Group) → strobedOutput (c .word) g ≡ true → ownAddress a g ≡ true → flagAt (written c a b) g Output ≡ false
 unfolding storedBy flagOf
@@ -55,15 +56,17 @@ ack-raises c d g fell = rw (edges-of c d g, fell, hand-over-leaves (portOf c g .
     go Fetching = refl
 
 -- Reads, and levels that make no fall of ACK, leave an output's flag low; so does a write, as long as it is no mode word.
+low-read : (move : Channel → Channel) (c : Core) (x : ℕ) (g : Group) → flagAt c g Output ≡ false → flagAt (onPort c x (readBy move c)) g Output ≡ false
+low-read move c x g low =
+    flag-on Output false c x (readBy move c) g (either-way (flag Output) false (strobedInput (c .word) g) _ (portOf c g) low low) low
+
 low-begun : (c : Core) (x : ℕ) (g : Group) → flagAt c g Output ≡ false → flagAt (begunRead c x) g Output ≡ false
 unfolding begunRead
-low-begun c x g low =
-    flag-on Output false c x (fetching c) g (either-way (flag Output) false (strobedInput (c .word) g) _ (portOf c g) low low) low
+low-begun = low-read (λ ch. afterHandOver ch Fetching)
 
 low-ended : (c : Core) (x : ℕ) (g : Group) → flagAt c g Output ≡ false → flagAt (endedRead c x) g Output ≡ false
 unfolding endedRead
-low-ended c x g low =
-    flag-on Output false c x (finishing c) g (either-way (flag Output) false (strobedInput (c .word) g) _ (portOf c g) low low) low
+low-ended = low-read afterEndRead
 
 low-levelled : (c : Core) (x d : ℕ) (g : Group) → (x ≡ 2 → lineFalls c d g Output ≡ false)
     → flagAt c g Output ≡ false → flagAt (levelled c x d) g Output ≡ false

@@ -9,28 +9,34 @@ use Rattle.control.specs.declared.Group.{Group}
 use Rattle.control.specs.declared.Group.the-variants.{A, B}
 use Rattle.control.specs.Mode.{strobedInput}
 use Rattle.channel.specs.declared.Side.{Side}
+use Rattle.channel.specs.declared.Fill.the-variants.{Fetching}
+use Rattle.channel.specs.declared.Channel.{Channel}
 use Rattle.channel.specs.Channel.{flagOf}
+use Rattle.channel.specs.Moves.{afterHandOver, afterEndRead}
 use Rattle.chip.specs.declared.Phase.{Phase}
 use Rattle.chip.specs.declared.Port.{Port}
 use Rattle.chip.specs.declared.Core.{Core}
 use Rattle.chip.specs.declared.Chip.{Chip}
-use Rattle.chip.specs.State.{sideOf, portOf, withLatch, onPort}
+use Rattle.chip.specs.State.{sideOf, portOf, withInput, withLatch, onPort}
 use Rattle.chip.specs.Handshakes.{strobed, lineOf, ownAddress}
 use Rattle.chip.proofs.OnPort.{port-on, word-on}
 use Rattle.status.specs.Status.{flagAt}
-use Rattle.cycles.specs.Read.{fetchedFrom, doneWith, begunRead, endedRead}
+use Rattle.cycles.specs.Read.{begunRead, endedRead}
 use Rattle.cycles.specs.Write.{storedBy}
 use Rattle.levels.specs.Levels.{fallen, lineFalls, edgesOn, levelledLines, levelled}
 use Rattle.step.specs.Numbers.{numberOf}
 use Rattle.laws.specs.Seen.{pin, flagPin}
 use Rattle.laws.proofs.ChannelPins.{flag-pin, line-pin}
 
--- The rules that a read, a write and outside levels apply to a port.
+-- The rules that a read, a write and outside levels apply to a port. A read begins and ends alike, by a move of a strobed input.
+abbrev pub readBy : (Channel → Channel) → Core → Group → Port → Port
+readBy move c g p = cond (strobedInput (c .word) g) (withInput p (move (p .input))) p
+
 abbrev pub fetching : Core → Group → Port → Port
-fetching c g p = fetchedFrom p (strobedInput (c .word) g)
+fetching = readBy (λ ch. afterHandOver ch Fetching)
 
 abbrev pub finishing : Core → Group → Port → Port
-finishing c g p = doneWith p (strobedInput (c .word) g)
+finishing = readBy afterEndRead
 
 abbrev pub storing : Core → ℕ → Group → Port → Port
 storing c d g p = storedBy p (c .word) g d

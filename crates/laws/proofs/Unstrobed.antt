@@ -10,7 +10,9 @@ use Rattle.control.specs.declared.Group.{Group}
 use Rattle.control.specs.Mode.{strobedInput, outputOf}
 use Rattle.channel.specs.declared.Side.{Side}
 use Rattle.channel.specs.declared.Side.the-variants.{Input, Output}
+use Rattle.channel.specs.declared.Fill.the-variants.{Fetching}
 use Rattle.channel.specs.declared.Channel.{Channel}
+use Rattle.channel.specs.Moves.{afterHandOver, afterEndRead}
 use Rattle.chip.specs.declared.Phase.{Phase}
 use Rattle.chip.specs.declared.Phase.the-variants.{Idle, Reading, Writing}
 use Rattle.chip.specs.declared.Port.{Port}
@@ -29,7 +31,7 @@ use Rattle.step.proofs.Outcome.{step-refuses, step-either}
 use Rattle.laws.specs.Seen.{makesAnew}
 use Rattle.laws.proofs.Refusals.{row-refuses}
 use Rattle.laws.proofs.OnePin.{one-port, bit-set-changes-one}
-use Rattle.laws.proofs.PortsAfter.{fetching, finishing, storing, under, edges-of, ports-under-latch}
+use Rattle.laws.proofs.PortsAfter.{readBy, fetching, finishing, storing, under, edges-of, ports-under-latch}
 
 -- Condition and tallies as they were; the latch may change, as a mode 0 write changes it.
 pub record Kept (before after : Channel) : Type 0 where
@@ -55,13 +57,9 @@ module _ (c : Core) (g : Group) where
   kept-if s true p kept = kept
   kept-if s false p kept = as-it-was (sideOf port s)
 
-  kept-fetching : (s : Side) → strobed (c .word) g s ≡ false → Kept (sideOf port s) (sideOf (fetching c g port) s)
-  kept-fetching Input off = rw (off) (as-it-was (port .input))
-  kept-fetching Output off = kept-if Output (strobedInput (c .word) g) _ (as-it-was (port .output))
-
-  kept-finishing : (s : Side) → strobed (c .word) g s ≡ false → Kept (sideOf port s) (sideOf (finishing c g port) s)
-  kept-finishing Input off = rw (off) (as-it-was (port .input))
-  kept-finishing Output off = kept-if Output (strobedInput (c .word) g) _ (as-it-was (port .output))
+  kept-reading : (move : Channel → Channel) (s : Side) → strobed (c .word) g s ≡ false → Kept (sideOf port s) (sideOf (readBy move c g port) s)
+  kept-reading move Input off = rw (off) (as-it-was (port .input))
+  kept-reading move Output off = kept-if Output (strobedInput (c .word) g) _ (as-it-was (port .output))
 
   kept-storing : (s : Side) (d : ℕ) → strobed (c .word) g s ≡ false → Kept (sideOf port s) (sideOf (storing c d g port) s)
   unfolding storedBy
@@ -76,11 +74,11 @@ module _ (c : Core) (g : Group) where
   module _ (s : Side) (off : strobed (c .word) g s ≡ false) where
     kept-begun : (x : ℕ) → Kept (channelOf c g s) (channelOf (begunRead c x) g s)
     unfolding begunRead
-    kept-begun x = kept-on s x (fetching c) (kept-fetching s off)
+    kept-begun x = kept-on s x (fetching c) (kept-reading (λ ch. afterHandOver ch Fetching) s off)
 
     kept-ended : (x : ℕ) → Kept (channelOf c g s) (channelOf (endedRead c x) g s)
     unfolding endedRead
-    kept-ended x = kept-on s x (finishing c) (kept-finishing s off)
+    kept-ended x = kept-on s x (finishing c) (kept-reading afterEndRead s off)
 
     kept-levelled : (x d : ℕ) → Kept (channelOf c g s) (channelOf (levelled c x d) g s)
     unfolding levelled

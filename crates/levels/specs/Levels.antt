@@ -39,9 +39,11 @@ edged p strobe acknowledge = record {
 abbrev pub lineFalls : Core → ℕ → Group → Side → Bool
 lineFalls c d g s = strobed (c .word) g s && fallen (c .c .outside) d (lineOf g s)
 
+-- A group's port after the edges on its own lines.
 abbrev pub edgesOn : Core → ℕ → Group → Port
 edgesOn c d g = edged (portOf c g) (lineFalls c d g Input) (lineFalls c d g Output)
 
+-- New levels on port C: the edges of both groups act, and the levels stand for the next event.
 unfoldable pub levelledLines : Core → ℕ → Core
 levelledLines c d = record {
   word = c .word;

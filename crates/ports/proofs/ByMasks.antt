@@ -52,10 +52,13 @@ driven-sorted false true taking n = refl
 driven-sorted false false taking n = refl
 
 -- Of the handshakes' pins all but 2, 4 and 6 are driven.
-driven-in-handshake : (taking : Bool) (n : ℕ) → n < 8 → isDriven (handshakeRole taking n) ≡ bitOf 0xab n
+abbrev pub drivenPins : ℕ
+drivenPins = 0xab
+
+driven-in-handshake : (taking : Bool) (n : ℕ) → n < 8 → isDriven (handshakeRole taking n) ≡ bitOf drivenPins n
 unfolding bitOf
-driven-in-handshake true = bits 8 (λ n. isDriven (handshakeRole true n)) (λ n. bitOf 0xab n) tt
-driven-in-handshake false = bits 8 (λ n. isDriven (handshakeRole false n)) (λ n. bitOf 0xab n) tt
+driven-in-handshake true = bits 8 (λ n. isDriven (handshakeRole true n)) (λ n. bitOf drivenPins n) tt
+driven-in-handshake false = bits 8 (λ n. isDriven (handshakeRole false n)) (λ n. bitOf drivenPins n) tt
 
 module _ (c : Chip) (hw : c .core .word < 256) where
   abbrev used : ℕ → Bool
@@ -79,7 +82,7 @@ module _ (c : Chip) (hw : c .core .word < 256) where
       ap (readAs c n) (role-by-masks (c .core .word) n hw hn) ∙ read-sorted c n (used n) (out n) taking
       ∙ ap (λ (s : Bool). cond (used n) s (cond (out n) (latched n) (outside n))) (sym (bit-of-status c n hn))
 
-  drives-at : (n : ℕ) → n < 8 → isDriven (roleOf (c .core .word) n) ≡ cond (used n) (bitOf 0xab n) (out n)
+  drives-at : (n : ℕ) → n < 8 → isDriven (roleOf (c .core .word) n) ≡ cond (used n) (bitOf drivenPins n) (out n)
   drives-at n hn =
       ap isDriven (role-by-masks (c .core .word) n hw hn) ∙ driven-sorted (used n) (out n) taking n
       ∙ ap (λ (d : Bool). cond (used n) d (out n)) (driven-in-handshake taking n hn)
@@ -101,31 +104,31 @@ module _ (c : Chip) (hw : c .core .word < 256) where
       (λ n. readAs c n (roleOf (c .core .word) n))
       (λ n hn. rw (bit-of-blend (outputPins (c .core .word)) (c .core .c .latch) (c .core .c .outside) n hn) (sym (reads-at n hn)))
 
-  driven-by-masks : blendOf (handshakePins (c .core .word)) 0xab (outputPins (c .core .word)) ≡ pinsOfLines c .driven
+  driven-by-masks : blendOf (handshakePins (c .core .word)) drivenPins (outputPins (c .core .word)) ≡ pinsOfLines c .driven
   unfolding pinsOfLines
   driven-by-masks =
-      blend-assembled (handshakePins (c .core .word)) 0xab (outputPins (c .core .word))
-      ∙ assembled-same (λ n. cond (used n) (bitOf 0xab n) (out n)) (λ n. isDriven (roleOf (c .core .word) n)) (λ n hn. sym (drives-at n hn))
+      blend-assembled (handshakePins (c .core .word)) drivenPins (outputPins (c .core .word))
+      ∙ assembled-same (λ n. cond (used n) (bitOf drivenPins n) (out n)) (λ n. isDriven (roleOf (c .core .word) n)) (λ n hn. sym (drives-at n hn))
 
-  levels-by-masks : blendOf (blendOf (handshakePins (c .core .word)) 0xab (outputPins (c .core .word)))
+  levels-by-masks : blendOf (blendOf (handshakePins (c .core .word)) drivenPins (outputPins (c .core .word)))
       (blendOf (handshakePins (c .core .word)) (statusOf c) (c .core .c .latch)) (c .core .c .outside) ≡ pinsOfLines c .levels
   unfolding pinsOfLines
   levels-by-masks =
-      let driven = blendOf (handshakePins (c .core .word)) 0xab (outputPins (c .core .word)) in
+      let driven = blendOf (handshakePins (c .core .word)) drivenPins (outputPins (c .core .word)) in
       let inside = blendOf (handshakePins (c .core .word)) (statusOf c) (c .core .c .latch) in
       blend-assembled driven inside (c .core .c .outside)
       ∙ assembled-same (λ n. cond (bitOf driven n) (bitOf inside n) (outside n)) (λ n. levelAs c n (roleOf (c .core .word) n))
       (λ n hn. rw (
-        bit-of-blend (handshakePins (c .core .word)) 0xab (outputPins (c .core .word)) n hn,
+        bit-of-blend (handshakePins (c .core .word)) drivenPins (outputPins (c .core .word)) n hn,
         bit-of-blend (handshakePins (c .core .word)) (statusOf c) (c .core .c .latch) n hn,
         drives-at n hn,
         reads-at n hn,
       )
-      (shown (used n) (bitOf 0xab n) (out n) (bitOf (statusOf c) n) (latched n) (outside n)))
+      (shown (used n) (bitOf drivenPins n) (out n) (bitOf (statusOf c) n) (latched n) (outside n)))
 
   pub pins-by-masks : record {
-    levels = blendOf (blendOf (handshakePins (c .core .word)) 0xab (outputPins (c .core .word)))
+    levels = blendOf (blendOf (handshakePins (c .core .word)) drivenPins (outputPins (c .core .word)))
         (blendOf (handshakePins (c .core .word)) (statusOf c) (c .core .c .latch)) (c .core .c .outside);
-    driven = blendOf (handshakePins (c .core .word)) 0xab (outputPins (c .core .word));
+    driven = blendOf (handshakePins (c .core .word)) drivenPins (outputPins (c .core .word));
   } ≡ pinsOfLines c
   pins-by-masks = ap₂ (λ (l d : ℕ). record { levels = l; driven = d }) levels-by-masks driven-by-masks

@@ -38,6 +38,7 @@ isDriven ACK = false
 abbrev pub levelAs : Chip → ℕ → Role → Bool
 levelAs c n r = cond (isDriven r) (readAs c n r) (bitOf (c .core .c .outside) n)
 
+-- Port C as the outside sees it, each pin in its role.
 unfoldable pub pinsOfLines : Chip → Pins
 pinsOfLines c = record {
   levels = assembled (λ n. levelAs c n (roleOf (c .core .word) n));

@@ -33,6 +33,7 @@ setAs c n v OBF = c
 setAs c n v STB = withEnables c (enabled (c .inte) (groupAt n) Input v)
 setAs c n v ACK = withEnables c (enabled (c .inte) (groupAt n) Output v)
 
+-- Pin n put to v, in the role that the mode word gives it.
 unfoldable pub pinSet : Core → ℕ → Bool → Core
 pinSet c n v = setAs c n v (roleOf (c .word) n)
 
@@ -41,5 +42,6 @@ abbrev pub obeyed : Core → Control → Core
 obeyed c (Mode w) = renewed c w
 obeyed c (Bit n v) = pinSet c n v
 
+-- The byte d as the control address takes it.
 unfoldable pub commanded : Core → ℕ → Core
 commanded c d = obeyed c (controlOf d)

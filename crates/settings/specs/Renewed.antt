@@ -5,6 +5,7 @@ use Rattle.chip.specs.declared.Port.{Port}
 use Rattle.chip.specs.declared.Core.{Core}
 use Rattle.chip.specs.State.{noEnables}
 
+-- Both channels of a port wiped; its levels are the outside's.
 unfoldable pub clearedPort : Port → Port
 clearedPort p = record { input = afterClear (p .input); output = afterClear (p .output); outside = p .outside }
 

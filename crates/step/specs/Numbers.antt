@@ -6,11 +6,13 @@ use lib.Dec.{eqb, ltb}
 use Rattle.chip.specs.declared.Phase.{Phase}
 use Rattle.chip.specs.declared.Phase.the-variants.{Idle, Reading, Writing}
 
+-- A read runs, of whatever port.
 abbrev pub isReading : Phase → Bool
 isReading Idle = false
 isReading (Reading p) = true
 isReading (Writing a d) = false
 
+-- A write runs, to whatever address.
 abbrev pub isWriting : Phase → Bool
 isWriting Idle = false
 isWriting (Reading p) = false
@@ -55,5 +57,6 @@ abbrev pub firstOf : ℕ → List Bool → ℕ
 firstOf n [] = 0
 firstOf n (applies ∷ later) = cond applies n (firstOf (suc n) later)
 
+-- The table's number of an event: its rows are counted from 1.
 unfoldable pub numberOf : Phase → ℕ → ℕ → ℕ
 numberOf ph k x = firstOf 1 (rows ph k x)

@@ -14,15 +14,17 @@ use Rattle.ports.specs.Reads.{readOf}
 use Rattle.step.specs.declared.Stepped.{Stepped}
 use Rattle.step.specs.Numbers.{numberOf}
 
+-- A chip is a phase of the bus and the rest.
 abbrev pub onBus : Phase → Core → Chip
 onBus ph c = record { phase = ph; core = c }
 
--- Each end is that of its own cycle.
+-- The end of a read ends the read that runs.
 abbrev pub afterEndRead : Core → Phase → Core
 afterEndRead c Idle = c
 afterEndRead c (Reading p) = endedRead c p
 afterEndRead c (Writing a d) = c
 
+-- The end of a write, when its byte takes effect.
 abbrev pub afterEndWrite : Core → Phase → Core
 afterEndWrite c Idle = c
 afterEndWrite c (Reading p) = c
@@ -43,6 +45,7 @@ afterOf c k x d =
 abbrev pub byteGiven : Chip → ℕ → ℕ → ℕ
 byteGiven c k x = cond (eqb k 1) (readOf c x) 0
 
+-- An accepted event has the number 0.
 abbrev pub accepted : Chip → ℕ → Stepped
 accepted c b = record { chip = c; number = 0; byte = b }
 
