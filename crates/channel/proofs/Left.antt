@@ -1,10 +1,11 @@
--- What each move leaves of a channel's condition and latch, for those who stand above ("Handshake").
+-- What each move leaves of a channel's condition, latch and tallies, for those who stand above ("Handshake").
 -- Rests on nothing.
 use mathlib.Core.Path.{_≡_, refl}
 use Prim.Native.Nat.{ℕ}
 use Rattle.channel.specs.declared.Fill.{Fill}
 use Rattle.channel.specs.declared.Fill.the-variants.{Empty, Waiting, Fetching}
 use Rattle.channel.specs.declared.Channel.{Channel}
+use Rattle.channel.specs.Channel.{isWaiting, counted, handed}
 use Rattle.channel.specs.Moves.{afterOffer, afterHandOver, afterEndRead, afterClear}
 
 pub offer-waits : (ch : Channel) (b : ℕ) → afterOffer ch b .fill ≡ Waiting
@@ -22,6 +23,15 @@ unfolding afterHandOver
 hand-over-leaves ch left = go (ch .fill) refl
   where
     go : (f : Fill) → ch .fill ≡ f → afterHandOver ch left .fill ≡ leaves (ch .fill) left
+    go Empty e = rw (e)
+    go Waiting e = rw (e)
+    go Fetching e = rw (e)
+
+pub hand-over-counts : (ch : Channel) (left : Fill) → afterHandOver ch left .tally ≡ counted handed (isWaiting (ch .fill)) (ch .tally)
+unfolding afterHandOver
+hand-over-counts ch left = go (ch .fill) refl
+  where
+    go : (f : Fill) → ch .fill ≡ f → afterHandOver ch left .tally ≡ counted handed (isWaiting (ch .fill)) (ch .tally)
     go Empty e = rw (e)
     go Waiting e = rw (e)
     go Fetching e = rw (e)

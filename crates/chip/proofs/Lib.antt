@@ -1,1 +1,2 @@
 pub mod OnPort
+pub mod StrobedWords

@@ -1,5 +1,5 @@
 -- Bit 7 of a mode word counts as set: modes and directions are those of the word with bit 7 set ("Events and numbers").
--- Rests on bits' Tested and BitLaws.
+-- Rests on SameWords, and on bits' Tested and BitLaws.
 use mathlib.Core.Path.{_≡_}
 use mathlib.Core.Bool.{true}
 use Prim.Native.Nat.{ℕ, _<_}
@@ -10,13 +10,7 @@ use Rattle.bits.proofs.BitLaws.{bit-of-with}
 use Rattle.control.specs.declared.Group.{Group}
 use Rattle.control.specs.declared.Group.the-variants.{A, B}
 use Rattle.control.specs.Mode.{modeOf, inputOf, upperInput, lowerInput}
-
--- The two words say the same of each group and of each half of port C.
-pub record SayTheSame (v w : ℕ) : Type 0 where
-  pub mode : (g : Group) → modeOf v g ≡ modeOf w g
-  pub input : (g : Group) → inputOf v g ≡ inputOf w g
-  pub upper : upperInput v ≡ upperInput w
-  pub lower : lowerInput v ≡ lowerInput w
+use Rattle.control.proofs.SameWords.{SayTheSame}
 
 abbrev set : ℕ → ℕ
 set w = withBit w 7 true

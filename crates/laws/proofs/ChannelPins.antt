@@ -1,8 +1,9 @@
 -- What the pins of a strobed channel show: its flag, its line, its group's INTR ("Port C roles", "Reads and pins").
--- Rests on bits' Tested and BitLaws, and on roles' PinByMasks.
-use mathlib.Core.Path.{_≡_, _∙_, ap, subst}
+-- Rests on bits' Tested and BitLaws, on roles' SameWords and PinByMasks, and on chip's StrobedWords.
+use mathlib.Core.Path.{_≡_, _∙_, ap, sym, subst}
 use mathlib.Core.Bool.{Bool, true, not, _||_}
-use Prim.Native.Nat.{ℕ, _<_}
+use Prim.Native.Nat.{ℕ, _%_, _<_}
+use native.Mathlib.Omega.{arith}
 use lib.Dec.{T, eqb, eqb→eq, lit<}
 use Rattle.bits.specs.Bit.{bitOf}
 use Rattle.bits.proofs.Tested.{all, each}
@@ -11,24 +12,28 @@ use Rattle.control.specs.declared.Group.{Group}
 use Rattle.control.specs.declared.Group.the-variants.{A, B}
 use Rattle.control.specs.Mode.{modeOf, inputOf, upperInput, lowerInput, strobedInput, strobedOutput}
 use Rattle.roles.specs.Role.{Role, INTR, IBF, OBF, STB, ACK, number, usesOf, freeRole, roleOf}
+use Rattle.roles.proofs.SameWords.{role-as-byte}
 use Rattle.roles.proofs.PinByMasks.{number-one}
 use Rattle.channel.specs.declared.Side.{Side}
 use Rattle.channel.specs.declared.Side.the-variants.{Input, Output}
 use Rattle.chip.specs.declared.Chip.{Chip}
 use Rattle.chip.specs.Handshakes.{strobed, lineOf, enableOf}
+use Rattle.chip.proofs.StrobedWords.{strobed-as-byte}
 use Rattle.status.specs.Status.{flagAt, intrOf}
 use Rattle.ports.specs.Reads.{readAs, readLines, readOf}
 use Rattle.ports.specs.Pins.{levelAs, pinsOfLines, pinsOf}
 use Rattle.laws.specs.Seen.{pin, told, intrPin, flagPin}
 
--- A role that a pin has under every mode word for which a test holds.
-role-where : (on : ℕ → Bool) (n : ℕ) (r : Role) → T (all 256 (λ w. not (on w) || eqb (number (roleOf w n)) (number r)))
-    → (w : ℕ) → w < 256 → on w ≡ true → roleOf w n ≡ r
-role-where on n r t w hw e =
-    number-one (roleOf w n) r
-    (eqb→eq (number (roleOf w n)) (number r)
-    (subst (λ (b : Bool). T (not b || eqb (number (roleOf w n)) (number r))) e
-    (each 256 (λ w. not (on w) || eqb (number (roleOf w n)) (number r)) t w hw)))
+-- A role that a pin has under every mode word that strobes a channel, found by trying every byte.
+role-where : (g : Group) (s : Side) (n : ℕ) (r : Role) → T (all 256 (λ w. not (strobed w g s) || eqb (number (roleOf w n)) (number r)))
+    → (w : ℕ) → strobed w g s ≡ true → roleOf w n ≡ r
+role-where g s n r t w on =
+    let b = w % 256 in
+    sym (role-as-byte w n)
+    ∙ number-one (roleOf b n) r
+    (eqb→eq (number (roleOf b n)) (number r)
+    (subst (λ (on : Bool). T (not on || eqb (number (roleOf b n)) (number r))) (strobed-as-byte w g s ∙ on)
+    (each 256 (λ w. not (strobed w g s) || eqb (number (roleOf w n)) (number r)) t b (omega arith))))
 
 abbrev lineRole : Side → Role
 lineRole Input = STB
@@ -38,26 +43,26 @@ abbrev flagRole : Side → Role
 flagRole Input = IBF
 flagRole Output = OBF
 
-pub line-role : (w : ℕ) → w < 256 → (g : Group) (s : Side) → strobed w g s ≡ true → roleOf w (lineOf g s) ≡ lineRole s
+pub line-role : (w : ℕ) (g : Group) (s : Side) → strobed w g s ≡ true → roleOf w (lineOf g s) ≡ lineRole s
 unfolding roleOf usesOf freeRole strobedInput strobedOutput modeOf inputOf upperInput lowerInput bitOf
-line-role w hw A Input = role-where (λ w. strobed w A Input) 4 STB tt w hw
-line-role w hw A Output = role-where (λ w. strobed w A Output) 6 ACK tt w hw
-line-role w hw B Input = role-where (λ w. strobed w B Input) 2 STB tt w hw
-line-role w hw B Output = role-where (λ w. strobed w B Output) 2 ACK tt w hw
+line-role w A Input = role-where A Input 4 STB tt w
+line-role w A Output = role-where A Output 6 ACK tt w
+line-role w B Input = role-where B Input 2 STB tt w
+line-role w B Output = role-where B Output 2 ACK tt w
 
-pub flag-role : (w : ℕ) → w < 256 → (g : Group) (s : Side) → strobed w g s ≡ true → roleOf w (flagPin g s) ≡ flagRole s
+pub flag-role : (w : ℕ) (g : Group) (s : Side) → strobed w g s ≡ true → roleOf w (flagPin g s) ≡ flagRole s
 unfolding roleOf usesOf freeRole strobedInput strobedOutput modeOf inputOf upperInput lowerInput bitOf
-flag-role w hw A Input = role-where (λ w. strobed w A Input) 5 IBF tt w hw
-flag-role w hw A Output = role-where (λ w. strobed w A Output) 7 OBF tt w hw
-flag-role w hw B Input = role-where (λ w. strobed w B Input) 1 IBF tt w hw
-flag-role w hw B Output = role-where (λ w. strobed w B Output) 1 OBF tt w hw
+flag-role w A Input = role-where A Input 5 IBF tt w
+flag-role w A Output = role-where A Output 7 OBF tt w
+flag-role w B Input = role-where B Input 1 IBF tt w
+flag-role w B Output = role-where B Output 1 OBF tt w
 
-pub intr-role : (w : ℕ) → w < 256 → (g : Group) (s : Side) → strobed w g s ≡ true → roleOf w (intrPin g) ≡ INTR
+pub intr-role : (w : ℕ) (g : Group) (s : Side) → strobed w g s ≡ true → roleOf w (intrPin g) ≡ INTR
 unfolding roleOf usesOf freeRole strobedInput strobedOutput modeOf inputOf upperInput lowerInput bitOf
-intr-role w hw A Input = role-where (λ w. strobed w A Input) 3 INTR tt w hw
-intr-role w hw A Output = role-where (λ w. strobed w A Output) 3 INTR tt w hw
-intr-role w hw B Input = role-where (λ w. strobed w B Input) 0 INTR tt w hw
-intr-role w hw B Output = role-where (λ w. strobed w B Output) 0 INTR tt w hw
+intr-role w A Input = role-where A Input 3 INTR tt w
+intr-role w A Output = role-where A Output 3 INTR tt w
+intr-role w B Input = role-where B Input 0 INTR tt w
+intr-role w B Output = role-where B Output 0 INTR tt w
 
 -- Any pin of port C shows, and any bit of its read tells, what its role says.
 pub pin-by-role : (c : Chip) (n : ℕ) → n < 8 → pin c n ≡ levelAs c n (roleOf (c .core .word) n)
@@ -68,26 +73,26 @@ pub told-by-role : (c : Chip) (n : ℕ) → n < 8 → told c n ≡ readAs c n (r
 unfolding readOf readLines
 told-by-role c = bit-of-assembled (λ n. readAs c n (roleOf (c .core .word) n))
 
-module _ (c : Chip) (hw : c .core .word < 256) where
+module _ (c : Chip) where
   pub flag-pin : (g : Group) (s : Side) → strobed (c .core .word) g s ≡ true → pin c (flagPin g s) ≡ flagAt (c .core) g s
-  flag-pin A Input on = pin-by-role c 5 (lit< tt) ∙ ap (levelAs c 5) (flag-role (c .core .word) hw A Input on)
-  flag-pin A Output on = pin-by-role c 7 (lit< tt) ∙ ap (levelAs c 7) (flag-role (c .core .word) hw A Output on)
-  flag-pin B Input on = pin-by-role c 1 (lit< tt) ∙ ap (levelAs c 1) (flag-role (c .core .word) hw B Input on)
-  flag-pin B Output on = pin-by-role c 1 (lit< tt) ∙ ap (levelAs c 1) (flag-role (c .core .word) hw B Output on)
+  flag-pin A Input on = pin-by-role c 5 (lit< tt) ∙ ap (levelAs c 5) (flag-role (c .core .word) A Input on)
+  flag-pin A Output on = pin-by-role c 7 (lit< tt) ∙ ap (levelAs c 7) (flag-role (c .core .word) A Output on)
+  flag-pin B Input on = pin-by-role c 1 (lit< tt) ∙ ap (levelAs c 1) (flag-role (c .core .word) B Input on)
+  flag-pin B Output on = pin-by-role c 1 (lit< tt) ∙ ap (levelAs c 1) (flag-role (c .core .word) B Output on)
 
   pub line-pin : (g : Group) (s : Side) → strobed (c .core .word) g s ≡ true
       → pin c (lineOf g s) ≡ bitOf (c .core .c .outside) (lineOf g s)
-  line-pin A Input on = pin-by-role c 4 (lit< tt) ∙ ap (levelAs c 4) (line-role (c .core .word) hw A Input on)
-  line-pin A Output on = pin-by-role c 6 (lit< tt) ∙ ap (levelAs c 6) (line-role (c .core .word) hw A Output on)
-  line-pin B Input on = pin-by-role c 2 (lit< tt) ∙ ap (levelAs c 2) (line-role (c .core .word) hw B Input on)
-  line-pin B Output on = pin-by-role c 2 (lit< tt) ∙ ap (levelAs c 2) (line-role (c .core .word) hw B Output on)
+  line-pin A Input on = pin-by-role c 4 (lit< tt) ∙ ap (levelAs c 4) (line-role (c .core .word) A Input on)
+  line-pin A Output on = pin-by-role c 6 (lit< tt) ∙ ap (levelAs c 6) (line-role (c .core .word) A Output on)
+  line-pin B Input on = pin-by-role c 2 (lit< tt) ∙ ap (levelAs c 2) (line-role (c .core .word) B Input on)
+  line-pin B Output on = pin-by-role c 2 (lit< tt) ∙ ap (levelAs c 2) (line-role (c .core .word) B Output on)
 
   pub intr-pin : (g : Group) (s : Side) → strobed (c .core .word) g s ≡ true → pin c (intrPin g) ≡ intrOf c g
-  intr-pin A s on = pin-by-role c 3 (lit< tt) ∙ ap (levelAs c 3) (intr-role (c .core .word) hw A s on)
-  intr-pin B s on = pin-by-role c 0 (lit< tt) ∙ ap (levelAs c 0) (intr-role (c .core .word) hw B s on)
+  intr-pin A s on = pin-by-role c 3 (lit< tt) ∙ ap (levelAs c 3) (intr-role (c .core .word) A s on)
+  intr-pin B s on = pin-by-role c 0 (lit< tt) ∙ ap (levelAs c 0) (intr-role (c .core .word) B s on)
 
   pub told-enable : (g : Group) (s : Side) → strobed (c .core .word) g s ≡ true → told c (lineOf g s) ≡ enableOf (c .core .inte) g s
-  told-enable A Input on = told-by-role c 4 (lit< tt) ∙ ap (readAs c 4) (line-role (c .core .word) hw A Input on)
-  told-enable A Output on = told-by-role c 6 (lit< tt) ∙ ap (readAs c 6) (line-role (c .core .word) hw A Output on)
-  told-enable B Input on = told-by-role c 2 (lit< tt) ∙ ap (readAs c 2) (line-role (c .core .word) hw B Input on)
-  told-enable B Output on = told-by-role c 2 (lit< tt) ∙ ap (readAs c 2) (line-role (c .core .word) hw B Output on)
+  told-enable A Input on = told-by-role c 4 (lit< tt) ∙ ap (readAs c 4) (line-role (c .core .word) A Input on)
+  told-enable A Output on = told-by-role c 6 (lit< tt) ∙ ap (readAs c 6) (line-role (c .core .word) A Output on)
+  told-enable B Input on = told-by-role c 2 (lit< tt) ∙ ap (readAs c 2) (line-role (c .core .word) B Input on)
+  told-enable B Output on = told-by-role c 2 (lit< tt) ∙ ap (readAs c 2) (line-role (c .core .word) B Output on)

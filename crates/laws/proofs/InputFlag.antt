@@ -2,7 +2,7 @@
 -- Rests on PortsAfter, Refusals, ChannelPins, the channel's Left, and the step's ByKind, Ends and Outcome.
 use mathlib.Core.Path.{_≡_, _∙_, refl, sym}
 use mathlib.Core.Bool.{Bool, true, false, not}
-use Prim.Native.Nat.{ℕ, _<_}
+use Prim.Native.Nat.{ℕ}
 use lib.Dec.{eqb}
 use borrow.Author.Tests.{lt-ltb}
 use Rattle.bits.specs.Bit.{bitOf}
@@ -80,24 +80,24 @@ reading-is-no-write Idle g r = refl
 reading-is-no-write (Reading p) g r = refl
 reading-is-no-write (Writing a d) g r = r
 
-module _ (c : Chip) (hw : c .core .word < 256) (g : Group) (on : strobed (c .core .word) g Input ≡ true) where
+module _ (c : Chip) (g : Group) (on : strobed (c .core .word) g Input ≡ true) where
   -- The fall of STB sets IBF.
   pub strobe-sets-ibf : (d : ℕ) → pin c (lineOf g Input) ≡ true → bitOf d (lineOf g Input) ≡ false → pin (stepOf c 5 2 d .chip) (flagPin g Input) ≡ true
   strobe-sets-ibf d high low =
       rw (step-accepts c 5 2 d (levels-accepted (c .phase)))
-      (flag-under c _ hw g Input on (word-levelled (c .core) 2 d) ∙ strobe-sets (c .core) d g (line-falls c hw g Input d on high low))
+      (flag-under c _ g Input on (word-levelled (c .core) 2 d) ∙ strobe-sets (c .core) d g (line-falls c g Input d on high low))
 
   -- The beginning of a read, of this port or any other, leaves IBF set.
   pub begin-keeps-ibf : (x d : ℕ) → pin c (flagPin g Input) ≡ true → pin (stepOf c 1 x d .chip) (flagPin g Input) ≡ true
   begin-keeps-ibf x d set =
       step-either (λ c. pin c (flagPin g Input) ≡ true) c 1 x d set
-      (λ ok. flag-under c _ hw g Input on (word-begun (c .core) x) ∙ begun-keeps (c .core) x g (sym (flag-pin c hw g Input on) ∙ set))
+      (λ ok. flag-under c _ g Input on (word-begun (c .core) x) ∙ begun-keeps (c .core) x g (sym (flag-pin c g Input on) ∙ set))
 
   -- So do outside levels.
   pub levels-keep-ibf : (x d : ℕ) → pin c (flagPin g Input) ≡ true → pin (stepOf c 5 x d .chip) (flagPin g Input) ≡ true
   levels-keep-ibf x d set =
       step-either (λ c. pin c (flagPin g Input) ≡ true) c 5 x d set
-      (λ ok. flag-under c _ hw g Input on (word-levelled (c .core) x d) ∙ levels-keep (c .core) x d g (sym (flag-pin c hw g Input on) ∙ set))
+      (λ ok. flag-under c _ g Input on (word-levelled (c .core) x d) ∙ levels-keep (c .core) x d g (sym (flag-pin c g Input on) ∙ set))
 
   -- While a read of the port runs, every event but its end and a reset leaves IBF set.
   pub ibf-held : reading (c .phase) g ≡ true → pin c (flagPin g Input) ≡ true
@@ -116,4 +116,4 @@ module _ (c : Chip) (hw : c .core .word < 256) (g : Group) (on : strobed (c .cor
   -- The end of the read resets IBF.
   pub end-resets-ibf : (p x d : ℕ) → c .phase ≡ Reading p → ownAddress p g ≡ true → pin (stepOf c 2 x d .chip) (flagPin g Input) ≡ false
   end-resets-ibf p x d phase own =
-      rw (read-ends c p x d phase) (flag-under c _ hw g Input on (word-ended (c .core) p) ∙ done-resets (c .core) p g on own)
+      rw (read-ends c p x d phase) (flag-under c _ g Input on (word-ended (c .core) p) ∙ done-resets (c .core) p g on own)

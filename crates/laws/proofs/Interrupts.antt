@@ -3,7 +3,7 @@
 -- Rests on ChannelPins, on control's ModeTwo and Strobed, and on the outcomes of a step.
 use mathlib.Core.Path.{_≡_, _∙_, refl, ap, sym}
 use mathlib.Core.Bool.{Bool, true, false, not, _&&_, _||_}
-use Prim.Native.Nat.{ℕ, _<_}
+use Prim.Native.Nat.{ℕ}
 use borrow.Author.Tests.{not-true}
 use Rattle.bits.specs.Bit.{bitOf}
 use Rattle.control.specs.declared.Group.{Group}
@@ -26,17 +26,17 @@ use Rattle.laws.proofs.ChannelPins.{flag-pin, line-pin, intr-pin}
 abbrev pub half : Chip → Group → Side → Bool
 half c g s = enableOf (c .core .inte) g s && pin c (flagPin g s) && pin c (lineOf g s) && not (running (c .phase) g s)
 
-half-is : (c : Chip) → c .core .word < 256 → (g : Group) (s : Side) → strobed (c .core .word) g s ≡ true → requestOf c g s ≡ half c g s
+half-is : (c : Chip) (g : Group) (s : Side) → strobed (c .core .word) g s ≡ true → requestOf c g s ≡ half c g s
 unfolding requestOf
-half-is c hw g s on = rw (on, flag-pin c hw g s on, line-pin c hw g s on)
+half-is c g s on = rw (on, flag-pin c g s on, line-pin c g s on)
 
 -- Mode 2: the pin is either half.
-pub intr-in-mode-2 : (c : Chip) → c .core .word < 256 → modeOf (c .core .word) A ≡ 2 → pin c 3 ≡ (half c A Input || half c A Output)
+pub intr-in-mode-2 : (c : Chip) → modeOf (c .core .word) A ≡ 2 → pin c 3 ≡ (half c A Input || half c A Output)
 unfolding intrOf
-intr-in-mode-2 c hw two =
+intr-in-mode-2 c two =
     let both = mode-2-both-ways (c .core .word) two in
-    intr-pin c hw A Input (both .taking)
-    ∙ rw (half-is c hw A Input (both .taking), half-is c hw A Output (both .giving))
+    intr-pin c A Input (both .taking)
+    ∙ rw (half-is c A Input (both .taking), half-is c A Output (both .giving))
 
 or-false : (b : Bool) → (b || false) ≡ b
 or-false true = refl
@@ -67,10 +67,10 @@ unfolding intrOf
 either-half c g Input none = rw (none) (or-false (requestOf c g Input))
 either-half c g Output none = rw (none)
 
-pub intr-in-mode-1 : (c : Chip) → c .core .word < 256 → (g : Group) (s : Side) → modeOf (c .core .word) g ≡ 1
+pub intr-in-mode-1 : (c : Chip) (g : Group) (s : Side) → modeOf (c .core .word) g ≡ 1
     → strobed (c .core .word) g s ≡ true → pin c (intrPin g) ≡ half c g s
-intr-in-mode-1 c hw g s one on =
-    intr-pin c hw g s on ∙ either-half c g s (quiet c g (other s) (one-side (c .core .word) g s one on)) ∙ half-is c hw g s on
+intr-in-mode-1 c g s one on =
+    intr-pin c g s on ∙ either-half c g s (quiet c g (other s) (one-side (c .core .word) g s one on)) ∙ half-is c g s on
 
 -- The own cycle drops its half, whatever else holds.
 pub cycle-drops-half : (c : Chip) (g : Group) (s : Side) → running (c .phase) g s ≡ true → requestOf c g s ≡ false
@@ -79,10 +79,10 @@ cycle-drops-half c g s r =
     rw (r) (dropped (strobed (c .core .word) g s) (enableOf (c .core .inte) g s) (flagAt (c .core) g s) (bitOf (c .core .c .outside) (lineOf g s)))
 
 -- So INTR is low in mode 1 while the own cycle runs, and in mode 2 it is the other half.
-pub intr-low-in-own-cycle : (c : Chip) → c .core .word < 256 → (g : Group) (s : Side) → modeOf (c .core .word) g ≡ 1
+pub intr-low-in-own-cycle : (c : Chip) (g : Group) (s : Side) → modeOf (c .core .word) g ≡ 1
     → strobed (c .core .word) g s ≡ true → running (c .phase) g s ≡ true → pin c (intrPin g) ≡ false
-intr-low-in-own-cycle c hw g s one on r =
-    intr-pin c hw g s on ∙ either-half c g s (quiet c g (other s) (one-side (c .core .word) g s one on)) ∙ cycle-drops-half c g s r
+intr-low-in-own-cycle c g s one on r =
+    intr-pin c g s on ∙ either-half c g s (quiet c g (other s) (one-side (c .core .word) g s one on)) ∙ cycle-drops-half c g s r
 
 both-sides : (w : ℕ) (s : Side) → modeOf w A ≡ 2 → strobed w A s ≡ true
 both-sides w Input two = mode-2-both-ways w two .taking
@@ -92,11 +92,11 @@ other-other : (s : Side) → other (other s) ≡ s
 other-other Input = refl
 other-other Output = refl
 
-pub intr-in-own-cycle-of-mode-2 : (c : Chip) → c .core .word < 256 → (s : Side) → modeOf (c .core .word) A ≡ 2
+pub intr-in-own-cycle-of-mode-2 : (c : Chip) (s : Side) → modeOf (c .core .word) A ≡ 2
     → running (c .phase) A s ≡ true → pin c 3 ≡ half c A (other s)
-intr-in-own-cycle-of-mode-2 c hw s two r =
+intr-in-own-cycle-of-mode-2 c s two r =
     let on = both-sides (c .core .word) (other s) two in
-    intr-pin c hw A (other s) on ∙ either-half c A (other s) (rw (other-other s) (cycle-drops-half c A s r)) ∙ half-is c hw A (other s) on
+    intr-pin c A (other s) on ∙ either-half c A (other s) (rw (other-other s) (cycle-drops-half c A s r)) ∙ half-is c A (other s) on
 
 -- The own cycle runs from its beginning: an accepted read for an input, an accepted write for an output.
 pub begun-read-runs : (c : Chip) (g : Group) (x d : ℕ) → numberOf (c .phase) 1 x ≡ 0 → running (stepOf c 1 x d .chip .phase) g Input ≡ ownAddress x g

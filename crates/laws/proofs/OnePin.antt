@@ -1,5 +1,5 @@
 -- Bit set/reset changes one bit of port C's latch, or one enable, and nothing else ("Writes and bit set/reset").
--- Rests on bits' Tested and BitLaws, and the step's Ends.
+-- Rests on bits' Tested and BitLaws, roles' SameWords, and the step's Ends.
 use mathlib.Core.Path.{_≡_, _∙_, refl, ap, sym, subst}
 use mathlib.Core.Bool.{Bool, false, not, _||_}
 use mathlib.Core.Logic.{_⊎_, inl, inr}
@@ -15,6 +15,7 @@ use Rattle.control.specs.declared.Group.the-variants.{A, B}
 use Rattle.control.specs.Mode.{modeOf, inputOf, upperInput, lowerInput}
 use Rattle.control.specs.Word.{controlOf}
 use Rattle.roles.specs.Role.{Role, input, output, INTR, IBF, OBF, STB, ACK, number, usesOf, freeRole, roleOf}
+use Rattle.roles.proofs.SameWords.{role-as-byte}
 use Rattle.channel.specs.declared.Side.{Side}
 use Rattle.channel.specs.declared.Side.the-variants.{Input, Output}
 use Rattle.chip.specs.declared.Phase.the-variants.{Writing}
@@ -43,18 +44,19 @@ pub record OnePin (before : Core) (n : ℕ) (v : Bool) (r : Role) (after : Core)
 
 -- A pin with the role of STB or ACK is its channel's line.
 named-line : (r : Role) (s : Side) → T (all 256 (λ w. all 8 (λ n. not (eqb (number (roleOf w n)) (number r)) || eqb (lineOf (groupAt n) s) n)))
-    → (w n : ℕ) → w < 256 → n < 8 → roleOf w n ≡ r → lineOf (groupAt n) s ≡ n
-named-line r s t w n hw hn e =
+    → (w n : ℕ) → n < 8 → roleOf w n ≡ r → lineOf (groupAt n) s ≡ n
+named-line r s t w n hn e =
+    let b = w % 256 in
     eqb→eq (lineOf (groupAt n) s) n
-    (subst (λ (b : Bool). T (not b || eqb (lineOf (groupAt n) s) n)) (eq-eqb (number (roleOf w n)) (number r) (ap number e))
-    (each 8 (λ n. not (eqb (number (roleOf w n)) (number r)) || eqb (lineOf (groupAt n) s) n)
-    (each 256 (λ w. all 8 (λ n. not (eqb (number (roleOf w n)) (number r)) || eqb (lineOf (groupAt n) s) n)) t w hw) n hn))
+    (subst (λ (is : Bool). T (not is || eqb (lineOf (groupAt n) s) n)) (eq-eqb (number (roleOf b n)) (number r) (ap number (role-as-byte w n ∙ e)))
+    (each 8 (λ n. not (eqb (number (roleOf b n)) (number r)) || eqb (lineOf (groupAt n) s) n)
+    (each 256 (λ w. all 8 (λ n. not (eqb (number (roleOf w n)) (number r)) || eqb (lineOf (groupAt n) s) n)) t b (omega arith)) n hn))
 
-strobe-line : (w n : ℕ) → w < 256 → n < 8 → roleOf w n ≡ STB → lineOf (groupAt n) Input ≡ n
+strobe-line : (w n : ℕ) → n < 8 → roleOf w n ≡ STB → lineOf (groupAt n) Input ≡ n
 unfolding roleOf usesOf freeRole modeOf inputOf upperInput lowerInput bitOf
 strobe-line = named-line STB Input tt
 
-acknowledge-line : (w n : ℕ) → w < 256 → n < 8 → roleOf w n ≡ ACK → lineOf (groupAt n) Output ≡ n
+acknowledge-line : (w n : ℕ) → n < 8 → roleOf w n ≡ ACK → lineOf (groupAt n) Output ≡ n
 unfolding roleOf usesOf freeRole modeOf inputOf upperInput lowerInput bitOf
 acknowledge-line = named-line ACK Output tt
 
@@ -76,7 +78,7 @@ other-enable e B t v A Input other = refl
 other-enable e B t v A Output other = refl
 other-enable e B t v B s other = absurd (other refl)
 
-module _ (c : Core) (n : ℕ) (v : Bool) (hw : c .word < 256) (hn : n < 8) where
+module _ (c : Core) (n : ℕ) (v : Bool) (hn : n < 8) where
   -- A role that bit set/reset does not touch.
   nothing : (r : Role) → eqb (number r) 1 ≡ false → eqb (number r) 5 ≡ false → eqb (number r) 6 ≡ false → OnePin c n v r c
   nothing r o s a = record {
@@ -126,8 +128,8 @@ module _ (c : Core) (n : ℕ) (v : Bool) (hw : c .word < 256) (hn : n < 8) where
   by-role INTR e = nothing INTR refl refl refl
   by-role IBF e = nothing IBF refl refl refl
   by-role OBF e = nothing OBF refl refl refl
-  by-role STB e = enable STB Input (strobe-line (c .word) n hw hn e) refl (λ e. refl) (λ e. absurd (eqb-false 5 6 refl (ap number e)))
-  by-role ACK e = enable ACK Output (acknowledge-line (c .word) n hw hn e) refl (λ e. absurd (eqb-false 6 5 refl (ap number e))) (λ e. refl)
+  by-role STB e = enable STB Input (strobe-line (c .word) n hn e) refl (λ e. refl) (λ e. absurd (eqb-false 5 6 refl (ap number e)))
+  by-role ACK e = enable ACK Output (acknowledge-line (c .word) n hn e) refl (λ e. absurd (eqb-false 6 5 refl (ap number e))) (λ e. refl)
 
   one-pin : OnePin c n v (roleOf (c .word) n) (pinSet c n v)
   unfolding pinSet
@@ -138,10 +140,10 @@ unfolding written commanded controlOf
 bit-word c d clear = rw (clear)
 
 -- The end of a write of a control word with bit 7 clear.
-pub bit-set-changes-one : (c : Chip) → c .core .word < 256 → (b x d : ℕ) → c .phase ≡ Writing 3 b → bitOf b 7 ≡ false
+pub bit-set-changes-one : (c : Chip) (b x d : ℕ) → c .phase ≡ Writing 3 b → bitOf b 7 ≡ false
     → OnePin (c .core) (b / 2 % 8) (bitOf b 0) (roleOf (c .core .word) (b / 2 % 8)) (stepOf c 4 x d .chip .core)
-bit-set-changes-one c hw b x d phase clear =
-    rw (write-ends c 3 b x d phase, bit-word (c .core) b clear) (one-pin (c .core) (b / 2 % 8) (bitOf b 0) hw (omega arith))
+bit-set-changes-one c b x d phase clear =
+    rw (write-ends c 3 b x d phase, bit-word (c .core) b clear) (one-pin (c .core) (b / 2 % 8) (bitOf b 0) (omega arith))
 
 -- It leaves both ports alone.
 pub one-port : {c : Core} {n : ℕ} {v : Bool} {r : Role} {c′ : Core} → OnePin c n v r c′ → (g : Group) → portOf c′ g ≡ portOf c g

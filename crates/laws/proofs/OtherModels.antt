@@ -35,9 +35,9 @@ use Rattle.laws.proofs.ChannelPins.{told-enable, pin-by-role}
 use Rattle.laws.proofs.PortsAfter.{fetching}
 
 -- A port C read tells the enable, whatever level STB or ACK has.
-pub read-tells-enable : (c : Chip) → c .core .word < 256 → (g : Group) (s : Side) → strobed (c .core .word) g s ≡ true
+pub read-tells-enable : (c : Chip) (g : Group) (s : Side) → strobed (c .core .word) g s ≡ true
     → told c (lineOf g s) ≡ enableOf (c .core .inte) g s
-read-tells-enable c hw g s on = told-enable c hw g s on
+read-tells-enable c g s on = told-enable c g s on
 
 -- A port C write in group A's mode 1 or 2 leaves bits 7 to 4 of the latch, and so the pins that show them.
 upper-stays : (w x d n : ℕ) → ¬ (modeOf w A ≡ 0) → 4 ≤ n → n < 8 → bitOf (latchWritten w x d) n ≡ bitOf x n

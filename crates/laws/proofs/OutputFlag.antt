@@ -2,7 +2,7 @@
 -- Rests on PortsAfter, OwnPort, OnePin, Refusals, ChannelPins, control's Strobed, the channel's Left, and the step's ByKind, Ends and Outcome.
 use mathlib.Core.Path.{_≡_, _∙_, refl, ap, sym}
 use mathlib.Core.Bool.{Bool, true, false, cond, not, _&&_}
-use Prim.Native.Nat.{ℕ, _<_}
+use Prim.Native.Nat.{ℕ}
 use lib.Dec.{eqb}
 use borrow.Author.Tests.{lt-ltb, eqb-true}
 use Rattle.bits.specs.Bit.{bitOf}
@@ -99,29 +99,29 @@ word-under c a b other = rw (other) (go (eqb a 2))
     go true = refl
     go false = word-on c a (storing c b)
 
-module _ (c : Chip) (hw : c .core .word < 256) (g : Group) (on : strobed (c .core .word) g Output ≡ true) where
+module _ (c : Chip) (g : Group) (on : strobed (c .core .word) g Output ≡ true) where
   -- The end of the write lowers OBF.
   pub end-lowers-obf : (a b x d : ℕ) → c .phase ≡ Writing a b → ownAddress a g ≡ true → pin (stepOf c 4 x d .chip) (flagPin g Output) ≡ false
   end-lowers-obf a b x d phase own =
-      rw (write-ends c a b x d phase) (flag-under c _ hw g Output on (word-written (c .core) a b g own) ∙ write-lowers (c .core) a b g on own)
+      rw (write-ends c a b x d phase) (flag-under c _ g Output on (word-written (c .core) a b g own) ∙ write-lowers (c .core) a b g on own)
 
   -- The fall of ACK raises it.
   pub ack-raises-obf : (d : ℕ) → pin c (lineOf g Output) ≡ true → bitOf d (lineOf g Output) ≡ false → pin (stepOf c 5 2 d .chip) (flagPin g Output) ≡ true
   ack-raises-obf d high low =
       rw (step-accepts c 5 2 d (levels-accepted (c .phase)))
-      (flag-under c _ hw g Output on (word-levelled (c .core) 2 d) ∙ ack-raises (c .core) d g (line-falls c hw g Output d on high low))
+      (flag-under c _ g Output on (word-levelled (c .core) 2 d) ∙ ack-raises (c .core) d g (line-falls c g Output d on high low))
 
   low-here : pin c (flagPin g Output) ≡ false → flagAt (c .core) g Output ≡ false
-  low-here low = sym (flag-pin c hw g Output on) ∙ low
+  low-here low = sym (flag-pin c g Output on) ∙ low
 
   low-there : (c′ : Chip) → c′ .core .word ≡ c .core .word → flagAt (c′ .core) g Output ≡ false → pin c′ (flagPin g Output) ≡ false
-  low-there c′ same low = flag-under c c′ hw g Output on same ∙ low
+  low-there c′ same low = flag-under c c′ g Output on same ∙ low
 
   -- So does a control word that sets a pin: it leaves both ports alone.
   low-after-pin : (b x d : ℕ) → c .phase ≡ Writing 3 b → bitOf b 7 ≡ false → pin c (flagPin g Output) ≡ false
       → pin (stepOf c 4 x d .chip) (flagPin g Output) ≡ false
   low-after-pin b x d phase clear low =
-      let one = bit-set-changes-one c hw b x d phase clear in
+      let one = bit-set-changes-one c b x d phase clear in
       low-there (stepOf c 4 x d .chip) (one .word) (ap (flag Output) (one-port one g) ∙ low-here low)
 
   low-after-write : (ph : Phase) → c .phase ≡ ph → makesAnew ph ≡ false → pin c (flagPin g Output) ≡ false
@@ -148,7 +148,7 @@ module _ (c : Chip) (hw : c .core .word < 256) (g : Group) (on : strobed (c .cor
       (λ reset renewal fall. step-either Low c 3 x d low (λ ok. low-there _ refl (low-here low)))
       (λ reset renewal fall. low-after-write (c .phase) refl (renewal refl) low x d)
       (λ reset renewal fall. step-either Low c 5 x d low
-      (λ ok. low-there _ (word-levelled (c .core) x d) (low-levelled (c .core) x d g (λ two. line-stays c hw g Output d on (fall refl two)) (low-here low))))
+      (λ ok. low-there _ (word-levelled (c .core) x d) (low-levelled (c .core) x d g (λ two. line-stays c g Output d on (fall refl two)) (low-here low))))
       (λ k above reset renewal fall. rw (step-refuses c k x d (row-refuses (c .phase) k x 0 (lt-ltb 5 k above))) (low))
       k
     where

@@ -2,7 +2,7 @@
 -- Rests on chip's OnPort and on ChannelPins.
 use mathlib.Core.Path.{_≡_, _∙_, refl, sym, subst}
 use mathlib.Core.Bool.{Bool, true, false, cond, not, _&&_}
-use Prim.Native.Nat.{ℕ, _<_}
+use Prim.Native.Nat.{ℕ}
 use lib.Dec.{eqb}
 use Rattle.bits.specs.Bit.{bitOf}
 use Rattle.control.specs.declared.Group.{Group}
@@ -74,21 +74,21 @@ abbrev pub flag : Side → Port → Bool
 flag s p = flagOf s (sideOf p s .fill)
 
 -- The flag of a chip whose mode word is that of another, which strobes the channel.
-pub flag-under : (c c′ : Chip) → c .core .word < 256 → (g : Group) (s : Side) → strobed (c .core .word) g s ≡ true
+pub flag-under : (c c′ : Chip) (g : Group) (s : Side) → strobed (c .core .word) g s ≡ true
     → c′ .core .word ≡ c .core .word → pin c′ (flagPin g s) ≡ flagAt (c′ .core) g s
-flag-under c c′ hw g s on same =
-    flag-pin c′ (subst (λ (w : ℕ). w < 256) (sym same) hw) g s (subst (λ (w : ℕ). strobed w g s ≡ true) (sym same) on)
+flag-under c c′ g s on same =
+    flag-pin c′ g s (subst (λ (w : ℕ). strobed w g s ≡ true) (sym same) on)
 
 -- A line that falls, as the pins show it.
-pub line-falls : (c : Chip) → c .core .word < 256 → (g : Group) (s : Side) (d : ℕ) → strobed (c .core .word) g s ≡ true
+pub line-falls : (c : Chip) (g : Group) (s : Side) (d : ℕ) → strobed (c .core .word) g s ≡ true
     → pin c (lineOf g s) ≡ true → bitOf d (lineOf g s) ≡ false → lineFalls (c .core) d g s ≡ true
 unfolding fallen
-line-falls c hw g s d on high low = rw (on, sym (line-pin c hw g s on) ∙ high, low)
+line-falls c g s d on high low = rw (on, sym (line-pin c g s on) ∙ high, low)
 
-pub line-stays : (c : Chip) → c .core .word < 256 → (g : Group) (s : Side) (d : ℕ) → strobed (c .core .word) g s ≡ true
+pub line-stays : (c : Chip) (g : Group) (s : Side) (d : ℕ) → strobed (c .core .word) g s ≡ true
     → (pin c (lineOf g s) && not (bitOf d (lineOf g s))) ≡ false → lineFalls (c .core) d g s ≡ false
 unfolding fallen
-line-stays c hw g s d on stays = rw (on, ← line-pin c hw g s on) (stays)
+line-stays c g s d on stays = rw (on, ← line-pin c g s on) (stays)
 
 pub levels-accepted : (ph : Phase) → numberOf ph 5 2 ≡ 0
 unfolding numberOf

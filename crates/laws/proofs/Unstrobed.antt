@@ -3,7 +3,7 @@
 -- Rests on PortsAfter, OnePin, Refusals, chip's OnPort, and the step's ByKind, Ends and Outcome.
 use mathlib.Core.Path.{_≡_, _∙_, refl, ap, sym, subst}
 use mathlib.Core.Bool.{Bool, true, false, cond}
-use Prim.Native.Nat.{ℕ, _<_}
+use Prim.Native.Nat.{ℕ}
 use lib.Dec.{eqb}
 use borrow.Author.Tests.{lt-ltb, eqb-true}
 use Rattle.control.specs.declared.Group.{Group}
@@ -101,7 +101,7 @@ module _ (c : Core) (g : Group) where
             subst (λ (p : Port). Kept (sideOf port s) (sideOf p s)) (sym (ports-under-latch c (latchWritten (c .word) (c .c .latch) b) g)) (as-it-was (sideOf port s))
         go false = kept-on s a (storing c b) (kept-storing s b off)
 
-module _ (c : Chip) (hw : c .core .word < 256) (g : Group) (s : Side) (off : strobed (c .core .word) g s ≡ false) where
+module _ (c : Chip) (g : Group) (s : Side) (off : strobed (c .core .word) g s ≡ false) where
   abbrev Still : Chip → Type 0
   Still c′ = Kept (channelOf (c .core) g s) (channelOf (c′ .core) g s)
 
@@ -120,7 +120,7 @@ module _ (c : Chip) (hw : c .core .word < 256) (g : Group) (s : Side) (off : str
     where
       go : (control : Bool) → eqb a 3 ≡ control → Still (stepOf c 4 x d .chip)
       go true e =
-          let one = bit-set-changes-one c hw b x d (phase ∙ ap (λ (a : ℕ). Writing a b) (eqb-true a 3 e)) (sym (rw (e)) ∙ other) in
+          let one = bit-set-changes-one c b x d (phase ∙ ap (λ (a : ℕ). Writing a b) (eqb-true a 3 e)) (sym (rw (e)) ∙ other) in
           subst (λ (p : Port). Kept (sideOf (portOf (c .core) g) s) (sideOf p s)) (sym (one-port one g)) still
       go false e = rw (write-ends c a b x d phase) (kept-written (c .core) g s off a b e)
 

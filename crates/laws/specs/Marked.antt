@@ -7,37 +7,13 @@ use Rattle.chip.specs.State.{powerUp, tallyOf}
 use Rattle.ports.specs.Reads.{readOf}
 use Rattle.ports.specs.Pins.{pinsOf}
 use Rattle.step.specs.declared.Stepped.{Stepped}
-use Rattle.step.specs.Step.{accepted, stepOf}
+use Rattle.step.specs.Step.{accepted}
+use Rattle.laws.specs.History.{Event, event, stepped, write, levels, beginRead, endRead, strobe}
 
--- An event: a kind and two operands.
-pub record Event : Type 0 where
-  pub kind : ℕ
-  pub first : ℕ
-  pub second : ℕ
-
-abbrev pub event : ℕ → ℕ → ℕ → Event
-event k x d = record { kind = k; first = x; second = d }
-
+-- The last event's outcome, after a history.
 abbrev pub after : Stepped → List Event → Stepped
 after s [] = s
-after s (e ∷ es) = after (stepOf (s .chip) (e .kind) (e .first) (e .second)) es
-
--- A whole write, outside levels, and the two ends of a read.
-abbrev pub write : ℕ → ℕ → List Event
-write a d = event 3 a d ∷ event 4 0 0 ∷ []
-
-abbrev pub levels : ℕ → ℕ → List Event
-levels p d = event 5 p d ∷ []
-
-abbrev pub beginRead : ℕ → List Event
-beginRead a = event 1 a 0 ∷ []
-
-abbrev pub endRead : List Event
-endRead = event 2 0 0 ∷ []
-
--- A byte put on port A, and STB lowered and raised; port C is otherwise high.
-abbrev pub strobe : ℕ → List Event
-strobe d = levels 0 d ++ levels 2 0xef ++ levels 2 0xff
+after s (e ∷ es) = after (stepped (s .chip) e) es
 
 -- What may be asked: the levels and the driven mask of a port, a read of port C, the byte of the last event, two tallies of A in.
 pub data Asked : Type 0 where

@@ -1,3 +1,4 @@
+pub mod SameWords
 pub mod BitSeven
 pub mod ModeTwo
 pub mod PinByMasks

@@ -1,0 +1,67 @@
+-- Demand 3: the promises of specs/Promise.antt and specs/Discipline.antt, from any chip and from power-up.
+-- Rests on Ordered, Counted, AsOffered, ReadsRun and Discipline.
+use mathlib.Core.Path.{_≡_, refl}
+use mathlib.Core.Bool.{Bool, true, false}
+use mathlib.Core.List.{List, _++_}
+use Prim.Native.Nat.{ℕ, _+_, _≤_}
+use native.Mathlib.Omega.{arith}
+use Rattle.bits.specs.Bit.{num}
+use Rattle.control.specs.declared.Group.{Group}
+use Rattle.control.specs.declared.Group.the-variants.{A, B}
+use Rattle.channel.specs.declared.Side.{Side}
+use Rattle.channel.specs.declared.Side.the-variants.{Input, Output}
+use Rattle.channel.specs.Channel.{isWaiting}
+use Rattle.chip.specs.declared.Chip.{Chip}
+use Rattle.chip.specs.State.{noTally, powerUp, channelOf, tallyOf}
+use Rattle.laws.specs.History.{Event}
+use Rattle.fates.specs.Around.{atPowerUp}
+use Rattle.fates.specs.Deeds.{strobes, deeds}
+use Rattle.fates.specs.Bytes.{handedOver, overwritten, swallowed, cleared, offeredAt, bytesOf}
+use Rattle.fates.specs.Promise.{run, aroundOf, newBytes, oldByte, Fates, SixteenBits}
+use Rattle.fates.specs.Discipline.{Found, Disciplined, NoneLost}
+use Rattle.fates.proofs.Ordered.{story-in-order}
+use Rattle.fates.proofs.Counted.{one-fate-each, tally-counts, offered-counts, waits-there}
+use Rattle.fates.proofs.ReadsRun.{refused}
+use Rattle.fates.proofs.AsOffered.{as-offered}
+use Rattle.fates.proofs.Discipline.{disciplined-from}
+
+at-most : (n : ℕ) (waits : Bool) → n ≡ num waits → n ≤ 1
+at-most n true e = omega (arith, e)
+at-most n false e = omega (arith, e)
+
+-- From any chip whose tallies have sixteen bits.
+pub fates-from : (g : Group) (s : Side) (c : Chip) → SixteenBits (tallyOf c g s) → (es : List Event)
+    → Fates g s c es (tallyOf c g s) (newBytes g s c es) (oldByte g s c es ++ newBytes g s c es)
+fates-from g s c small es =
+    let h = offeredAt 0 (channelOf (c .core) g s .latch) in
+    let waits = waits-there g s c h 1 es in
+    record {
+      oneFateEach = one-fate-each (oldByte g s c es ++ newBytes g s c es);
+      atMostOneWaits = at-most _ (isWaiting (channelOf (run c es .core) g s .fill)) waits;
+      waitsInTheChip = waits;
+      asOffered = as-offered g s c es;
+      inOrder = story-in-order (channelOf (c .core) g s .fill) h 1 (deeds g s (aroundOf c) es) (omega arith);
+      tallyOffered = offered-counts g s c 1 es (small .offered);
+      tallyHanded = tally-counts g s handedOver refl c h 1 es (small .handed);
+      tallyOverwritten = tally-counts g s overwritten refl c h 1 es (small .overwritten);
+      tallySwallowed = tally-counts g s swallowed refl c h 1 es (small .swallowed);
+      tallyCleared = tally-counts g s cleared refl c h 1 es (small .cleared);
+    }
+
+none-counted : SixteenBits noTally
+none-counted = record { offered = omega arith; handed = omega arith; overwritten = omega arith; swallowed = omega arith; cleared = omega arith }
+
+-- From power-up, where no byte waits and nothing has been counted.
+pub fates : (g : Group) (s : Side) (es : List Event) → Fates g s powerUp es noTally (bytesOf g s es) (bytesOf g s es)
+fates A Input es = fates-from A Input powerUp none-counted es
+fates A Output es = fates-from A Output powerUp none-counted es
+fates B Input es = fates-from B Input powerUp none-counted es
+fates B Output es = fates-from B Output powerUp none-counted es
+
+-- No read runs at power-up.
+no-read : (g : Group) → Found g powerUp
+no-read g runs = absurd (refused (strobes 0x9b g Input) runs)
+
+pub disciplined : (g : Group) (es : List Event) → Disciplined g atPowerUp powerUp es → NoneLost (bytesOf g Input es)
+disciplined A es kept = disciplined-from A powerUp (no-read A) es kept
+disciplined B es kept = disciplined-from B powerUp (no-read B) es kept

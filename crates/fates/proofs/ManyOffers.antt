@@ -1,0 +1,34 @@
+-- The tally of n offers is n modulo 65,536, without writing n of them out.
+-- Rests on Demand.
+use mathlib.Core.Path.{_≡_, _∙_, refl, ap}
+use Prim.Native.Nat.{ℕ, zero, suc, _%_}
+use native.Mathlib.Nat.{zero-add}
+use lib.ListN.{length}
+use Rattle.bits.specs.Bit.{bitOf}
+use Rattle.control.specs.declared.Group.the-variants.{A}
+use Rattle.channel.specs.declared.Side.the-variants.{Input}
+use Rattle.chip.specs.declared.Phase.the-variants.{Idle}
+use Rattle.chip.specs.State.{powerUp, tallyOf}
+use Rattle.laws.specs.History.{strobe}
+use Rattle.fates.specs.Around.{Around}
+use Rattle.fates.specs.Deeds.{deeds}
+use Rattle.fates.specs.Bytes.{bytes}
+use Rattle.fates.specs.Promise.{run}
+use Rattle.fates.specs.Examples.{times, strobedTimes}
+use Rattle.fates.proofs.Demand.{fates}
+
+-- Port A in mode 1, an input, with the levels x on its lines and every line of port C high.
+abbrev strobing : ℕ → Around
+strobing x = record { phase = Idle; word = 0xb0; a = x; b = 0xff; c = 0xff }
+
+offers-of : (n v k x : ℕ) → length (bytes k (deeds A Input (strobing x) (times n (strobe v)))) ≡ n
+unfolding bitOf
+offers-of zero v k x = refl
+offers-of (suc n) v k x = ap suc (offers-of n v (suc (suc (suc k))) v)
+
+pub many-offers : (n v : ℕ) → tallyOf (run powerUp (strobedTimes n v)) A Input .offered ≡ n % 65536
+unfolding bitOf
+many-offers n v = fates A Input (strobedTimes n v) .tallyOffered ∙ ap (λ k. k % 65536) (zero-add _ ∙ offers-of n v 3 0xff)
+
+pub seventy-thousand : tallyOf (run powerUp (strobedTimes 70000 0x41)) A Input .offered ≡ 4464
+seventy-thousand = many-offers 70000 0x41

@@ -1,0 +1,102 @@
+-- What a deed does to the chip's channel: to its condition, to its tallies and to its latch.
+-- Rests on Story and on the channel's Left.
+use mathlib.Core.Path.{_≡_, refl, subst}
+use mathlib.Core.Bool.{Bool, true, false, _&&_}
+use Prim.Native.Nat.{ℕ}
+use lib.Dec.{T}
+use Rattle.channel.specs.declared.Side.{Side}
+use Rattle.channel.specs.declared.Fill.{Fill}
+use Rattle.channel.specs.declared.Fill.the-variants.{Empty, Waiting, Fetching}
+use Rattle.channel.specs.declared.Tally.{Tally}
+use Rattle.channel.specs.declared.Channel.{Channel}
+use Rattle.channel.specs.Channel.{isWaiting, next}
+use Rattle.channel.specs.Moves.{afterOffer, afterHandOver, afterEndRead, afterClear}
+use Rattle.channel.proofs.Left.{offer-waits, hand-over-leaves, hand-over-counts, end-read-empties, clear-empties}
+use Rattle.fates.specs.Deeds.{Deed, offered, taken, ended, clearedAway, nothing}
+use Rattle.fates.specs.Bytes.{Fate, handedOver, overwritten, swallowed, cleared, waiting, same}
+use Rattle.fates.proofs.Story.{emptied, fillAfter, fateBy}
+
+-- The channel's own moves, by deed.
+abbrev pub moved : Side → Channel → Deed → Channel
+moved s ch (offered v) = afterOffer ch v
+moved s ch taken = afterHandOver ch (emptied s)
+moved s ch ended = afterEndRead ch
+moved s ch clearedAway = afterClear ch
+moved s ch nothing = ch
+
+pub moved-fill : (s : Side) (ch : Channel) (d : Deed) → moved s ch d .fill ≡ fillAfter s (ch .fill) d
+moved-fill s ch (offered v) = offer-waits ch v
+moved-fill s ch taken = hand-over-leaves ch (emptied s)
+moved-fill s ch ended = end-read-empties ch
+moved-fill s ch clearedAway = clear-empties ch
+moved-fill s ch nothing = refl
+
+-- The value that the latch holds after a deed.
+abbrev pub latchAfter : ℕ → Deed → ℕ
+latchAfter l (offered v) = v
+latchAfter l taken = l
+latchAfter l ended = l
+latchAfter l clearedAway = 0
+latchAfter l nothing = l
+
+pub moved-latch : (s : Side) (ch : Channel) (d : Deed) → moved s ch d .latch ≡ latchAfter (ch .latch) d
+unfolding afterOffer afterHandOver afterEndRead afterClear
+moved-latch s ch (offered v) = refl
+moved-latch s ch taken = go (ch .fill) refl
+  where
+    go : (f : Fill) → ch .fill ≡ f → afterHandOver ch (emptied s) .latch ≡ ch .latch
+    go Empty e = rw (e)
+    go Waiting e = rw (e)
+    go Fetching e = rw (e)
+moved-latch s ch ended = refl
+moved-latch s ch clearedAway = refl
+moved-latch s ch nothing = refl
+
+-- The tally of a fate; bytes that wait are not counted in one.
+abbrev pub tallyFor : Fate → Tally → ℕ
+tallyFor handedOver t = t .handed
+tallyFor overwritten t = t .overwritten
+tallyFor swallowed t = t .swallowed
+tallyFor cleared t = t .cleared
+tallyFor waiting t = 0
+
+by-tallied-fate : (P : Fate → Type 0) → P handedOver → P overwritten → P swallowed → P cleared → (f : Fate) → same f waiting ≡ false → P f
+by-tallied-fate P h o s c handedOver e = h
+by-tallied-fate P h o s c overwritten e = o
+by-tallied-fate P h o s c swallowed e = s
+by-tallied-fate P h o s c cleared e = c
+by-tallied-fate P h o s c waiting e = absurd (subst T e tt)
+
+-- A deed gives a byte that waits the fate f.
+abbrev pub gives : Fate → Fill → Deed → Bool
+gives f fill d = same f (fateBy d) && isWaiting fill
+
+-- Each deed moves the tally of the fate that it gives, and no other.
+abbrev pub Counts : Side → Channel → Deed → Fate → Type 0
+Counts s ch d f = tallyFor f (moved s ch d .tally) ≡ next (gives f (ch .fill) d) (tallyFor f (ch .tally))
+
+pub moved-tallies : (s : Side) (ch : Channel) (d : Deed) (f : Fate) → same f waiting ≡ false → Counts s ch d f
+unfolding afterOffer afterEndRead afterClear
+moved-tallies s ch (offered v) = by-tallied-fate (Counts s ch (offered v)) refl refl refl refl
+moved-tallies s ch taken =
+    let k = hand-over-counts ch (emptied s) in
+    by-tallied-fate (Counts s ch taken) (rw (k)) (rw (k)) (rw (k)) (rw (k))
+moved-tallies s ch ended = by-tallied-fate (Counts s ch ended) refl refl refl refl
+moved-tallies s ch clearedAway = by-tallied-fate (Counts s ch clearedAway) refl refl refl refl
+moved-tallies s ch nothing = by-tallied-fate (Counts s ch nothing) refl refl refl refl
+
+-- A byte is offered by the deed of that name alone.
+abbrev pub offers : Deed → Bool
+offers (offered v) = true
+offers taken = false
+offers ended = false
+offers clearedAway = false
+offers nothing = false
+
+pub moved-offered : (s : Side) (ch : Channel) (d : Deed) → moved s ch d .tally .offered ≡ next (offers d) (ch .tally .offered)
+unfolding afterOffer afterEndRead afterClear
+moved-offered s ch (offered v) = refl
+moved-offered s ch taken = rw (hand-over-counts ch (emptied s))
+moved-offered s ch ended = refl
+moved-offered s ch clearedAway = refl
+moved-offered s ch nothing = refl

@@ -1,0 +1,166 @@
+-- Where the history says that an event takes a byte from a channel, the read answers the channel's latch, or the chip drives the port
+-- with it.
+-- Rests on Tables, Accepted and Followed, on laws' OwnPort, control's Strobed and the step's ByKind and Outcome.
+use mathlib.Core.Path.{_≡_, _∙_, refl, ap, sym, subst}
+use mathlib.Core.Bool.{Bool, true, false, cond, _&&_}
+use Prim.Native.Nat.{ℕ}
+use lib.Dec.{T, eqb, ltb}
+use borrow.Author.Tests.{not-true}
+use Rattle.bits.specs.Bit.{bitOf}
+use Rattle.control.specs.declared.Group.{Group}
+use Rattle.control.specs.declared.Group.the-variants.{A, B}
+use Rattle.control.specs.Mode.{modeOf, outputOf}
+use Rattle.control.proofs.Strobed.{giving-is-output}
+use Rattle.channel.specs.declared.Side.{Side}
+use Rattle.channel.specs.declared.Side.the-variants.{Input, Output}
+use Rattle.chip.specs.declared.Chip.{Chip}
+use Rattle.chip.specs.Handshakes.{ownAddress}
+use Rattle.levels.specs.Levels.{levelledLines, levelled}
+use Rattle.ports.specs.Reads.{readPort, readOf}
+use Rattle.ports.specs.Pins.{drivesPort, pinsOfPort}
+use Rattle.step.specs.declared.Stepped.{Stepped}
+use Rattle.step.proofs.ByKind.{by-kind}
+use Rattle.step.proofs.Outcome.{step-accepts}
+use Rattle.laws.specs.History.{Event, event}
+use Rattle.laws.proofs.OwnPort.{own-pins, own-read}
+use Rattle.fates.specs.Kinds.{named, accepts}
+use Rattle.fates.specs.Around.{brought}
+use Rattle.fates.specs.Deeds.{Deed, offered, taken, ended, clearedAway, nothing, portNumber, levelsOn, strobePin, strobes, readRuns, writeRuns, falls, when, ownDeed, clears, deed}
+use Rattle.fates.specs.Promise.{aroundOf, Shows}
+use Rattle.fates.proofs.Tables.{own-same, strobes-same}
+use Rattle.fates.proofs.Accepted.{no-kind-accepted, accepted-number}
+use Rattle.fates.proofs.Moved.{latchAfter}
+use Rattle.fates.proofs.Followed.{after, latch, next-latch}
+
+-- What holds where a byte is taken.
+abbrev pub WhereTaken : Type 0 → Deed → Type 0
+WhereTaken P (offered v) = Unit {0}
+WhereTaken P taken = P
+WhereTaken P ended = Unit {0}
+WhereTaken P clearedAway = Unit {0}
+WhereTaken P nothing = Unit {0}
+
+-- An event is a deed only under its conditions.
+under-condition : (P : Type 0) (b : Bool) (d : Deed) → (b ≡ true → WhereTaken P d) → WhereTaken P (when b d)
+under-condition P true d h = h refl
+under-condition P false d h = tt
+
+unless-cleared : (P : Type 0) (b : Bool) (d : Deed) → WhereTaken P d → WhereTaken P (cond b clearedAway d)
+unless-cleared P true d h = tt
+unless-cleared P false d h = h
+
+-- Both conditions of a fall.
+both : (a b : Bool) → (a && b) ≡ true → (a ≡ true) × (b ≡ true)
+both true b h = (refl, h)
+both false b h = absurd (subst T (sym h) tt)
+
+-- A deed that takes no byte is one of those in any case.
+never : (P : Type 0) (b : Bool) (d : Deed) → WhereTaken P d → WhereTaken P (when b d)
+never P b d h = under-condition P b d (λ e. h)
+
+module _ (c : Chip) (g : Group) where
+  abbrev word : ℕ
+  word = c .core .word
+
+  -- The channel is strobed, and the event shows its latch.
+  abbrev pub Takes : Side → Event → Type 0
+  Takes s e = (strobes word g s ≡ true) × Shows g s c e (latch g s c)
+
+  -- So it is wherever an accepted event takes a byte from a strobed channel.
+  abbrev Shown : Side → Event → Type 0
+  Shown s e = accepts (c .phase) (named e) ≡ true → strobes word g s ≡ true → WhereTaken (Takes s e) (ownDeed g s (aroundOf c) (named e))
+
+  -- A strobed input reads as its latch.
+  input-reads : strobes word g Input ≡ true → (x : ℕ) → eqb x (portNumber g) ≡ true → readOf c x ≡ latch g Input c
+  unfolding readPort
+  input-reads on x own = own-read c x g (sym (own-same x g) ∙ own) ∙ rw (sym (strobes-same word g Input) ∙ on)
+
+  begun-shows : (x d : ℕ) → accepts (c .phase) (named (event 1 x d)) ≡ true → strobes word g Input ≡ true → eqb x (portNumber g) ≡ true
+      → Takes Input (event 1 x d)
+  begun-shows x d ok on own = (on, rw (step-accepts c 1 x d (accepted-number (c .phase) 1 x d ok)) (refl, input-reads on x own))
+
+  shown-input : (k x d : ℕ) → Shown Input (event k x d)
+  shown-input k x d =
+      by-kind (λ k. Shown Input (event k x d))
+      (λ ok on. tt)
+      (λ ok on. under-condition _ (eqb x (portNumber g)) taken (begun-shows x d ok on))
+      (λ ok on. never _ (readRuns g (c .phase)) ended tt)
+      (λ ok on. tt)
+      (λ ok on. tt)
+      (λ ok on. never _ (falls g Input (aroundOf c) x d) (offered (levelsOn g (aroundOf c))) tt)
+      (λ k above ok on. absurd (no-kind-accepted (c .phase) k x d above ok))
+      k
+
+  -- The chip drives the lines of a strobed output as long as its ACK is low.
+  drives : (d : ℕ) → strobes word g Output ≡ true → bitOf d (strobePin g Output) ≡ false → drivesPort (levelledLines (c .core) d) g ≡ true
+  unfolding drivesPort levelledLines
+  drives d on low = go g (giving-is-output word g (sym (strobes-same word g Output) ∙ on)) low
+    where
+      either : (two out : Bool) → out ≡ true → cond two true out ≡ true
+      either true out e = refl
+      either false out e = e
+
+      go : (g : Group) → outputOf word g ≡ true → bitOf d (strobePin g Output) ≡ false → drivesPort (levelledLines (c .core) d) g ≡ true
+      go A out low = rw (low) (either (eqb (modeOf word A) 2) (outputOf word A) out)
+      go B out low = out
+
+  -- An event that may take the byte leaves the latch.
+  latch-stays : (l : ℕ) (b : Bool) (d : Deed) → latchAfter l d ≡ l → latchAfter l (when b d) ≡ l
+  latch-stays l true d e = e
+  latch-stays l false d e = refl
+
+  own-port : (g : Group) → ownAddress (portNumber g) g ≡ true
+  own-port A = refl
+  own-port B = refl
+
+  -- The fall of ACK.
+  module _ (x d : ℕ) (ok : accepts (c .phase) (named (event 5 x d)) ≡ true) (on : strobes word g Output ≡ true)
+      (fell : falls g Output (aroundOf c) x d ≡ true) where
+    abbrev left : Chip
+    left = after c (event 5 x d)
+
+    latch-left : latch g Output left ≡ latch g Output c
+    latch-left =
+        next-latch g Output c (event 5 x d) on
+        ∙ latch-stays _ (ltb x 3) _ (latch-stays _ (strobes word g Output) _ (latch-stays _ (falls g Output (aroundOf c) x d) taken refl))
+
+    driven-left : drivesPort (left .core) g ≡ true
+    unfolding levelled
+    driven-left =
+        let lines = both (eqb x 2) _ fell in
+        let low = not-true (bitOf d (strobePin g Output)) (both (bitOf (c .core .c .outside) (strobePin g Output)) _ (lines .1) .1) in
+        ap (λ (r : Stepped). drivesPort (r .chip .core) g) (step-accepts c 5 x d (accepted-number (c .phase) 5 x d ok))
+        ∙ rw (lines .0) (drives d on low)
+
+    fall-shows : Takes Output (event 5 x d)
+    unfolding pinsOfPort
+    fall-shows = (
+      on,
+      (
+        rw (step-accepts c 5 x d (accepted-number (c .phase) 5 x d ok)),
+        own-pins left (portNumber g) g (own-port g) ∙ rw (driven-left, latch-left),
+      ),
+    )
+
+  shown-output : (k x d : ℕ) → Shown Output (event k x d)
+  shown-output k x d =
+      by-kind (λ k. Shown Output (event k x d))
+      (λ ok on. tt)
+      (λ ok on. tt)
+      (λ ok on. tt)
+      (λ ok on. tt)
+      (λ ok on. never _ (writeRuns g (c .phase)) (offered (brought (c .phase))) tt)
+      (λ ok on. under-condition _ (falls g Output (aroundOf c) x d) taken (fall-shows x d ok on))
+      (λ k above ok on. absurd (no-kind-accepted (c .phase) k x d above ok))
+      k
+
+  shown-own : (s : Side) (e : Event) → Shown s e
+  shown-own Input e = shown-input (e .kind) (e .first) (e .second)
+  shown-own Output e = shown-output (e .kind) (e .first) (e .second)
+
+  -- Where any event takes a byte from the channel, it shows the channel's latch.
+  pub taken-shows : (s : Side) (e : Event) → WhereTaken (Takes s e) (deed g s (aroundOf c) e)
+  taken-shows s e =
+      under-condition _ (accepts (c .phase) (named e)) _
+      (λ ok. unless-cleared _ (clears (c .phase) (named e)) _
+      (under-condition _ (strobes word g s) _ (shown-own s e ok)))

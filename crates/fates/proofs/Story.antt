@@ -1,0 +1,80 @@
+-- A channel's condition and the byte that it holds, followed from deed to deed, beside the fates, which look ahead in the list.
+-- Rests on nothing.
+use mathlib.Core.Path.{_≡_, refl}
+use mathlib.Core.List.{List, [], _∷_, _++_}
+use Prim.Native.Nat.{ℕ, suc}
+use Rattle.channel.specs.declared.Side.{Side}
+use Rattle.channel.specs.declared.Side.the-variants.{Input, Output}
+use Rattle.channel.specs.declared.Fill.{Fill}
+use Rattle.channel.specs.declared.Fill.the-variants.{Empty, Waiting, Fetching}
+use Rattle.channel.proofs.Left.{leaves}
+use Rattle.fates.specs.Deeds.{Deed, offered, taken, ended, clearedAway, nothing}
+use Rattle.fates.specs.Bytes.{Fate, handedOver, overwritten, swallowed, cleared, waiting, Offer, Byte, offeredAt, decidedAt, bytes}
+use Rattle.fates.specs.Promise.{heldByte}
+
+-- What a channel is left in when its byte is taken.
+abbrev pub emptied : Side → Fill
+emptied Input = Fetching
+emptied Output = Empty
+
+-- The condition after a deed.
+abbrev pub fillAfter : Side → Fill → Deed → Fill
+fillAfter s f (offered v) = Waiting
+fillAfter s f taken = leaves f (emptied s)
+fillAfter s f ended = Empty
+fillAfter s f clearedAway = Empty
+fillAfter s f nothing = f
+
+-- The byte last offered, where the deed is at place n.
+abbrev pub heldAfter : Offer → ℕ → Deed → Offer
+heldAfter h n (offered v) = offeredAt n v
+heldAfter h n taken = h
+heldAfter h n ended = h
+heldAfter h n clearedAway = h
+heldAfter h n nothing = h
+
+-- The bytes of a channel in the condition f, which holds h where it waits.
+abbrev pub story : Fill → Offer → ℕ → List Deed → List Byte
+story f h n later = heldByte f h n later ++ bytes n later
+
+-- What a deed makes of a byte that waits.
+abbrev pub fateBy : Deed → Fate
+fateBy (offered v) = overwritten
+fateBy taken = handedOver
+fateBy ended = swallowed
+fateBy clearedAway = cleared
+fateBy nothing = waiting
+
+unfoldable pub fated : Offer → ℕ → Fate → List Byte
+fated h n f = record { offer = h; outcome = decidedAt n f } ∷ []
+
+-- The byte, if any, that the deed at place n decides.
+unfoldable pub decided : Fill → Offer → ℕ → Deed → List Byte
+decided Empty h n d = []
+decided Waiting h n (offered v) = fated h n (fateBy (offered v))
+decided Waiting h n taken = fated h n (fateBy taken)
+decided Waiting h n ended = fated h n (fateBy ended)
+decided Waiting h n clearedAway = fated h n (fateBy clearedAway)
+decided Waiting h n nothing = []
+decided Fetching h n d = []
+
+-- The one step on which every theorem below goes: what a deed decides stands first, and the rest is the story from there.
+pub story-step : (s : Side) (f : Fill) (h : Offer) (n : ℕ) (d : Deed) (later : List Deed)
+    → story f h n (d ∷ later) ≡ decided f h n d ++ story (fillAfter s f d) (heldAfter h n d) (suc n) later
+unfolding decided fated
+story-step s Empty h n (offered v) later = refl
+story-step s Empty h n taken later = refl
+story-step s Empty h n ended later = refl
+story-step s Empty h n clearedAway later = refl
+story-step s Empty h n nothing later = refl
+story-step s Fetching h n (offered v) later = refl
+story-step s Fetching h n taken later = refl
+story-step s Fetching h n ended later = refl
+story-step s Fetching h n clearedAway later = refl
+story-step s Fetching h n nothing later = refl
+story-step s Waiting h n (offered v) later = refl
+story-step Input Waiting h n taken later = refl
+story-step Output Waiting h n taken later = refl
+story-step s Waiting h n ended later = refl
+story-step s Waiting h n clearedAway later = refl
+story-step s Waiting h n nothing later = refl

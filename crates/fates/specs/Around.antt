@@ -1,0 +1,77 @@
+-- What surrounds a channel, worked out from the events alone: the bus phase, the mode word and the levels outside ("State").
+use mathlib.Core.Bool.{Bool, false, cond, _&&_}
+use Prim.Native.Nat.{ℕ}
+use lib.Dec.{eqb}
+use Rattle.bits.specs.Bit.{bitOf}
+use Rattle.chip.specs.declared.Phase.{Phase}
+use Rattle.chip.specs.declared.Phase.the-variants.{Idle, Reading, Writing}
+use Rattle.laws.specs.History.{Event}
+use Rattle.fates.specs.Kinds.{Named, reset, endRead, endWrite, unknown, beginRead, beginWrite, levels, named, accepts}
+
+-- The phase, the mode word in force, and the levels on ports A, B and C.
+pub record Around : Type 0 where
+  pub phase : Phase
+  pub word : ℕ
+  pub a : ℕ
+  pub b : ℕ
+  pub c : ℕ
+
+-- At power-up the bus is idle, the mode word is 9B and every line is high.
+abbrev pub atPowerUp : Around
+atPowerUp = record { phase = Idle; word = 0x9b; a = 0xff; b = 0xff; c = 0xff }
+
+-- The write that runs is of a mode word: to control, with bit 7 set ("Mode words").
+abbrev pub ofModeWord : Phase → Bool
+ofModeWord Idle = false
+ofModeWord (Reading p) = false
+ofModeWord (Writing x d) = eqb x 3 && bitOf d 7
+
+-- The byte that the write brings.
+abbrev pub brought : Phase → ℕ
+brought Idle = 0
+brought (Reading p) = 0
+brought (Writing x d) = d
+
+-- A cycle runs from its beginning to its end; a reset drops it.
+abbrev pub phaseAfter : Phase → Named → Phase
+phaseAfter ph reset = Idle
+phaseAfter ph (beginRead x) = Reading x
+phaseAfter ph endRead = Idle
+phaseAfter ph (beginWrite x d) = Writing x d
+phaseAfter ph endWrite = Idle
+phaseAfter ph (levels x d) = ph
+phaseAfter ph unknown = ph
+
+-- A mode word comes into force at the end of its write, and a reset brings back 9B.
+abbrev pub wordAfter : Phase → ℕ → Named → ℕ
+wordAfter ph w reset = 0x9b
+wordAfter ph w (beginRead x) = w
+wordAfter ph w endRead = w
+wordAfter ph w (beginWrite x d) = w
+wordAfter ph w endWrite = cond (ofModeWord ph) (brought ph) w
+wordAfter ph w (levels x d) = w
+wordAfter ph w unknown = w
+
+-- The levels of port p, which the outside alone changes.
+abbrev pub levelsAfter : ℕ → ℕ → Named → ℕ
+levelsAfter p l reset = l
+levelsAfter p l (beginRead x) = l
+levelsAfter p l endRead = l
+levelsAfter p l (beginWrite x d) = l
+levelsAfter p l endWrite = l
+levelsAfter p l (levels x d) = cond (eqb x p) d l
+levelsAfter p l unknown = l
+
+-- All of it after an accepted event.
+abbrev pub aroundAfter : Around → Named → Around
+aroundAfter a e = record {
+  phase = phaseAfter (a .phase) e;
+  word = wordAfter (a .phase) (a .word) e;
+  a = levelsAfter 0 (a .a) e;
+  b = levelsAfter 1 (a .b) e;
+  c = levelsAfter 2 (a .c) e;
+}
+
+-- After any event: a refused one changes nothing.
+abbrev pub aroundNext : Around → Event → Around
+aroundNext a e = cond (accepts (a .phase) (named e)) (aroundAfter a (named e)) a

@@ -1,0 +1,81 @@
+-- The bytes of a channel and the fate of each, from what the events were to the channel ("Handshake", on fates). Events are counted from
+-- 1, refused ones too. Nothing here, nor in Kinds, Around and Deeds, asks a chip.
+use mathlib.Core.Bool.{Bool}
+use mathlib.Core.List.{List, [], _∷_}
+use Prim.Native.Nat.{ℕ, suc, _+_}
+use lib.Dec.{eqb}
+use Rattle.bits.specs.Bit.{num}
+use Rattle.control.specs.declared.Group.{Group}
+use Rattle.channel.specs.declared.Side.{Side}
+use Rattle.laws.specs.History.{Event}
+use Rattle.fates.specs.Around.{atPowerUp}
+use Rattle.fates.specs.Deeds.{Deed, offered, taken, ended, clearedAway, nothing, deeds}
+
+-- What becomes of a byte.
+pub data Fate : Type 0 where
+  handedOver overwritten swallowed cleared waiting : Fate
+
+-- A byte as it is offered: the place of that event in the history, and the value.
+pub record Offer : Type 0 where
+  pub place : ℕ
+  pub value : ℕ
+
+-- Its fate, and the place of the event that decided it.
+pub record Outcome : Type 0 where
+  pub fate : Fate
+  pub place : ℕ
+
+-- Both together.
+pub record Byte : Type 0 where
+  pub offer : Offer
+  pub outcome : Outcome
+
+-- The value v offered at place n, and the fate f decided there.
+abbrev pub offeredAt : ℕ → ℕ → Offer
+offeredAt n v = record { place = n; value = v }
+
+abbrev pub decidedAt : ℕ → Fate → Outcome
+decidedAt n f = record { fate = f; place = n }
+
+-- The first deed that is something decides; the deeds begin at place n. A byte that none decides still waits, and its place is the one
+-- after the last.
+abbrev pub outcomeOf : ℕ → List Deed → Outcome
+outcomeOf n [] = decidedAt n waiting
+outcomeOf n (offered v ∷ later) = decidedAt n overwritten
+outcomeOf n (taken ∷ later) = decidedAt n handedOver
+outcomeOf n (ended ∷ later) = decidedAt n swallowed
+outcomeOf n (clearedAway ∷ later) = decidedAt n cleared
+outcomeOf n (nothing ∷ later) = outcomeOf (suc n) later
+
+-- A byte offered before the deeds that begin at place n.
+abbrev pub byteOf : Offer → ℕ → List Deed → Byte
+byteOf o n later = record { offer = o; outcome = outcomeOf n later }
+
+-- The bytes that the deeds from place n on offer, in their order.
+abbrev pub bytes : ℕ → List Deed → List Byte
+bytes n [] = []
+bytes n (offered v ∷ later) = byteOf (offeredAt n v) (suc n) later ∷ bytes (suc n) later
+bytes n (taken ∷ later) = bytes (suc n) later
+bytes n (ended ∷ later) = bytes (suc n) later
+bytes n (clearedAway ∷ later) = bytes (suc n) later
+bytes n (nothing ∷ later) = bytes (suc n) later
+
+-- The bytes offered to a channel in a history from power-up.
+abbrev pub bytesOf : Group → Side → List Event → List Byte
+bytesOf g s es = bytes 1 (deeds g s atPowerUp es)
+
+-- Fates are told apart by their order above.
+abbrev pub rank : Fate → ℕ
+rank handedOver = 0
+rank overwritten = 1
+rank swallowed = 2
+rank cleared = 3
+rank waiting = 4
+
+abbrev pub same : Fate → Fate → Bool
+same f g = eqb (rank f) (rank g)
+
+-- How many of the bytes have a fate.
+abbrev pub count : Fate → List Byte → ℕ
+count f [] = 0
+count f (b ∷ bs) = num (same f (b .outcome .fate)) + count f bs

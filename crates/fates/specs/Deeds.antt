@@ -1,0 +1,116 @@
+-- What each event of a history is to a channel ("Handshake"), from what surrounds the channel. The table of the four channels stands
+-- here once more and apart from the chip's, so that a wrong pin or port on either side is seen.
+use mathlib.Core.Bool.{Bool, true, false, cond, not, _&&_, _||_}
+use mathlib.Core.List.{List, [], _∷_}
+use Prim.Native.Nat.{ℕ}
+use lib.Dec.{eqb}
+use Rattle.bits.specs.Bit.{bitOf}
+use Rattle.control.specs.declared.Group.{Group}
+use Rattle.control.specs.declared.Group.the-variants.{A, B}
+use Rattle.channel.specs.declared.Side.{Side}
+use Rattle.channel.specs.declared.Side.the-variants.{Input, Output}
+use Rattle.chip.specs.declared.Phase.{Phase}
+use Rattle.chip.specs.declared.Phase.the-variants.{Idle, Reading, Writing}
+use Rattle.laws.specs.History.{Event}
+use Rattle.fates.specs.Kinds.{Named, reset, endRead, endWrite, unknown, beginRead, beginWrite, levels, named, accepts}
+use Rattle.fates.specs.Around.{Around, ofModeWord, brought, aroundNext}
+
+-- A byte is offered: STB falls, or the own port's write ends. Taken: the own port's read begins, or ACK falls. Ended: the own port's
+-- read ends. Cleared away: a mode word or a reset. Any other event is nothing to the channel.
+pub data Deed : Type 0 where
+  offered : ℕ → Deed
+  taken ended clearedAway nothing : Deed
+
+-- A channel's port, on the bus and among the ports.
+abbrev pub portNumber : Group → ℕ
+portNumber A = 0
+portNumber B = 1
+
+-- The levels outside on that port.
+abbrev pub levelsOn : Group → Around → ℕ
+levelsOn A a = a .a
+levelsOn B a = a .b
+
+-- The pin of its STB or ACK ("Port C roles").
+abbrev pub strobePin : Group → Side → ℕ
+strobePin A Input = 4
+strobePin A Output = 6
+strobePin B Input = 2
+strobePin B Output = 2
+
+-- Group A is in mode 2 by bit 6 of the mode word; group B never is.
+abbrev pub inModeTwo : ℕ → Group → Bool
+inModeTwo w A = bitOf w 6
+inModeTwo w B = false
+
+-- Otherwise group A is in mode 1 by bit 5, and group B by bit 2 ("Mode words").
+abbrev pub inModeOne : ℕ → Group → Bool
+inModeOne w A = bitOf w 5
+inModeOne w B = bitOf w 2
+
+-- The port's direction is that of the side: port A an input by bit 4, port B by bit 1.
+abbrev pub facing : ℕ → Group → Side → Bool
+facing w A Input = bitOf w 4
+facing w A Output = not (bitOf w 4)
+facing w B Input = bitOf w 1
+facing w B Output = not (bitOf w 1)
+
+-- The mode word strobes the channel: both channels of the port in mode 2, and in mode 1 the one that its direction asks for.
+abbrev pub strobes : ℕ → Group → Side → Bool
+strobes w g s = inModeTwo w g || (inModeOne w g && facing w g s)
+
+-- The port's own read runs, and its own write.
+abbrev pub readRuns : Group → Phase → Bool
+readRuns g Idle = false
+readRuns g (Reading p) = eqb p (portNumber g)
+readRuns g (Writing x d) = false
+
+abbrev pub writeRuns : Group → Phase → Bool
+writeRuns g Idle = false
+writeRuns g (Reading p) = false
+writeRuns g (Writing x d) = eqb x (portNumber g)
+
+-- Levels d on port x lower the channel's STB or ACK, which was high: only port C has such lines.
+abbrev pub falls : Group → Side → Around → ℕ → ℕ → Bool
+falls g s a x d = eqb x 2 && (bitOf (a .c) (strobePin g s) && not (bitOf d (strobePin g s)))
+
+-- A deed under a condition.
+abbrev pub when : Bool → Deed → Deed
+when holds d = cond holds d nothing
+
+-- What an accepted event is to a strobed channel.
+abbrev pub ownDeed : Group → Side → Around → Named → Deed
+ownDeed g s a reset = nothing
+ownDeed g Input a (beginRead x) = when (eqb x (portNumber g)) taken
+ownDeed g Output a (beginRead x) = nothing
+ownDeed g Input a endRead = when (readRuns g (a .phase)) ended
+ownDeed g Output a endRead = nothing
+ownDeed g s a (beginWrite x d) = nothing
+ownDeed g Input a endWrite = nothing
+ownDeed g Output a endWrite = when (writeRuns g (a .phase)) (offered (brought (a .phase)))
+ownDeed g Input a (levels x d) = when (falls g Input a x d) (offered (levelsOn g a))
+ownDeed g Output a (levels x d) = when (falls g Output a x d) taken
+ownDeed g s a unknown = nothing
+
+-- A reset, and the end of a write of a mode word, clear every channel away, whatever the mode.
+abbrev pub clears : Phase → Named → Bool
+clears ph reset = true
+clears ph (beginRead x) = false
+clears ph endRead = false
+clears ph (beginWrite x d) = false
+clears ph endWrite = ofModeWord ph
+clears ph (levels x d) = false
+clears ph unknown = false
+
+-- What an accepted event is to a channel; one that the mode word does not strobe has no part in edges and cycles.
+abbrev pub deedOf : Group → Side → Around → Named → Deed
+deedOf g s a e = cond (clears (a .phase) e) clearedAway (when (strobes (a .word) g s) (ownDeed g s a e))
+
+-- What an event is to a channel; a refused one is nothing.
+abbrev pub deed : Group → Side → Around → Event → Deed
+deed g s a e = when (accepts (a .phase) (named e)) (deedOf g s a (named e))
+
+-- What the events of a history are to a channel, one after the other.
+abbrev pub deeds : Group → Side → Around → List Event → List Deed
+deeds g s a [] = []
+deeds g s a (e ∷ es) = deed g s a e ∷ deeds g s (aroundNext a e) es

@@ -1,0 +1,46 @@
+-- The discipline under which no input byte is lost: the device strobes only while IBF is low, and the program begins a read of the port
+-- only while it is high.
+use mathlib.Core.Path.{_≡_}
+use mathlib.Core.Bool.{Bool, true, false, _&&_}
+use mathlib.Core.List.{List, [], _∷_}
+use Rattle.control.specs.declared.Group.{Group}
+use Rattle.channel.specs.declared.Side.the-variants.{Input}
+use Rattle.channel.specs.declared.Fill.the-variants.{Fetching}
+use Rattle.chip.specs.declared.Chip.{Chip}
+use Rattle.chip.specs.State.{channelOf}
+use Rattle.laws.specs.Seen.{pin, flagPin}
+use Rattle.laws.specs.History.{Event, stepped}
+use Rattle.fates.specs.Around.{Around, aroundNext}
+use Rattle.fates.specs.Deeds.{Deed, offered, taken, ended, clearedAway, nothing, strobes, readRuns, deed}
+use Rattle.fates.specs.Promise.{aroundOf}
+use Rattle.fates.specs.Bytes.{Byte, overwritten, swallowed, count}
+
+-- IBF as the pin view shows it.
+abbrev pub ibf : Chip → Group → Bool
+ibf c g = pin c (flagPin g Input)
+
+-- A read of a strobed port runs.
+abbrev pub fetches : Group → Around → Bool
+fetches g a = strobes (a .word) g Input && readRuns g (a .phase)
+
+-- The condition at the start: such a read, if one runs, has found a byte. At power-up none runs.
+abbrev pub Found : Group → Chip → Type 0
+Found g c = fetches g (aroundOf c) ≡ true → channelOf (c .core) g Input .fill ≡ Fetching
+
+-- What the level of IBF before an event allows it to be. A read in mode 0 is no deed, and so is free ("Handshake").
+abbrev pub Minds : Bool → Deed → Type 0
+Minds level (offered v) = level ≡ false
+Minds level taken = level ≡ true
+Minds level ended = Unit {0}
+Minds level clearedAway = Unit {0}
+Minds level nothing = Unit {0}
+
+-- Device and program keep to it throughout a history.
+abbrev pub Disciplined : Group → Around → Chip → List Event → Type 0
+Disciplined g a c [] = Unit {0}
+Disciplined g a c (e ∷ es) = Minds (ibf c g) (deed g Input a e) × Disciplined g (aroundNext a e) (stepped c e .chip) es
+
+-- No byte was overwritten or swallowed.
+pub record NoneLost (bs : List Byte) : Type 0 where
+  pub noneOverwritten : count overwritten bs ≡ 0
+  pub noneSwallowed : count swallowed bs ≡ 0

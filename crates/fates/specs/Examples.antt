@@ -1,0 +1,73 @@
+-- Histories that show the fates, with what becomes of each byte; events are counted from 1.
+use mathlib.Core.List.{List, [], _∷_, _++_}
+use Prim.Native.Nat.{ℕ, zero, suc}
+use Rattle.control.specs.declared.Group.{Group}
+use Rattle.control.specs.declared.Group.the-variants.{A, B}
+use Rattle.channel.specs.declared.Side.{Side}
+use Rattle.channel.specs.declared.Side.the-variants.{Input, Output}
+use Rattle.laws.specs.History.{Event, event, write, levels, beginRead, endRead, strobe}
+use Rattle.laws.specs.Marked.{P13}
+use Rattle.fates.specs.Bytes.{Fate, handedOver, overwritten, swallowed, cleared, waiting, Byte, offeredAt, decidedAt, bytesOf}
+
+-- A history, one of the four channels, and the bytes that it is said to have had.
+pub record Example : Type 0 where
+  pub history : List Event
+  pub group : Group
+  pub side : Side
+  pub said : List Byte
+
+-- It, in that order.
+abbrev pub example : List Event → Group → Side → List Byte → Example
+example es g s bs = record { history = es; group = g; side = s; said = bs }
+
+-- What the definitions make of it.
+abbrev pub found : Example → List Byte
+found x = bytesOf (x .group) (x .side) (x .history)
+
+-- The byte v, offered at place n and decided at place m.
+infixl 70 _at_is_at_
+abbrev pub _at_is_at_ : ℕ → ℕ → Fate → ℕ → Byte
+v at n is f at m = record { offer = offeredAt n v; outcome = decidedAt m f }
+
+-- Last season's bale: a digit is strobed in and its read begins; the next digit comes before the read has ended, and is lost.
+abbrev pub lostBale : List Event
+lostBale = write 3 0xb0 ++ strobe 0x41 ++ beginRead 0 ++ strobe 0x42 ++ endRead
+
+-- Port A in mode 2: a byte in by STB and read, then a byte out by ACK.
+abbrev pub bothWays : List Event
+bothWays = write 3 0xc0 ++ strobe 0x41 ++ beginRead 0 ++ endRead ++ write 0 0x55 ++ levels 2 0xbf
+
+-- A byte waits while the mode word is written once more.
+abbrev pub sameWordAgain : List Event
+sameWordAgain = write 3 0xb0 ++ strobe 0x41 ++ write 3 0xb0
+
+-- A printer on port B: it is given a second byte before it has taken the first, takes that one, and is reset before the third.
+abbrev pub printer : List Event
+printer = write 3 0x94 ++ write 1 0x33 ++ write 1 0x34 ++ levels 2 0xfb ++ write 1 0x35 ++ (event 0 0 0 ∷ [])
+
+-- A byte waits on port B, and nothing that follows is for it: a read of port A, another begun meanwhile and so refused, a read of
+-- control, which is refused too, and a kind that there is not.
+abbrev pub notForIt : List Event
+notForIt = write 3 0x96 ++ levels 1 0x41 ++ levels 2 0xfb ++ beginRead 0 ++ beginRead 1 ++ endRead ++ beginRead 3 ++ (event 9 1 0 ∷ [])
+
+-- Each of the five fates, each side, both groups and mode 2.
+abbrev pub examples : List Example
+examples =
+    example lostBale A Input (0x41 at 4 is handedOver at 6 ∷ 0x42 at 8 is swallowed at 10 ∷ [])
+    ∷ example P13 A Input (0x41 at 4 is overwritten at 7 ∷ 0x42 at 7 is waiting at 9 ∷ [])
+    ∷ example (P13 ++ beginRead 0) A Input (0x41 at 4 is overwritten at 7 ∷ 0x42 at 7 is handedOver at 9 ∷ [])
+    ∷ example bothWays A Input (0x41 at 4 is handedOver at 6 ∷ [])
+    ∷ example bothWays A Output (0x55 at 9 is handedOver at 10 ∷ [])
+    ∷ example sameWordAgain A Input (0x41 at 4 is cleared at 7 ∷ [])
+    ∷ example printer B Output (0x33 at 4 is overwritten at 6 ∷ 0x34 at 6 is handedOver at 7 ∷ 0x35 at 9 is cleared at 10 ∷ [])
+    ∷ example notForIt B Input (0x41 at 4 is waiting at 10 ∷ [])
+    ∷ []
+
+-- The same events n times over.
+abbrev pub times : ℕ → List Event → List Event
+times zero es = []
+times (suc n) es = es ++ times n es
+
+-- Port A strobed n times, with nobody to read it.
+abbrev pub strobedTimes : ℕ → ℕ → List Event
+strobedTimes n v = write 3 0xb0 ++ times n (strobe v)

@@ -1,0 +1,53 @@
+-- Events by name, and which of them are accepted ("Events and numbers"), in the history's own words: the step has its rule as a table
+-- of refusals.
+use mathlib.Core.Bool.{Bool, true, false, _&&_}
+use mathlib.Core.List.{List, [], _∷_}
+use Prim.Native.Nat.{ℕ}
+use lib.Dec.{ltb}
+use lib.ListN.{getD}
+use Rattle.chip.specs.declared.Phase.{Phase}
+use Rattle.chip.specs.declared.Phase.the-variants.{Idle, Reading, Writing}
+use Rattle.laws.specs.History.{Event}
+
+-- The six kinds, each with the operands that it has, and what is none of them.
+pub data Named : Type 0 where
+  reset endRead endWrite unknown : Named
+  beginRead : ℕ → Named
+  beginWrite levels : ℕ → ℕ → Named
+
+-- The kinds in the order of their numbers, 00 to 05, with the operands x and d.
+abbrev pub kinds : ℕ → ℕ → List Named
+kinds x d = reset ∷ beginRead x ∷ endRead ∷ beginWrite x d ∷ endWrite ∷ levels x d ∷ []
+
+-- An event by name.
+abbrev pub named : Event → Named
+named e = getD (kinds (e .first) (e .second)) (e .kind) unknown
+
+-- Nothing runs on the bus.
+abbrev pub free : Phase → Bool
+free Idle = true
+free (Reading p) = false
+free (Writing a d) = false
+
+-- A read runs.
+abbrev pub inRead : Phase → Bool
+inRead Idle = false
+inRead (Reading p) = true
+inRead (Writing a d) = false
+
+-- A write runs.
+abbrev pub inWrite : Phase → Bool
+inWrite Idle = false
+inWrite (Reading p) = false
+inWrite (Writing a d) = true
+
+-- A reset is always accepted, and levels on any of the three ports. A cycle begins on a free bus, a read at one of the three ports and
+-- a write there or at control; it ends by its own end.
+abbrev pub accepts : Phase → Named → Bool
+accepts ph reset = true
+accepts ph (beginRead x) = ltb x 3 && free ph
+accepts ph endRead = inRead ph
+accepts ph (beginWrite x d) = ltb x 4 && free ph
+accepts ph endWrite = inWrite ph
+accepts ph (levels x d) = ltb x 3
+accepts ph unknown = false

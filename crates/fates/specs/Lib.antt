@@ -1,0 +1,7 @@
+pub mod Kinds
+pub mod Around
+pub mod Deeds
+pub mod Bytes
+pub mod Promise
+pub mod Discipline
+pub mod Examples

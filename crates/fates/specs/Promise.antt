@@ -1,0 +1,102 @@
+-- Demand 3: what is promised of the chip, its tallies, its answers and its pins, by the bytes of each channel over a history.
+use mathlib.Core.Path.{_≡_}
+use mathlib.Core.List.{List, [], _∷_}
+use Prim.Native.Nat.{ℕ, zero, suc, _+_, _%_, _<_, _≤_}
+use lib.ListN.{length}
+use Rattle.bits.specs.Bit.{num}
+use Rattle.control.specs.declared.Group.{Group}
+use Rattle.channel.specs.declared.Side.{Side}
+use Rattle.channel.specs.declared.Side.the-variants.{Input, Output}
+use Rattle.channel.specs.declared.Fill.{Fill}
+use Rattle.channel.specs.declared.Fill.the-variants.{Empty, Waiting, Fetching}
+use Rattle.channel.specs.declared.Tally.{Tally}
+use Rattle.channel.specs.Channel.{isWaiting}
+use Rattle.chip.specs.declared.Chip.{Chip}
+use Rattle.chip.specs.State.{channelOf, tallyOf}
+use Rattle.ports.specs.Pins.{pinsOf}
+use Rattle.laws.specs.History.{Event, stepped}
+use Rattle.fates.specs.Around.{Around}
+use Rattle.fates.specs.Deeds.{Deed, portNumber, deeds}
+use Rattle.fates.specs.Bytes.{handedOver, overwritten, swallowed, cleared, waiting, Byte, Offer, offeredAt, byteOf, bytes, count}
+
+-- The chip after a history: each event meets the chip that the one before it left.
+abbrev pub run : Chip → List Event → Chip
+run c [] = c
+run c (e ∷ es) = run (stepped c e .chip) es
+
+-- The tallies that it has then for a channel.
+abbrev pub tallies : Group → Side → Chip → List Event → Tally
+tallies g s c es = tallyOf (run c es) g s
+
+-- A chip's bus phase, mode word and outside levels, where a history begins from that chip.
+abbrev pub aroundOf : Chip → Around
+aroundOf c = record {
+  phase = c .phase;
+  word = c .core .word;
+  a = c .core .a .outside;
+  b = c .core .b .outside;
+  c = c .core .c .outside;
+}
+
+-- The bytes offered since then, their first event at place 1.
+abbrev pub newBytes : Group → Side → Chip → List Event → List Byte
+newBytes g s c es = bytes 1 (deeds g s (aroundOf c) es)
+
+-- The byte, if any, that waits where the deeds begin.
+abbrev pub heldByte : Fill → Offer → ℕ → List Deed → List Byte
+heldByte Empty o n later = []
+heldByte Waiting o n later = byteOf o n later ∷ []
+heldByte Fetching o n later = []
+
+-- A byte that waits at the start of a history counts as offered at place 0, with the latch's value.
+abbrev pub oldByte : Group → Side → Chip → List Event → List Byte
+oldByte g s c es =
+    heldByte (channelOf (c .core) g s .fill) (offeredAt 0 (channelOf (c .core) g s .latch)) 1 (deeds g s (aroundOf c) es)
+
+-- Something that holds of each byte.
+abbrev pub Each : (Byte → Type 0) → List Byte → Type 0
+Each P [] = Unit {0}
+Each P (b ∷ bs) = P b × Each P bs
+
+-- One after the other: a byte is decided after it is offered, and not later than the next one is offered.
+abbrev pub InOrder : ℕ → List Byte → Type 0
+InOrder n [] = Unit {0}
+InOrder n (b ∷ bs) = (n ≤ b .offer .place) × (b .offer .place < b .outcome .place) × InOrder (b .outcome .place) bs
+
+-- An accepted event shows the value v: a read answers it, or the chip, as ACK falls, drives all eight lines of the port with it.
+abbrev pub Shows : Group → Side → Chip → Event → ℕ → Type 0
+Shows g Input c e v = (stepped c e .number ≡ 0) × (stepped c e .byte ≡ v)
+Shows g Output c e v = (stepped c e .number ≡ 0) × (pinsOf (stepped c e .chip) (portNumber g) ≡ record { levels = v; driven = 0xff })
+
+-- The event at place n of a history shows v; the first is at place 1.
+abbrev pub ShownAt : Group → Side → Chip → List Event → ℕ → ℕ → Type 0
+ShownAt g s c [] n v = ⊥
+ShownAt g s c (e ∷ es) zero v = ⊥
+ShownAt g s c (e ∷ es) (suc zero) v = Shows g s c e v
+ShownAt g s c (e ∷ es) (suc (suc n)) v = ShownAt g s (stepped c e .chip) es (suc n) v
+
+-- What is promised of a channel after the events es from the chip c, where `new` are the bytes offered since, `all` are these and the
+-- one that waited at the start, and `start` are the tallies there.
+pub record Fates (g : Group) (s : Side) (c : Chip) (es : List Event) (start : Tally) (new all : List Byte) : Type 0 where
+  -- Each byte has one of the five fates; at most one waits, and one does exactly where the chip's channel waits.
+  pub oneFateEach :
+      length all ≡ count handedOver all + count overwritten all + count swallowed all + count cleared all + count waiting all
+  pub atMostOneWaits : count waiting all ≤ 1
+  pub waitsInTheChip : count waiting all ≡ num (isWaiting (channelOf (run c es .core) g s .fill))
+  -- Each byte handed over is the one that was offered, and they come in order.
+  pub asOffered : Each (λ b. b .outcome .fate ≡ handedOver → ShownAt g s c es (b .outcome .place) (b .offer .value)) all
+  pub inOrder : InOrder 0 all
+  -- The tallies are the counts.
+  pub tallyOffered : tallies g s c es .offered ≡ (start .offered + length new) % 65536
+  pub tallyHanded : tallies g s c es .handed ≡ (start .handed + count handedOver all) % 65536
+  pub tallyOverwritten : tallies g s c es .overwritten ≡ (start .overwritten + count overwritten all) % 65536
+  pub tallySwallowed : tallies g s c es .swallowed ≡ (start .swallowed + count swallowed all) % 65536
+  pub tallyCleared : tallies g s c es .cleared ≡ (start .cleared + count cleared all) % 65536
+
+-- Tallies of sixteen bits, as the type makes them.
+pub record SixteenBits (t : Tally) : Type 0 where
+  pub offered : t .offered < 65536
+  pub handed : t .handed < 65536
+  pub overwritten : t .overwritten < 65536
+  pub swallowed : t .swallowed < 65536
+  pub cleared : t .cleared < 65536
