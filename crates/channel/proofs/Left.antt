@@ -1,16 +1,27 @@
 -- What each move leaves of a channel's condition, latch and tallies, for those who stand above ("Handshake").
 -- Rests on nothing.
 use mathlib.Core.Path.{_≡_, refl}
+use mathlib.Core.Bool.{true}
 use Prim.Native.Nat.{ℕ}
 use Rattle.channel.specs.declared.Fill.{Fill}
 use Rattle.channel.specs.declared.Fill.the-variants.{Empty, Waiting, Fetching}
 use Rattle.channel.specs.declared.Channel.{Channel}
-use Rattle.channel.specs.Channel.{isWaiting, counted, handed}
+use Rattle.channel.specs.Channel.{isWaiting, offered, handed, overwritten, swallowed, cleared, counted}
 use Rattle.channel.specs.Moves.{afterOffer, afterHandOver, afterEndRead, afterClear}
 
+-- A byte offered waits in the latch.
 pub offer-waits : (ch : Channel) (b : ℕ) → afterOffer ch b .fill ≡ Waiting
 unfolding afterOffer
 offer-waits ch b = refl
+
+pub offer-latches : (ch : Channel) (b : ℕ) → afterOffer ch b .latch ≡ b
+unfolding afterOffer
+offer-latches ch b = refl
+
+pub offer-counts : (ch : Channel) (b : ℕ)
+    → afterOffer ch b .tally ≡ counted overwritten (isWaiting (ch .fill)) (counted offered true (ch .tally))
+unfolding afterOffer
+offer-counts ch b = refl
 
 -- What handing over leaves of a condition.
 abbrev pub leaves : Fill → Fill → Fill
@@ -18,32 +29,56 @@ leaves Empty left = Empty
 leaves Waiting left = left
 leaves Fetching left = Fetching
 
-pub hand-over-leaves : (ch : Channel) (left : Fill) → afterHandOver ch left .fill ≡ leaves (ch .fill) left
-unfolding afterHandOver
-hand-over-leaves ch left = go (ch .fill) refl
-  where
-    go : (f : Fill) → ch .fill ≡ f → afterHandOver ch left .fill ≡ leaves (ch .fill) left
-    go Empty e = rw (e)
-    go Waiting e = rw (e)
-    go Fetching e = rw (e)
+module _ (ch : Channel) (left : Fill) where
+  pub hand-over-leaves : afterHandOver ch left .fill ≡ leaves (ch .fill) left
+  unfolding afterHandOver
+  hand-over-leaves = go (ch .fill) refl
+    where
+      go : (f : Fill) → ch .fill ≡ f → afterHandOver ch left .fill ≡ leaves (ch .fill) left
+      go Empty e = rw (e)
+      go Waiting e = rw (e)
+      go Fetching e = rw (e)
 
-pub hand-over-counts : (ch : Channel) (left : Fill) → afterHandOver ch left .tally ≡ counted handed (isWaiting (ch .fill)) (ch .tally)
-unfolding afterHandOver
-hand-over-counts ch left = go (ch .fill) refl
-  where
-    go : (f : Fill) → ch .fill ≡ f → afterHandOver ch left .tally ≡ counted handed (isWaiting (ch .fill)) (ch .tally)
-    go Empty e = rw (e)
-    go Waiting e = rw (e)
-    go Fetching e = rw (e)
+  pub hand-over-keeps : afterHandOver ch left .latch ≡ ch .latch
+  unfolding afterHandOver
+  hand-over-keeps = go (ch .fill) refl
+    where
+      go : (f : Fill) → ch .fill ≡ f → afterHandOver ch left .latch ≡ ch .latch
+      go Empty e = rw (e)
+      go Waiting e = rw (e)
+      go Fetching e = rw (e)
 
-pub end-read-empties : (ch : Channel) → afterEndRead ch .fill ≡ Empty
-unfolding afterEndRead
-end-read-empties ch = refl
+  pub hand-over-counts : afterHandOver ch left .tally ≡ counted handed (isWaiting (ch .fill)) (ch .tally)
+  unfolding afterHandOver
+  hand-over-counts = go (ch .fill) refl
+    where
+      go : (f : Fill) → ch .fill ≡ f → afterHandOver ch left .tally ≡ counted handed (isWaiting (ch .fill)) (ch .tally)
+      go Empty e = rw (e)
+      go Waiting e = rw (e)
+      go Fetching e = rw (e)
 
-pub clear-empties : (ch : Channel) → afterClear ch .fill ≡ Empty
-unfolding afterClear
-clear-empties ch = refl
+-- The end of a read leaves the latch, and a mode word or reset nothing.
+module _ (ch : Channel) where
+  pub end-read-empties : afterEndRead ch .fill ≡ Empty
+  unfolding afterEndRead
+  end-read-empties = refl
 
-pub clear-zeroes : (ch : Channel) → afterClear ch .latch ≡ 0
-unfolding afterClear
-clear-zeroes ch = refl
+  pub end-read-keeps : afterEndRead ch .latch ≡ ch .latch
+  unfolding afterEndRead
+  end-read-keeps = refl
+
+  pub end-read-counts : afterEndRead ch .tally ≡ counted swallowed (isWaiting (ch .fill)) (ch .tally)
+  unfolding afterEndRead
+  end-read-counts = refl
+
+  pub clear-empties : afterClear ch .fill ≡ Empty
+  unfolding afterClear
+  clear-empties = refl
+
+  pub clear-zeroes : afterClear ch .latch ≡ 0
+  unfolding afterClear
+  clear-zeroes = refl
+
+  pub clear-counts : afterClear ch .tally ≡ counted cleared (isWaiting (ch .fill)) (ch .tally)
+  unfolding afterClear
+  clear-counts = refl

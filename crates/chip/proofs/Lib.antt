@@ -1,2 +1,3 @@
 pub mod OnPort
 pub mod StrobedWords
+pub mod Surrounded

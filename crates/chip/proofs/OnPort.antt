@@ -2,15 +2,32 @@
 -- Rests on nothing.
 use mathlib.Core.Path.{_≡_, refl}
 use mathlib.Core.Bool.{Bool, true, false, cond}
-use Prim.Native.Nat.{ℕ}
+use Prim.Native.Nat.{ℕ, _<_}
+use native.Mathlib.Omega.{arith}
 use lib.Dec.{eqb}
-use borrow.Author.Tests.{eqb-true}
+use borrow.Author.Tests.{eqb-true, ne-eqb}
 use Rattle.control.specs.declared.Group.{Group}
 use Rattle.control.specs.declared.Group.the-variants.{A, B}
 use Rattle.chip.specs.declared.Port.{Port}
 use Rattle.chip.specs.declared.Core.{Core}
 use Rattle.chip.specs.State.{portOf, withPort, onPort}
 use Rattle.chip.specs.Handshakes.{ownAddress}
+
+-- Port C and control are at neither port's address.
+pub lines-not-own : (x : ℕ) → eqb x 2 ≡ true → (g : Group) → ownAddress x g ≡ false
+lines-not-own x e A = rw (eqb-true x 2 e)
+lines-not-own x e B = rw (eqb-true x 2 e)
+
+pub control-not-own : (x : ℕ) → eqb x 3 ≡ true → (g : Group) → ownAddress x g ≡ false
+control-not-own x e A = rw (eqb-true x 3 e)
+control-not-own x e B = rw (eqb-true x 3 e)
+
+-- Where there is no port, no rule does anything.
+pub no-port : (c : Core) (x : ℕ) → 1 < x → (f : Group → Port → Port) → onPort c x f ≡ c
+no-port c x h f =
+    let zero : ¬ (x ≡ 0) = λ e. omega (arith, h, e) in
+    let one : ¬ (x ≡ 1) = λ e. omega (arith, h, e) in
+    rw (ne-eqb _ _ zero, ne-eqb _ _ one)
 
 module _ (c : Core) (x : ℕ) (f : Group → Port → Port) where
   first : (a b : Bool) → portOf (cond a (withPort c A (f A (c .a))) (cond b (withPort c B (f B (c .b))) c)) A ≡ cond a (f A (c .a)) (c .a)

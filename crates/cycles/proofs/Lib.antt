@@ -1,1 +1,3 @@
 pub mod WriteByMasks
+pub mod AfterRead
+pub mod AfterWrite

@@ -1,6 +1,5 @@
 pub mod Tables
 pub mod Accepted
-pub mod Writes
 pub mod Surroundings
 pub mod Story
 pub mod Moved

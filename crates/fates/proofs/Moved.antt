@@ -6,12 +6,11 @@ use Prim.Native.Nat.{ℕ}
 use lib.Dec.{T}
 use Rattle.channel.specs.declared.Side.{Side}
 use Rattle.channel.specs.declared.Fill.{Fill}
-use Rattle.channel.specs.declared.Fill.the-variants.{Empty, Waiting, Fetching}
 use Rattle.channel.specs.declared.Tally.{Tally}
 use Rattle.channel.specs.declared.Channel.{Channel}
 use Rattle.channel.specs.Channel.{isWaiting, next}
 use Rattle.channel.specs.Moves.{afterOffer, afterHandOver, afterEndRead, afterClear}
-use Rattle.channel.proofs.Left.{offer-waits, hand-over-leaves, hand-over-counts, end-read-empties, clear-empties}
+use Rattle.channel.proofs.Left.{offer-waits, offer-latches, offer-counts, hand-over-leaves, hand-over-keeps, hand-over-counts, end-read-empties, end-read-keeps, end-read-counts, clear-empties, clear-zeroes, clear-counts}
 use Rattle.fates.specs.Deeds.{Deed, offered, taken, ended, clearedAway, nothing}
 use Rattle.fates.specs.Bytes.{Fate, handedOver, overwritten, swallowed, cleared, waiting, same}
 use Rattle.fates.proofs.Story.{emptied, fillAfter, fateBy}
@@ -40,16 +39,10 @@ latchAfter l clearedAway = 0
 latchAfter l nothing = l
 
 pub moved-latch : (s : Side) (ch : Channel) (d : Deed) → moved s ch d .latch ≡ latchAfter (ch .latch) d
-unfolding afterOffer afterHandOver afterEndRead afterClear
-moved-latch s ch (offered v) = refl
-moved-latch s ch taken = go (ch .fill) refl
-  where
-    go : (f : Fill) → ch .fill ≡ f → afterHandOver ch (emptied s) .latch ≡ ch .latch
-    go Empty e = rw (e)
-    go Waiting e = rw (e)
-    go Fetching e = rw (e)
-moved-latch s ch ended = refl
-moved-latch s ch clearedAway = refl
+moved-latch s ch (offered v) = offer-latches ch v
+moved-latch s ch taken = hand-over-keeps ch (emptied s)
+moved-latch s ch ended = end-read-keeps ch
+moved-latch s ch clearedAway = clear-zeroes ch
 moved-latch s ch nothing = refl
 
 -- The tally of a fate; bytes that wait are not counted in one.
@@ -76,13 +69,18 @@ abbrev pub Counts : Side → Channel → Deed → Fate → Type 0
 Counts s ch d f = tallyFor f (moved s ch d .tally) ≡ next (gives f (ch .fill) d) (tallyFor f (ch .tally))
 
 pub moved-tallies : (s : Side) (ch : Channel) (d : Deed) (f : Fate) → same f waiting ≡ false → Counts s ch d f
-unfolding afterOffer afterEndRead afterClear
-moved-tallies s ch (offered v) = by-tallied-fate (Counts s ch (offered v)) refl refl refl refl
+moved-tallies s ch (offered v) =
+    let k = offer-counts ch v in
+    by-tallied-fate (Counts s ch (offered v)) (rw (k)) (rw (k)) (rw (k)) (rw (k))
 moved-tallies s ch taken =
     let k = hand-over-counts ch (emptied s) in
     by-tallied-fate (Counts s ch taken) (rw (k)) (rw (k)) (rw (k)) (rw (k))
-moved-tallies s ch ended = by-tallied-fate (Counts s ch ended) refl refl refl refl
-moved-tallies s ch clearedAway = by-tallied-fate (Counts s ch clearedAway) refl refl refl refl
+moved-tallies s ch ended =
+    let k = end-read-counts ch in
+    by-tallied-fate (Counts s ch ended) (rw (k)) (rw (k)) (rw (k)) (rw (k))
+moved-tallies s ch clearedAway =
+    let k = clear-counts ch in
+    by-tallied-fate (Counts s ch clearedAway) (rw (k)) (rw (k)) (rw (k)) (rw (k))
 moved-tallies s ch nothing = by-tallied-fate (Counts s ch nothing) refl refl refl refl
 
 -- A byte is offered by the deed of that name alone.
@@ -94,9 +92,8 @@ offers clearedAway = false
 offers nothing = false
 
 pub moved-offered : (s : Side) (ch : Channel) (d : Deed) → moved s ch d .tally .offered ≡ next (offers d) (ch .tally .offered)
-unfolding afterOffer afterEndRead afterClear
-moved-offered s ch (offered v) = refl
+moved-offered s ch (offered v) = rw (offer-counts ch v)
 moved-offered s ch taken = rw (hand-over-counts ch (emptied s))
-moved-offered s ch ended = refl
-moved-offered s ch clearedAway = refl
+moved-offered s ch ended = rw (end-read-counts ch)
+moved-offered s ch clearedAway = rw (clear-counts ch)
 moved-offered s ch nothing = refl

@@ -1,6 +1,6 @@
 -- Where the history says that an event takes a byte from a channel, the read answers the channel's latch, or the chip drives the port
 -- with it.
--- Rests on Tables, Accepted and Followed, on laws' OwnPort, control's Strobed and the step's ByKind and Outcome.
+-- Rests on Tables, Accepted and Followed, on laws' OwnPort, ports' Strobed, levels' After and the step's ByKind and Outcome.
 use mathlib.Core.Path.{_≡_, _∙_, refl, ap, sym, subst}
 use mathlib.Core.Bool.{Bool, true, false, cond, _&&_}
 use Prim.Native.Nat.{ℕ}
@@ -9,15 +9,17 @@ use borrow.Author.Tests.{not-true}
 use Rattle.bits.specs.Bit.{bitOf}
 use Rattle.control.specs.declared.Group.{Group}
 use Rattle.control.specs.declared.Group.the-variants.{A, B}
-use Rattle.control.specs.Mode.{modeOf, outputOf}
-use Rattle.control.proofs.Strobed.{giving-is-output}
+use Rattle.control.specs.Mode.{strobedOutput}
 use Rattle.channel.specs.declared.Side.{Side}
 use Rattle.channel.specs.declared.Side.the-variants.{Input, Output}
 use Rattle.chip.specs.declared.Chip.{Chip}
+use Rattle.chip.specs.State.{portOf}
 use Rattle.chip.specs.Handshakes.{ownAddress}
-use Rattle.levels.specs.Levels.{levelledLines, levelled}
-use Rattle.ports.specs.Reads.{readPort, readOf}
-use Rattle.ports.specs.Pins.{drivesPort, pinsOfPort}
+use Rattle.levels.specs.Levels.{levelled}
+use Rattle.levels.proofs.After.{levelled-word, levelled-lines}
+use Rattle.ports.specs.Reads.{readOf}
+use Rattle.ports.specs.Pins.{drivesPort}
+use Rattle.ports.proofs.Strobed.{strobed-reads, acknowledge-drives, driven-shows}
 use Rattle.step.specs.declared.Stepped.{Stepped}
 use Rattle.step.proofs.ByKind.{by-kind}
 use Rattle.step.proofs.Outcome.{step-accepts}
@@ -27,7 +29,7 @@ use Rattle.fates.specs.Kinds.{named, accepts}
 use Rattle.fates.specs.Around.{brought}
 use Rattle.fates.specs.Deeds.{Deed, offered, taken, ended, clearedAway, nothing, portNumber, levelsOn, strobePin, strobes, readRuns, writeRuns, falls, when, ownDeed, clears, deed}
 use Rattle.fates.specs.Promise.{aroundOf, Shows}
-use Rattle.fates.proofs.Tables.{own-same, strobes-same}
+use Rattle.fates.proofs.Tables.{own-same, line-same, strobes-same}
 use Rattle.fates.proofs.Accepted.{no-kind-accepted, accepted-number}
 use Rattle.fates.proofs.Moved.{latchAfter}
 use Rattle.fates.proofs.Followed.{after, latch, next-latch}
@@ -72,8 +74,8 @@ module _ (c : Chip) (g : Group) where
 
   -- A strobed input reads as its latch.
   input-reads : strobes word g Input ≡ true → (x : ℕ) → eqb x (portNumber g) ≡ true → readOf c x ≡ latch g Input c
-  unfolding readPort
-  input-reads on x own = own-read c x g (sym (own-same x g) ∙ own) ∙ rw (sym (strobes-same word g Input) ∙ on)
+  input-reads on x own =
+      own-read c x g (sym (own-same x g) ∙ own) ∙ strobed-reads word g (portOf (c .core) g) (sym (strobes-same word g Input) ∙ on)
 
   begun-shows : (x d : ℕ) → accepts (c .phase) (named (event 1 x d)) ≡ true → strobes word g Input ≡ true → eqb x (portNumber g) ≡ true
       → Takes Input (event 1 x d)
@@ -90,19 +92,6 @@ module _ (c : Chip) (g : Group) where
       (λ ok on. never _ (falls g Input (aroundOf c) x d) (offered (levelsOn g (aroundOf c))) tt)
       (λ k above ok on. absurd (no-kind-accepted (c .phase) k x d above ok))
       k
-
-  -- The chip drives the lines of a strobed output as long as its ACK is low.
-  drives : (d : ℕ) → strobes word g Output ≡ true → bitOf d (strobePin g Output) ≡ false → drivesPort (levelledLines (c .core) d) g ≡ true
-  unfolding drivesPort levelledLines
-  drives d on low = go g (giving-is-output word g (sym (strobes-same word g Output) ∙ on)) low
-    where
-      either : (two out : Bool) → out ≡ true → cond two true out ≡ true
-      either true out e = refl
-      either false out e = e
-
-      go : (g : Group) → outputOf word g ≡ true → bitOf d (strobePin g Output) ≡ false → drivesPort (levelledLines (c .core) d) g ≡ true
-      go A out low = rw (low) (either (eqb (modeOf word A) 2) (outputOf word A) out)
-      go B out low = out
 
   -- An event that may take the byte leaves the latch.
   latch-stays : (l : ℕ) (b : Bool) (d : Deed) → latchAfter l d ≡ l → latchAfter l (when b d) ≡ l
@@ -124,21 +113,22 @@ module _ (c : Chip) (g : Group) where
         next-latch g Output c (event 5 x d) on
         ∙ latch-stays _ (ltb x 3) _ (latch-stays _ (strobes word g Output) _ (latch-stays _ (falls g Output (aroundOf c) x d) taken refl))
 
+    -- ACK is low in the chip that is left.
     driven-left : drivesPort (left .core) g ≡ true
-    unfolding levelled
     driven-left =
         let lines = both (eqb x 2) _ fell in
         let low = not-true (bitOf d (strobePin g Output)) (both (bitOf (c .core .c .outside) (strobePin g Output)) _ (lines .1) .1) in
         ap (λ (r : Stepped). drivesPort (r .chip .core) g) (step-accepts c 5 x d (accepted-number (c .phase) 5 x d ok))
-        ∙ rw (lines .0) (drives d on low)
+        ∙ acknowledge-drives (levelled (c .core) x d) g
+        (ap (λ w. strobedOutput w g) (levelled-word (c .core) x d) ∙ sym (strobes-same word g Output) ∙ on)
+        (rw (levelled-lines (c .core) x d, lines .0, ← line-same g Output) (low))
 
     fall-shows : Takes Output (event 5 x d)
-    unfolding pinsOfPort
     fall-shows = (
       on,
       (
         rw (step-accepts c 5 x d (accepted-number (c .phase) 5 x d ok)),
-        own-pins left (portNumber g) g (own-port g) ∙ rw (driven-left, latch-left),
+        own-pins left (portNumber g) g (own-port g) ∙ rw (driven-left, driven-shows (portOf (left .core) g), latch-left),
       ),
     )
 

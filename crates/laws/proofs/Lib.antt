@@ -1,7 +1,7 @@
 pub mod Refusals
 pub mod ChannelPins
 pub mod Interrupts
-pub mod PortsAfter
+pub mod FlagAfter
 pub mod InputFlag
 pub mod OutputFlag
 pub mod ModeWords

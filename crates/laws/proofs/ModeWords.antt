@@ -1,7 +1,7 @@
 -- Every mode word, the same one again included, and a reset make the chip anew; after a reset every pin is an input ("State",
 -- "Mode words").
--- Rests on the channel's Left and on the step's Ends and Outcome.
-use mathlib.Core.Path.{_≡_, refl}
+-- Rests on the channel's Left, settings' After and the step's Ends.
+use mathlib.Core.Path.{_≡_, _∙_, refl, ap}
 use mathlib.Core.Bool.{Bool, true, false, cond}
 use Prim.Native.Nat.{ℕ, _<_}
 use lib.Dec.{eqb}
@@ -10,21 +10,20 @@ use Rattle.bits.proofs.Tested.{numbers}
 use Rattle.control.specs.declared.Group.{Group}
 use Rattle.control.specs.declared.Group.the-variants.{A, B}
 use Rattle.control.specs.Mode.{modeOf, inputOf, upperInput, lowerInput, strobedInput, outputOf}
-use Rattle.control.specs.Word.{controlOf}
 use Rattle.roles.specs.Role.{input, number, usesOf, freeRole, roleOf}
 use Rattle.roles.proofs.PinByMasks.{number-one}
 use Rattle.channel.specs.declared.Side.{Side}
 use Rattle.channel.specs.declared.Side.the-variants.{Input, Output}
 use Rattle.channel.specs.declared.Fill.the-variants.{Empty}
 use Rattle.channel.specs.Channel.{isWaiting, counted, cleared}
-use Rattle.channel.specs.Moves.{afterClear}
+use Rattle.channel.proofs.Left.{clear-empties, clear-zeroes, clear-counts}
 use Rattle.chip.specs.declared.Phase.the-variants.{Idle, Writing}
 use Rattle.chip.specs.declared.Core.{Core}
 use Rattle.chip.specs.declared.Chip.{Chip}
-use Rattle.chip.specs.State.{portOf, channelOf}
+use Rattle.chip.specs.State.{noEnables, portOf, channelOf}
 use Rattle.chip.specs.Handshakes.{enableOf}
 use Rattle.settings.specs.Renewed.{clearedPort, renewed}
-use Rattle.settings.specs.Commanded.{commanded}
+use Rattle.settings.proofs.After.{renewed-channel, renewed-word, renewed-ports, renewed-lines, renewed-latch, renewed-enables, mode-word}
 use Rattle.cycles.specs.Write.{written}
 use Rattle.ports.specs.Reads.{readPort}
 use Rattle.ports.specs.Pins.{drivesPort, pinsOfPort, pinsOfLines, pinsOf}
@@ -45,35 +44,22 @@ pub record Anew (before : Core) (w : ℕ) (after : Core) : Type 0 where
   pub linesLevels : after .c .outside ≡ before .c .outside
 
 anew : (c : Core) (w : ℕ) → Anew c w (renewed c w)
-unfolding renewed clearedPort afterClear
 anew c w = record {
-  word = refl;
-  empty = λ g s. all-clear g s .0;
-  latches = λ g s. all-clear g s .1;
-  lines = refl;
-  enables = off;
-  tallies = λ g s. all-clear g s .2;
-  levels = stay;
-  linesLevels = refl;
+  word = renewed-word c w;
+  empty = λ g s. ap (λ ch. ch .fill) (renewed-channel c w g s) ∙ clear-empties (channelOf c g s);
+  latches = λ g s. ap (λ ch. ch .latch) (renewed-channel c w g s) ∙ clear-zeroes (channelOf c g s);
+  lines = renewed-latch c w;
+  enables = λ g s. rw (renewed-enables c w) (off g s);
+  tallies = λ g s. ap (λ ch. ch .tally) (renewed-channel c w g s) ∙ clear-counts (channelOf c g s);
+  levels = renewed-ports c w;
+  linesLevels = renewed-lines c w;
 }
   where
-    all-clear : (g : Group) (s : Side)
-        → (channelOf (renewed c w) g s .fill ≡ Empty) × (channelOf (renewed c w) g s .latch ≡ 0)
-        × (channelOf (renewed c w) g s .tally ≡ counted cleared (isWaiting (channelOf c g s .fill)) (channelOf c g s .tally))
-    all-clear A Input = (refl, refl, refl)
-    all-clear A Output = (refl, refl, refl)
-    all-clear B Input = (refl, refl, refl)
-    all-clear B Output = (refl, refl, refl)
-
-    off : (g : Group) (s : Side) → enableOf (renewed c w .inte) g s ≡ false
+    off : (g : Group) (s : Side) → enableOf noEnables g s ≡ false
     off A Input = refl
     off A Output = refl
     off B Input = refl
     off B Output = refl
-
-    stay : (g : Group) → portOf (renewed c w) g .outside ≡ portOf c g .outside
-    stay A = refl
-    stay B = refl
 
 -- A mode word, whatever the last one was.
 pub record Obeyed (c : Chip) (w : ℕ) (after : Chip) (number byte : ℕ) : Type 0 where
@@ -82,14 +68,14 @@ pub record Obeyed (c : Chip) (w : ℕ) (after : Chip) (number byte : ℕ) : Type
   pub taken : number ≡ 0
   pub silent : byte ≡ 0
 
-mode-word : (c : Core) (w : ℕ) → bitOf w 7 ≡ true → written c 3 w ≡ renewed c w
-unfolding written commanded controlOf
-mode-word c w set = rw (set)
+mode-write : (c : Core) (w : ℕ) → bitOf w 7 ≡ true → written c 3 w ≡ renewed c w
+unfolding written
+mode-write c w set = mode-word c w set
 
 pub mode-word-renews : (c : Chip) (w x d : ℕ) → c .phase ≡ Writing 3 w → bitOf w 7 ≡ true
     → Obeyed c w (stepOf c 4 x d .chip) (stepOf c 4 x d .number) (stepOf c 4 x d .byte)
 mode-word-renews c w x d phase set =
-    rw (write-ends c 3 w x d phase, mode-word (c .core) w set) (record { idle = refl; core = anew (c .core) w; taken = refl; silent = refl })
+    rw (write-ends c 3 w x d phase, mode-write (c .core) w set) (record { idle = refl; core = anew (c .core) w; taken = refl; silent = refl })
 
 -- The same word again.
 pub same-word-renews : (c : Chip) (x d : ℕ) → c .phase ≡ Writing 3 (c .core .word) → bitOf (c .core .word) 7 ≡ true

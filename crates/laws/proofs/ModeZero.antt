@@ -1,7 +1,7 @@
 -- Mode 0: outputs are latched and inputs are not ("Writes and bit set/reset", "Reads and pins").
--- Rests on PortsAfter, chip's OnPort, and the step's Ends and Outcome.
+-- Rests on OwnPort, cycles' AfterWrite, levels' After, and the step's Ends and Outcome.
 use mathlib.Core.Path.{_≡_, _∙_, refl, ap, sym}
-use mathlib.Core.Bool.{Bool, true, false, cond, not}
+use mathlib.Core.Bool.{true, false, not, and-false}
 use Prim.Native.Nat.{ℕ}
 use lib.Dec.{eqb}
 use Rattle.control.specs.declared.Group.{Group}
@@ -11,18 +11,18 @@ use Rattle.chip.specs.declared.Phase.the-variants.{Writing}
 use Rattle.chip.specs.declared.Port.{Port}
 use Rattle.chip.specs.declared.Core.{Core}
 use Rattle.chip.specs.declared.Chip.{Chip}
-use Rattle.chip.specs.State.{portOf, onPort}
+use Rattle.chip.specs.State.{portOf}
 use Rattle.chip.specs.Handshakes.{ownAddress}
-use Rattle.chip.proofs.OnPort.{port-on, word-on}
-use Rattle.cycles.specs.Write.{storedBy, written}
-use Rattle.levels.specs.Levels.{edged, levelledLines, levelled}
+use Rattle.cycles.specs.Write.{written}
+use Rattle.cycles.proofs.AfterWrite.{own-stored}
+use Rattle.levels.specs.Levels.{levelled}
+use Rattle.levels.proofs.After.{levelled-output, levelled-word, levelled-ports}
 use Rattle.ports.specs.Reads.{readPort, readOf}
 use Rattle.ports.specs.Pins.{drivesPort, pinsOfPort, pinsOf}
 use Rattle.step.specs.Step.{stepOf}
 use Rattle.step.proofs.Ends.{write-ends}
 use Rattle.step.proofs.Outcome.{step-accepts, step-either}
-use Rattle.laws.proofs.PortsAfter.{storing, under, word-levelled, edges-of}
-use Rattle.laws.proofs.OwnPort.{own-write, own-levels, own-accepted, own-pins, own-read}
+use Rattle.laws.proofs.OwnPort.{own-accepted, own-pins, own-read}
 
 module _ (w : ℕ) (g : Group) (zero : modeOf w g ≡ 0) where
   quiet-in : strobedInput w g ≡ false
@@ -50,40 +50,29 @@ shows-latch c g p zero out = rw (driven-by-direction c g zero, out)
 -- The end of a write to an output shows its byte.
 stored-latch : (c : Core) (a b : ℕ) (g : Group) → ownAddress a g ≡ true → modeOf (c .word) g ≡ 0 → inputOf (c .word) g ≡ false
     → portOf (written c a b) g .output .latch ≡ b
-unfolding storedBy
 stored-latch c a b g own zero out =
-    rw (own-write c a b g own, port-on c a (storing c b) g, own, output-by-direction (c .word) g zero, out, quiet-out (c .word) g zero)
-
-word-stored : (c : Core) (a b : ℕ) (g : Group) → ownAddress a g ≡ true → written c a b .word ≡ c .word
-word-stored c a b g own = rw (own-write c a b g own) (word-on c a (storing c b))
+    ap (λ ch. ch .latch) (own-stored c a b g own .output g)
+    ∙ rw (own, output-by-direction (c .word) g zero, out, quiet-out (c .word) g zero)
 
 pub output-shows : (c : Chip) (g : Group) (a b x d : ℕ) → c .phase ≡ Writing a b → ownAddress a g ≡ true
     → modeOf (c .core .word) g ≡ 0 → inputOf (c .core .word) g ≡ false
     → pinsOf (stepOf c 4 x d .chip) a ≡ record { levels = b; driven = 0xff }
 output-shows c g a b x d phase own zero out =
-    let same = word-stored (c .core) a b g own in
+    let same = own-stored (c .core) a b g own .around .word in
     rw (write-ends c a b x d phase)
     (own-pins _ a g own ∙ shows-latch (written (c .core) a b) g _ (rw (same) (zero)) (rw (same) (out))
     ∙ ap (λ (l : ℕ). record { levels = l; driven = 0xff }) (stored-latch (c .core) a b g own zero out))
 
 -- What is shown stays, whatever levels are put on any port from outside.
 held-latch : (c : Core) (g : Group) (x d : ℕ) → modeOf (c .word) g ≡ 0 → portOf (levelled c x d) g .output .latch ≡ portOf c g .output .latch
-unfolding levelled edged
-held-latch c g x d zero = go (eqb x 2)
-  where
-    go : (b : Bool) → portOf (cond b (levelledLines c d) (onPort c x (under d))) g .output .latch ≡ portOf c g .output .latch
-    go true = rw (edges-of c d g, quiet-out (c .word) g zero)
-    go false = rw (port-on c x (under d) g) (either (ownAddress x g))
-      where
-        either : (own : Bool) → cond own (under d g (portOf c g)) (portOf c g) .output .latch ≡ portOf c g .output .latch
-        either true = refl
-        either false = refl
+held-latch c g x d zero =
+    ap (λ ch. ch .latch) (levelled-output c x d g) ∙ rw (quiet-out (c .word) g zero, and-false (eqb x 2))
 
 pub output-held : (c : Chip) (g : Group) (a x d : ℕ) → ownAddress a g ≡ true → modeOf (c .core .word) g ≡ 0 → inputOf (c .core .word) g ≡ false
     → pinsOf (stepOf c 5 x d .chip) a ≡ pinsOf c a
 output-held c g a x d own zero out =
     step-either (λ c′. pinsOf c′ a ≡ pinsOf c a) c 5 x d refl
-    (λ ok. let same = word-levelled (c .core) x d in
+    (λ ok. let same = levelled-word (c .core) x d in
     own-pins _ a g own ∙ shows-latch (levelled (c .core) x d) g _ (rw (same) (zero)) (rw (same) (out))
     ∙ ap (λ (l : ℕ). record { levels = l; driven = 0xff }) (held-latch (c .core) g x d zero)
     ∙ sym (own-pins c a g own ∙ shows-latch (c .core) g (portOf (c .core) g) zero out))
@@ -98,6 +87,6 @@ input-reads-outside c g a own zero taking =
 pub input-follows : (c : Chip) (g : Group) (a d : ℕ) → ownAddress a g ≡ true → modeOf (c .core .word) g ≡ 0 → inputOf (c .core .word) g ≡ true
     → readOf (stepOf c 5 a d .chip) a ≡ d
 input-follows c g a d own zero taking =
-    let same = word-levelled (c .core) a d in
+    let same = levelled-word (c .core) a d in
     rw (step-accepts c 5 a d (own-accepted (c .phase) a g own))
-    (input-reads-outside _ g a own (rw (same) (zero)) (rw (same) (taking)) ∙ rw (own-levels (c .core) a d g own, port-on (c .core) a (under d) g, own))
+    (input-reads-outside _ g a own (rw (same) (zero)) (rw (same) (taking)) ∙ rw (levelled-ports (c .core) a d g, own))

@@ -13,7 +13,6 @@ use Rattle.bits.proofs.BitLaws.{bit-of-with}
 use Rattle.control.specs.declared.Group.{Group}
 use Rattle.control.specs.declared.Group.the-variants.{A, B}
 use Rattle.control.specs.Mode.{modeOf, inputOf, upperInput, lowerInput}
-use Rattle.control.specs.Word.{controlOf}
 use Rattle.roles.specs.Role.{Role, input, output, INTR, IBF, OBF, STB, ACK, number, usesOf, freeRole, roleOf}
 use Rattle.roles.proofs.SameWords.{role-as-byte}
 use Rattle.channel.specs.declared.Side.{Side}
@@ -24,7 +23,8 @@ use Rattle.chip.specs.declared.Core.{Core}
 use Rattle.chip.specs.declared.Chip.{Chip}
 use Rattle.chip.specs.State.{portOf, withEnables}
 use Rattle.chip.specs.Handshakes.{groupAt, lineOf, enableOf}
-use Rattle.settings.specs.Commanded.{enabled, setAs, pinSet, commanded}
+use Rattle.settings.specs.Commanded.{enabled, setAs, pinSet}
+use Rattle.settings.proofs.After.{bit-word}
 use Rattle.cycles.specs.Write.{written}
 use Rattle.step.specs.Step.{stepOf}
 use Rattle.step.proofs.Ends.{write-ends}
@@ -135,15 +135,15 @@ module _ (c : Core) (n : ℕ) (v : Bool) (hn : n < 8) where
   unfolding pinSet
   one-pin = by-role (roleOf (c .word) n) refl
 
-bit-word : (c : Core) (d : ℕ) → bitOf d 7 ≡ false → written c 3 d ≡ pinSet c (d / 2 % 8) (bitOf d 0)
-unfolding written commanded controlOf
-bit-word c d clear = rw (clear)
+set-word : (c : Core) (d : ℕ) → bitOf d 7 ≡ false → written c 3 d ≡ pinSet c (d / 2 % 8) (bitOf d 0)
+unfolding written
+set-word c d clear = bit-word c d clear
 
 -- The end of a write of a control word with bit 7 clear.
 pub bit-set-changes-one : (c : Chip) (b x d : ℕ) → c .phase ≡ Writing 3 b → bitOf b 7 ≡ false
     → OnePin (c .core) (b / 2 % 8) (bitOf b 0) (roleOf (c .core .word) (b / 2 % 8)) (stepOf c 4 x d .chip .core)
 bit-set-changes-one c b x d phase clear =
-    rw (write-ends c 3 b x d phase, bit-word (c .core) b clear) (one-pin (c .core) (b / 2 % 8) (bitOf b 0) (omega arith))
+    rw (write-ends c 3 b x d phase, set-word (c .core) b clear) (one-pin (c .core) (b / 2 % 8) (bitOf b 0) (omega arith))
 
 -- It leaves both ports alone.
 pub one-port : {c : Core} {n : ℕ} {v : Bool} {r : Role} {c′ : Core} → OnePin c n v r c′ → (g : Group) → portOf c′ g ≡ portOf c g

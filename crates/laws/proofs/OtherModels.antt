@@ -1,27 +1,28 @@
 -- The five errors seen in other models, each forbidden in every state. IBF lowered as the read begins: begin-keeps-ibf in InputFlag.
 -- A mode word equal to the last one taken for no change: same-word-renews in ModeWords. The other three are here.
--- Rests on ChannelPins, PortsAfter, chip's OnPort, and the step's Ends and Outcome.
-use mathlib.Core.Path.{_≡_, _∙_, refl, sym, ap₂}
-use mathlib.Core.Bool.{Bool, true, false, cond, _&&_, _||_}
+-- Rests on ChannelPins, Refusals, cycles' AfterRead, bits' BitLaws, and the step's Ends and Outcome.
+use mathlib.Core.Path.{_≡_, _∙_, refl, ap, sym, ap₂}
+use mathlib.Core.Bool.{Bool, true, false, cond, _&&_, _||_, and-false}
 use Prim.Native.Nat.{ℕ, _<_, _≤_}
 use borrow.Author.Tests.{ne-eqb, le-ltb}
 use Rattle.bits.specs.Bit.{bitOf}
 use Rattle.bits.proofs.BitLaws.{bit-of-assembled}
 use Rattle.control.specs.declared.Group.{Group}
 use Rattle.control.specs.declared.Group.the-variants.{A, B}
-use Rattle.control.specs.Mode.{modeOf}
+use Rattle.control.specs.Mode.{modeOf, strobedInput}
 use Rattle.roles.specs.Role.{Role, input, output, INTR, IBF, OBF, STB, ACK, roleOf}
 use Rattle.roles.specs.Pins.{isOutput}
 use Rattle.channel.specs.declared.Side.{Side}
 use Rattle.channel.specs.declared.Side.the-variants.{Input, Output}
+use Rattle.channel.specs.Channel.{flagOf}
 use Rattle.chip.specs.declared.Phase.{Phase}
 use Rattle.chip.specs.declared.Phase.the-variants.{Idle, Reading, Writing}
 use Rattle.chip.specs.declared.Core.{Core}
 use Rattle.chip.specs.declared.Chip.{Chip}
-use Rattle.chip.specs.State.{withLatch}
+use Rattle.chip.specs.State.{channelOf, withLatch}
 use Rattle.chip.specs.Handshakes.{groupAt, strobed, lineOf, enableOf, ownAddress, running}
-use Rattle.chip.proofs.OnPort.{port-on, word-on, lines-on, enables-on}
 use Rattle.cycles.specs.Read.{begunRead}
+use Rattle.cycles.proofs.AfterRead.{begun-input, begun-output, begun-around, begun-enables}
 use Rattle.cycles.specs.Write.{writable, latchWritten, written}
 use Rattle.status.specs.Status.{flagAt, requestOf, intrOf}
 use Rattle.ports.specs.Pins.{levelAs}
@@ -32,7 +33,6 @@ use Rattle.step.proofs.Outcome.{step-either}
 use Rattle.laws.specs.Seen.{pin, told}
 use Rattle.laws.proofs.Refusals.{row-refuses}
 use Rattle.laws.proofs.ChannelPins.{told-enable, pin-by-role}
-use Rattle.laws.proofs.PortsAfter.{fetching}
 
 -- A port C read tells the enable, whatever level STB or ACK has.
 pub read-tells-enable : (c : Chip) (g : Group) (s : Side) → strobed (c .core .word) g s ≡ true
@@ -96,12 +96,18 @@ runs-elsewhere : (x : ℕ) (g : Group) (s : Side) → ownAddress x g ≡ false �
 runs-elsewhere x g Input other = other
 runs-elsewhere x g Output other = refl
 
+-- No channel of the group changes, nor its surroundings.
+elsewhere : (c : Core) (x : ℕ) (g : Group) (s : Side) → ownAddress x g ≡ false → channelOf (begunRead c x) g s ≡ channelOf c g s
+elsewhere c x g Input other = rw (begun-input c x g, other, and-false (strobedInput (c .word) g))
+elsewhere c x g Output other = begun-output c x g
+
 same-request : (c : Chip) (x : ℕ) (g : Group) (s : Side) → c .phase ≡ Idle → ownAddress x g ≡ false
     → requestOf (onBus (Reading x) (begunRead (c .core) x)) g s ≡ requestOf c g s
-unfolding requestOf begunRead
+unfolding requestOf
 same-request c x g s idle other =
-    let f = fetching (c .core) in
-    rw (word-on (c .core) x f, enables-on (c .core) x f, lines-on (c .core) x f, port-on (c .core) x f g, other, idle, runs-elsewhere x g s other)
+    let around = begun-around (c .core) x in
+    let flag : flagAt (begunRead (c .core) x) g s ≡ flagAt (c .core) g s = ap (λ ch. flagOf s (ch .fill)) (elsewhere (c .core) x g s other) in
+    rw (flag, around .word, begun-enables (c .core) x, around .lines, idle, runs-elsewhere x g s other)
 
 pub read-elsewhere-keeps-intr : (c : Chip) (g : Group) (x d : ℕ) → ownAddress x g ≡ false → intrOf (stepOf c 1 x d .chip) g ≡ intrOf c g
 unfolding intrOf

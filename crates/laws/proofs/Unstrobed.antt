@@ -1,37 +1,35 @@
 -- A channel that the mode word does not strobe takes no part in edges and cycles: it keeps its condition and its tallies through
 -- every event but a reset and a mode word ("Events and numbers").
--- Rests on PortsAfter, OnePin, Refusals, chip's OnPort, and the step's ByKind, Ends and Outcome.
+-- Rests on Refusals, chip's Surrounded, cycles' AfterRead and AfterWrite, levels' After, and the step's ByKind, Ends and Outcome.
 use mathlib.Core.Path.{_≡_, _∙_, refl, ap, sym, subst}
-use mathlib.Core.Bool.{Bool, true, false, cond}
+use mathlib.Core.Bool.{Bool, true, false, cond, and-false}
 use Prim.Native.Nat.{ℕ}
-use lib.Dec.{eqb}
-use borrow.Author.Tests.{lt-ltb, eqb-true}
+use lib.Dec.{T, eqb}
+use borrow.Author.Tests.{lt-ltb}
 use Rattle.control.specs.declared.Group.{Group}
-use Rattle.control.specs.Mode.{strobedInput, outputOf}
+use Rattle.control.specs.Mode.{outputOf}
 use Rattle.channel.specs.declared.Side.{Side}
 use Rattle.channel.specs.declared.Side.the-variants.{Input, Output}
-use Rattle.channel.specs.declared.Fill.the-variants.{Fetching}
 use Rattle.channel.specs.declared.Channel.{Channel}
-use Rattle.channel.specs.Moves.{afterHandOver, afterEndRead}
 use Rattle.chip.specs.declared.Phase.{Phase}
 use Rattle.chip.specs.declared.Phase.the-variants.{Idle, Reading, Writing}
-use Rattle.chip.specs.declared.Port.{Port}
 use Rattle.chip.specs.declared.Core.{Core}
 use Rattle.chip.specs.declared.Chip.{Chip}
-use Rattle.chip.specs.State.{sideOf, portOf, channelOf, withLatch, onPort}
+use Rattle.chip.specs.State.{sideOf, channelOf}
 use Rattle.chip.specs.Handshakes.{strobed, ownAddress}
-use Rattle.chip.proofs.OnPort.{port-on}
+use Rattle.chip.proofs.Surrounded.{spared-port}
 use Rattle.cycles.specs.Read.{begunRead, endedRead}
-use Rattle.cycles.specs.Write.{storedBy, latchWritten, written}
-use Rattle.levels.specs.Levels.{edged, levelledLines, levelled}
+use Rattle.cycles.specs.Write.{storedIn, written}
+use Rattle.cycles.proofs.AfterRead.{begun-input, begun-output, ended-input, ended-output}
+use Rattle.cycles.proofs.AfterWrite.{Stored, by-address}
+use Rattle.levels.specs.Levels.{levelled}
+use Rattle.levels.proofs.After.{levelled-input, levelled-output}
 use Rattle.step.specs.Step.{stepOf}
 use Rattle.step.proofs.ByKind.{by-kind}
 use Rattle.step.proofs.Ends.{read-ends, write-ends}
 use Rattle.step.proofs.Outcome.{step-refuses, step-either}
 use Rattle.laws.specs.Seen.{makesAnew}
 use Rattle.laws.proofs.Refusals.{row-refuses}
-use Rattle.laws.proofs.OnePin.{one-port, bit-set-changes-one}
-use Rattle.laws.proofs.PortsAfter.{readBy, fetching, finishing, storing, under, edges-of, ports-under-latch}
 
 -- Condition and tallies as they were; the latch may change, as a mode 0 write changes it.
 pub record Kept (before after : Channel) : Type 0 where
@@ -41,65 +39,38 @@ pub record Kept (before after : Channel) : Type 0 where
 as-it-was : (ch : Channel) → Kept ch ch
 as-it-was ch = record { fill = refl; tally = refl }
 
+-- A channel that is the same is kept.
+kept : {before after : Channel} → after ≡ before → Kept before after
+kept same = record { fill = ap (λ ch. ch .fill) same; tally = ap (λ ch. ch .tally) same }
+
 module _ (c : Core) (g : Group) where
-  abbrev port : Port
-  port = portOf c g
+  kept-begun : (s : Side) → strobed (c .word) g s ≡ false → (x : ℕ) → Kept (channelOf c g s) (channelOf (begunRead c x) g s)
+  kept-begun Input off x = kept (begun-input c x g ∙ rw (off))
+  kept-begun Output off x = kept (begun-output c x g)
 
-  -- A rule at an address, and one that acts under a condition.
-  kept-on : (s : Side) (x : ℕ) (f : Group → Port → Port) → Kept (sideOf port s) (sideOf (f g port) s) → Kept (channelOf c g s) (channelOf (onPort c x f) g s)
-  kept-on s x f kept = subst (λ (p : Port). Kept (sideOf port s) (sideOf p s)) (sym (port-on c x f g)) (go (ownAddress x g))
+  kept-ended : (s : Side) → strobed (c .word) g s ≡ false → (x : ℕ) → Kept (channelOf c g s) (channelOf (endedRead c x) g s)
+  kept-ended Input off x = kept (ended-input c x g ∙ rw (off))
+  kept-ended Output off x = kept (ended-output c x g)
+
+  kept-levelled : (s : Side) → strobed (c .word) g s ≡ false → (x d : ℕ) → Kept (channelOf c g s) (channelOf (levelled c x d) g s)
+  kept-levelled Input off x d = kept (levelled-input c x d g ∙ rw (off, and-false (eqb x 2)))
+  kept-levelled Output off x d = kept (levelled-output c x d g ∙ rw (off, and-false (eqb x 2)))
+
+  kept-stored : (s : Side) → strobed (c .word) g s ≡ false → (x d : ℕ) (c′ : Core) → Stored c′ c x d → Kept (channelOf c g s) (channelOf c′ g s)
+  kept-stored Input off x d c′ k = kept (k .input g)
+  kept-stored Output off x d c′ k = rw (k .output g, off) (go (outputOf (c .word) g) (ownAddress x g))
     where
-      go : (own : Bool) → Kept (sideOf port s) (sideOf (cond own (f g port) port) s)
-      go true = kept
-      go false = as-it-was (sideOf port s)
+      go : (out own : Bool) → Kept (channelOf c g Output) (cond own (cond out (storedIn (channelOf c g Output) false d) (channelOf c g Output)) (channelOf c g Output))
+      go true true = record { fill = refl; tally = refl }
+      go false true = as-it-was (channelOf c g Output)
+      go out false = as-it-was (channelOf c g Output)
 
-  kept-if : (s : Side) (b : Bool) (p : Port) → Kept (sideOf port s) (sideOf p s) → Kept (sideOf port s) (sideOf (cond b p port) s)
-  kept-if s true p kept = kept
-  kept-if s false p kept = as-it-was (sideOf port s)
-
-  kept-reading : (move : Channel → Channel) (s : Side) → strobed (c .word) g s ≡ false → Kept (sideOf port s) (sideOf (readBy move c g port) s)
-  kept-reading move Input off = rw (off) (as-it-was (port .input))
-  kept-reading move Output off = kept-if Output (strobedInput (c .word) g) _ (as-it-was (port .output))
-
-  kept-storing : (s : Side) (d : ℕ) → strobed (c .word) g s ≡ false → Kept (sideOf port s) (sideOf (storing c d g port) s)
-  unfolding storedBy
-  kept-storing Input d off = kept-if Input (outputOf (c .word) g) _ (as-it-was (port .input))
-  kept-storing Output d off = rw (off) (kept-if Output (outputOf (c .word) g) _ (record { fill = refl; tally = refl }))
-
-  kept-edges : (s : Side) (d : ℕ) → strobed (c .word) g s ≡ false → Kept (sideOf port s) (sideOf (portOf (levelledLines c d) g) s)
-  unfolding edged
-  kept-edges Input d off = rw (edges-of c d g, off) (as-it-was (port .input))
-  kept-edges Output d off = rw (edges-of c d g, off) (as-it-was (port .output))
-
-  module _ (s : Side) (off : strobed (c .word) g s ≡ false) where
-    kept-begun : (x : ℕ) → Kept (channelOf c g s) (channelOf (begunRead c x) g s)
-    unfolding begunRead
-    kept-begun x = kept-on s x (fetching c) (kept-reading (λ ch. afterHandOver ch Fetching) s off)
-
-    kept-ended : (x : ℕ) → Kept (channelOf c g s) (channelOf (endedRead c x) g s)
-    unfolding endedRead
-    kept-ended x = kept-on s x (finishing c) (kept-reading afterEndRead s off)
-
-    kept-levelled : (x d : ℕ) → Kept (channelOf c g s) (channelOf (levelled c x d) g s)
-    unfolding levelled
-    kept-levelled x d = go (eqb x 2)
-      where
-        same : (s : Side) → Kept (sideOf port s) (sideOf (under d g port) s)
-        same Input = as-it-was (port .input)
-        same Output = as-it-was (port .output)
-
-        go : (b : Bool) → Kept (channelOf c g s) (channelOf (cond b (levelledLines c d) (onPort c x (under d))) g s)
-        go true = kept-edges s d off
-        go false = kept-on s x (under d) (same s)
-
-    kept-written : (a b : ℕ) → eqb a 3 ≡ false → Kept (channelOf c g s) (channelOf (written c a b) g s)
-    unfolding written
-    kept-written a b other = rw (other) (go (eqb a 2))
-      where
-        go : (lines : Bool) → Kept (channelOf c g s) (channelOf (cond lines (withLatch c (latchWritten (c .word) (c .c .latch) b)) (onPort c a (storing c b))) g s)
-        go true =
-            subst (λ (p : Port). Kept (sideOf port s) (sideOf p s)) (sym (ports-under-latch c (latchWritten (c .word) (c .c .latch) b) g)) (as-it-was (sideOf port s))
-        go false = kept-on s a (storing c b) (kept-storing s b off)
+  kept-written : (s : Side) → strobed (c .word) g s ≡ false → (x d : ℕ) → makesAnew (Writing x d) ≡ false → Kept (channelOf c g s) (channelOf (written c x d) g s)
+  kept-written s off x d other =
+      by-address (λ c′. Kept (channelOf c g s) (channelOf c′ g s)) c x d
+      (λ mode. absurd (subst T (sym mode ∙ other) tt))
+      (λ mode own c′ k. kept (ap (λ p. sideOf p s) (spared-port k g)))
+      (λ mode c′ k. kept-stored s off x d c′ k)
 
 module _ (c : Chip) (g : Group) (s : Side) (off : strobed (c .core .word) g s ≡ false) where
   abbrev Still : Chip → Type 0
@@ -116,13 +87,7 @@ module _ (c : Chip) (g : Group) (s : Side) (off : strobed (c .core .word) g s �
   after-write : (ph : Phase) → c .phase ≡ ph → makesAnew ph ≡ false → (x d : ℕ) → Still (stepOf c 4 x d .chip)
   after-write Idle phase other x d = rw (step-refuses c 4 x d (row-refuses (c .phase) 4 x 4 (rw (phase)))) (still)
   after-write (Reading p) phase other x d = rw (step-refuses c 4 x d (row-refuses (c .phase) 4 x 4 (rw (phase)))) (still)
-  after-write (Writing a b) phase other x d = go (eqb a 3) refl
-    where
-      go : (control : Bool) → eqb a 3 ≡ control → Still (stepOf c 4 x d .chip)
-      go true e =
-          let one = bit-set-changes-one c b x d (phase ∙ ap (λ (a : ℕ). Writing a b) (eqb-true a 3 e)) (sym (rw (e)) ∙ other) in
-          subst (λ (p : Port). Kept (sideOf (portOf (c .core) g) s) (sideOf p s)) (sym (one-port one g)) still
-      go false e = rw (write-ends c a b x d phase) (kept-written (c .core) g s off a b e)
+  after-write (Writing a b) phase other x d = rw (write-ends c a b x d phase) (kept-written (c .core) g s off a b other)
 
   pub unstrobed-stays : (k x d : ℕ) → ¬ (k ≡ 0) → (k ≡ 4 → makesAnew (c .phase) ≡ false) → Still (stepOf c k x d .chip)
   unstrobed-stays k x d =

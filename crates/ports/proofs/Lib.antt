@@ -1,1 +1,2 @@
 pub mod ByMasks
+pub mod Strobed

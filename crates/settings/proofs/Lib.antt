@@ -1,1 +1,2 @@
 pub mod PinByMasks
+pub mod After

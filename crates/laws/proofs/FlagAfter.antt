@@ -1,0 +1,43 @@
+-- The flag of a strobed channel after an event that leaves the mode word, and the falls of its line as the pins show them: the ground of
+-- the theorems on the flags.
+-- Rests on ChannelPins.
+use mathlib.Core.Path.{_≡_, _∙_, refl, sym, subst}
+use mathlib.Core.Bool.{Bool, true, false, cond, not, _&&_}
+use Prim.Native.Nat.{ℕ}
+use Rattle.bits.specs.Bit.{bitOf}
+use Rattle.control.specs.declared.Group.{Group}
+use Rattle.channel.specs.declared.Side.{Side}
+use Rattle.chip.specs.declared.Phase.{Phase}
+use Rattle.chip.specs.declared.Chip.{Chip}
+use Rattle.chip.specs.Handshakes.{strobed, lineOf}
+use Rattle.status.specs.Status.{flagAt}
+use Rattle.levels.specs.Levels.{fallen, lineFalls}
+use Rattle.step.specs.Numbers.{numberOf}
+use Rattle.laws.specs.Seen.{pin, flagPin}
+use Rattle.laws.proofs.ChannelPins.{flag-pin, line-pin}
+
+-- The flag of a chip whose mode word is that of another, which strobes the channel.
+pub flag-under : (c c′ : Chip) (g : Group) (s : Side) → strobed (c .core .word) g s ≡ true
+    → c′ .core .word ≡ c .core .word → pin c′ (flagPin g s) ≡ flagAt (c′ .core) g s
+flag-under c c′ g s on same =
+    flag-pin c′ g s (subst (λ (w : ℕ). strobed w g s ≡ true) (sym same) on)
+
+-- A line that falls, as the pins show it.
+pub line-falls : (c : Chip) (g : Group) (s : Side) (d : ℕ) → strobed (c .core .word) g s ≡ true
+    → pin c (lineOf g s) ≡ true → bitOf d (lineOf g s) ≡ false → lineFalls (c .core) d g s ≡ true
+unfolding fallen
+line-falls c g s d on high low = rw (on, sym (line-pin c g s on) ∙ high, low)
+
+pub line-stays : (c : Chip) (g : Group) (s : Side) (d : ℕ) → strobed (c .core .word) g s ≡ true
+    → (pin c (lineOf g s) && not (bitOf d (lineOf g s))) ≡ false → lineFalls (c .core) d g s ≡ false
+unfolding fallen
+line-stays c g s d on stays = rw (on, ← line-pin c g s on) (stays)
+
+pub levels-accepted : (ph : Phase) → numberOf ph 5 2 ≡ 0
+unfolding numberOf
+levels-accepted ph = refl
+
+-- What holds either way.
+pub either-way : {X : Type 0} (P : X → Bool) (v b : Bool) (y n : X) → P y ≡ v → P n ≡ v → P (cond b y n) ≡ v
+either-way P v true y n hy hn = hy
+either-way P v false y n hy hn = hn
