@@ -1,6 +1,6 @@
 -- Each byte handed over is the byte offered: while a byte waits in a strobed channel its latch is that byte, and what takes it shows
 -- the latch.
--- Rests on Story, Moved, Surroundings, Followed and Shown.
+-- Rests on Story, Moved, Surroundings, Followed and Shown, and on the channel's Left.
 use mathlib.Core.Path.{_≡_, _∙_, refl, ap, sym, subst}
 use mathlib.Core.Bool.{Bool, true, false, cond, not}
 use mathlib.Core.List.{List, [], _∷_, _++_}
@@ -82,9 +82,11 @@ module _ (g : Group) (s : Side) where
 other : (f : Fate) → f ≡ handedOver → same f handedOver ≡ false → ⊥
 other f e differs = subst T (sym (ap (λ f. same f handedOver) e) ∙ differs) tt
 
+-- What P says of the place and the value of a byte handed over.
 abbrev HandedOver : (ℕ → ℕ → Type 0) → Byte → Type 0
 HandedOver P b = b .outcome .fate ≡ handedOver → P (b .outcome .place) (b .offer .value)
 
+-- What follows where a byte is taken.
 for-taken : {P Q : Type 0} (d : Deed) → (P → Q) → WhereTaken P d → WhereTaken Q d
 for-taken (offered v) h p = tt
 for-taken taken h p = h p

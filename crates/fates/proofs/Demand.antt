@@ -25,6 +25,7 @@ use Rattle.fates.proofs.ReadsRun.{refused}
 use Rattle.fates.proofs.AsOffered.{as-offered}
 use Rattle.fates.proofs.Discipline.{disciplined-from}
 
+-- What is one or none is at most one.
 at-most : (n : ℕ) (waits : Bool) → n ≡ num waits → n ≤ 1
 at-most n true e = omega (arith, e)
 at-most n false e = omega (arith, e)
@@ -62,6 +63,7 @@ fates B Output es = fates-from B Output powerUp none-counted es
 no-read : (g : Group) → Found g powerUp
 no-read g runs = absurd (refused (strobes 0x9b g Input) runs)
 
+-- The discipline, from power-up.
 pub disciplined : (g : Group) (es : List Event) → Disciplined g atPowerUp powerUp es → NoneLost (bytesOf g Input es)
 disciplined A es kept = disciplined-from A powerUp (no-read A) es kept
 disciplined B es kept = disciplined-from B powerUp (no-read B) es kept

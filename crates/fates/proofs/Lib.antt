@@ -3,7 +3,7 @@ pub mod Accepted
 pub mod Surroundings
 pub mod Story
 pub mod Moved
-pub mod PortMoves
+pub mod Moving
 pub mod Projection
 pub mod Followed
 pub mod Ordered
@@ -14,4 +14,5 @@ pub mod ReadsRun
 pub mod Discipline
 pub mod Demand
 pub mod Examples
+pub mod DisciplineExamples
 pub mod ManyOffers

@@ -1,6 +1,6 @@
 -- Each channel of the chip moves as its own history says: what an event is to the channel, in the history's words, is what the step
 -- does to it. One lemma over the four channels.
--- Rests on Tables, Accepted and PortMoves, and on what the crates below say of each event: settings' After, cycles' AfterRead and
+-- Rests on Tables, Accepted, Moved and Moving, and on what the crates below say of each event: settings' After, cycles' AfterRead and
 -- AfterWrite, levels' After, chip's Surrounded, control's Strobed, the step's ByKind.
 use mathlib.Core.Path.{_≡_, refl}
 use mathlib.Core.Bool.{Bool, true, false}
@@ -35,7 +35,7 @@ use Rattle.fates.specs.Promise.{aroundOf}
 use Rattle.fates.proofs.Tables.{own-same, line-same, strobes-same}
 use Rattle.fates.proofs.Accepted.{no-kind-accepted, by-outcome}
 use Rattle.fates.proofs.Moved.{moved}
-use Rattle.fates.proofs.PortMoves.{Goes, goes, at-rest, moves, falling, writing}
+use Rattle.fates.proofs.Moving.{Goes, goes, at-rest, moves, falling, writing}
 
 module _ (c : Core) (g : Group) where
   abbrev on : Side → Bool
@@ -91,6 +91,7 @@ module _ (c : Core) (g : Group) where
       (λ mode own c′ k. rw (mode) (spared s x d (own g) c′ k))
       (λ mode c′ k. rw (mode) (stored s x d c′ k))
 
+  -- The port's levels, in the chip and in the history.
   levels-same : (ph : Phase) → portOf c g .outside ≡ levelsOn g (aroundOf (onBus ph c))
   levels-same ph = go g
     where
@@ -123,10 +124,10 @@ module _ (c : Chip) (g : Group) (s : Side) where
       (λ k above ok. absurd (no-kind-accepted (c .phase) k x d above ok))
       k
 
-  -- The same of every event, accepted or refused.
   abbrev channel : Channel
   channel = channelOf (c .core) g s
 
+  -- The same of every event, accepted or refused.
   pub follows : (e : Event)
       → Goes (strobes (c .core .word) g s) (channelOf (stepped c e .chip .core) g s) (moved s channel (deed g s (aroundOf c) e))
   follows e =

@@ -1,6 +1,6 @@
 -- Where the history says that an event takes a byte from a channel, the read answers the channel's latch, or the chip drives the port
 -- with it.
--- Rests on Tables, Accepted and Followed, on laws' OwnPort, ports' Strobed, levels' After and the step's ByKind and Outcome.
+-- Rests on Tables, Accepted, Moved and Followed, on laws' OwnPort, ports' Strobed, levels' After and the step's ByKind and Outcome.
 use mathlib.Core.Path.{_≡_, _∙_, refl, ap, sym, subst}
 use mathlib.Core.Bool.{Bool, true, false, cond, _&&_}
 use Prim.Native.Nat.{ℕ}
@@ -98,6 +98,7 @@ module _ (c : Chip) (g : Group) where
   latch-stays l true d e = e
   latch-stays l false d e = refl
 
+  -- A port's number is its own address.
   own-port : (g : Group) → ownAddress (portNumber g) g ≡ true
   own-port A = refl
   own-port B = refl

@@ -1,5 +1,5 @@
 -- A channel's condition and the byte that it holds, followed from deed to deed, beside the fates, which look ahead in the list.
--- Rests on nothing.
+-- Rests on the channel's Left, for what handing over leaves.
 use mathlib.Core.Path.{_≡_, refl}
 use mathlib.Core.List.{List, [], _∷_, _++_}
 use Prim.Native.Nat.{ℕ, suc}

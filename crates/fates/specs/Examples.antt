@@ -33,6 +33,10 @@ v at n is f at m = record { offer = offeredAt n v; outcome = decidedAt m f }
 abbrev pub lostBale : List Event
 lostBale = write 3 0xb0 ++ strobe 0x41 ++ beginRead 0 ++ strobe 0x42 ++ endRead
 
+-- A scale and a program that mind IBF: each digit is read, to the end of the read, before the next one comes.
+abbrev pub twoDigits : List Event
+twoDigits = write 3 0xb0 ++ strobe 0x41 ++ beginRead 0 ++ endRead ++ strobe 0x42 ++ beginRead 0 ++ endRead
+
 -- Port A in mode 2: a byte in by STB and read, then a byte out by ACK.
 abbrev pub bothWays : List Event
 bothWays = write 3 0xc0 ++ strobe 0x41 ++ beginRead 0 ++ endRead ++ write 0 0x55 ++ levels 2 0xbf
@@ -54,6 +58,7 @@ notForIt = write 3 0x96 ++ levels 1 0x41 ++ levels 2 0xfb ++ beginRead 0 ++ begi
 abbrev pub examples : List Example
 examples =
     example lostBale A Input (0x41 at 4 is handedOver at 6 ∷ 0x42 at 8 is swallowed at 10 ∷ [])
+    ∷ example twoDigits A Input (0x41 at 4 is handedOver at 6 ∷ 0x42 at 9 is handedOver at 11 ∷ [])
     ∷ example P13 A Input (0x41 at 4 is overwritten at 7 ∷ 0x42 at 7 is waiting at 9 ∷ [])
     ∷ example (P13 ++ beginRead 0) A Input (0x41 at 4 is overwritten at 7 ∷ 0x42 at 7 is handedOver at 9 ∷ [])
     ∷ example bothWays A Input (0x41 at 4 is handedOver at 6 ∷ [])

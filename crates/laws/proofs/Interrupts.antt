@@ -1,6 +1,6 @@
 -- INTR as the sheet gives it, in every state: the equation under its figure of mode 2, and each half alone in mode 1; and that the
 -- beginning of the own read or write drops it ("Handshake").
--- Rests on ChannelPins, on control's ModeTwo and Strobed, and on the outcomes of a step.
+-- Rests on ChannelPins, on control's ModeTwo and Strobed, and on the step's Outcome.
 use mathlib.Core.Path.{_≡_, _∙_, refl, ap, sym}
 use mathlib.Core.Bool.{Bool, true, false, not, _&&_, _||_}
 use Prim.Native.Nat.{ℕ}

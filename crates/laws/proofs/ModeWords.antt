@@ -1,6 +1,6 @@
 -- Every mode word, the same one again included, and a reset make the chip anew; after a reset every pin is an input ("State",
 -- "Mode words").
--- Rests on the channel's Left, settings' After and the step's Ends.
+-- Rests on the channel's Left, settings' After, roles' PinByMasks, bits' Tested and the step's Ends.
 use mathlib.Core.Path.{_≡_, _∙_, refl, ap}
 use mathlib.Core.Bool.{Bool, true, false, cond}
 use Prim.Native.Nat.{ℕ, _<_}

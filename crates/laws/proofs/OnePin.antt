@@ -1,5 +1,5 @@
 -- Bit set/reset changes one bit of port C's latch, or one enable, and nothing else ("Writes and bit set/reset").
--- Rests on bits' Tested and BitLaws, roles' SameWords, and the step's Ends.
+-- Rests on bits' Tested and BitLaws, roles' SameWords, settings' After, and the step's Ends.
 use mathlib.Core.Path.{_≡_, _∙_, refl, ap, sym, subst}
 use mathlib.Core.Bool.{Bool, false, not, _||_}
 use mathlib.Core.Logic.{_⊎_, inl, inr}
