@@ -1,5 +1,5 @@
 -- Demand 3: the promises of specs/Promise.antt and specs/Discipline.antt, from any chip and from power-up.
--- Rests on Ordered, Counted, AsOffered, ReadsRun and Discipline.
+-- Rests on Ordered, Counted, SameByte, ReadsRun and Discipline.
 use mathlib.Core.Path.{_≡_, refl}
 use mathlib.Core.Bool.{Bool, true, false}
 use mathlib.Core.List.{List, _++_}
@@ -18,11 +18,11 @@ use Rattle.fates.specs.Around.{atPowerUp}
 use Rattle.fates.specs.Deeds.{strobes, deeds}
 use Rattle.fates.specs.Bytes.{handedOver, overwritten, swallowed, cleared, offeredAt, bytesOf}
 use Rattle.fates.specs.Promise.{run, aroundOf, newBytes, oldByte, Fates, SixteenBits}
-use Rattle.fates.specs.Discipline.{Found, Disciplined, NoneLost}
+use Rattle.fates.specs.Discipline.{HasFound, Disciplined, NoneLost}
 use Rattle.fates.proofs.Ordered.{story-in-order}
 use Rattle.fates.proofs.Counted.{one-fate-each, tally-counts, offered-counts, waits-there}
 use Rattle.fates.proofs.ReadsRun.{refused}
-use Rattle.fates.proofs.AsOffered.{as-offered}
+use Rattle.fates.proofs.SameByte.{as-offered}
 use Rattle.fates.proofs.Discipline.{disciplined-from}
 
 -- What is one or none is at most one.
@@ -60,7 +60,7 @@ fates B Input es = fates-from B Input powerUp none-counted es
 fates B Output es = fates-from B Output powerUp none-counted es
 
 -- No read runs at power-up.
-no-read : (g : Group) → Found g powerUp
+no-read : (g : Group) → HasFound g powerUp
 no-read g runs = absurd (refused (strobes 0x9b g Input) runs)
 
 -- The discipline, from power-up.

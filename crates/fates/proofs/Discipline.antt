@@ -19,7 +19,7 @@ use Rattle.fates.specs.Around.{aroundNext}
 use Rattle.fates.specs.Deeds.{Deed, offered, taken, ended, clearedAway, nothing, strobes}
 use Rattle.fates.specs.Bytes.{Fate, overwritten, swallowed, waiting, Offer, offeredAt, same, count}
 use Rattle.fates.specs.Promise.{aroundOf, newBytes, oldByte}
-use Rattle.fates.specs.Discipline.{ibf, fetches, Found, Minds, Disciplined, NoneLost}
+use Rattle.fates.specs.Discipline.{ibf, strobedReadRuns, HasFound, Minds, Disciplined, NoneLost}
 use Rattle.fates.proofs.Story.{fillAfter, heldAfter}
 use Rattle.fates.proofs.Moved.{gives}
 use Rattle.fates.proofs.Tables.{strobes-same}
@@ -65,20 +65,20 @@ module _ (g : Group) where
   flag-shown : (c : Chip) → strobes (c .core .word) g Input ≡ true → ibf c g ≡ flagOf Input (fill g Input c)
   flag-shown c on = flag-pin c g Input (sym (strobes-same (c .core .word) g Input) ∙ on)
 
-  safe : (c : Chip) (e : Event) → Found g c → Minds (ibf c g) (deedIn g Input c e)
-      → Safe (fill g Input c) (fetches g (aroundNext (aroundOf c) e)) (deedIn g Input c e)
+  safe : (c : Chip) (e : Event) → HasFound g c → Minds (ibf c g) (deedIn g Input c e)
+      → Safe (fill g Input c) (strobedReadRuns g (aroundNext (aroundOf c) e)) (deedIn g Input c e)
   safe c e found =
-      minded (ibf c g) (strobes (c .core .word) g Input) (fetches g (aroundOf c)) (fetches g (aroundNext (aroundOf c) e))
+      minded (ibf c g) (strobes (c .core .word) g Input) (strobedReadRuns g (aroundOf c)) (strobedReadRuns g (aroundNext (aroundOf c) e))
       (fill g Input c) (deedIn g Input c e) (flag-shown c) found (reads-next g (aroundOf c) e)
 
-  found-next : (c : Chip) (e : Event) → Found g c → Minds (ibf c g) (deedIn g Input c e) → Found g (after c e)
+  found-next : (c : Chip) (e : Event) → HasFound g c → Minds (ibf c g) (deedIn g Input c e) → HasFound g (after c e)
   found-next c e found minds runs =
-      next-fill g Input c e ∙ safe c e found minds .found (ap (fetches g) (sym (around-next c e)) ∙ runs)
+      next-fill g Input c e ∙ safe c e found minds .found (ap (strobedReadRuns g) (sym (around-next c e)) ∙ runs)
 
   -- A fate that no event gives under the discipline is met by no byte.
   module _ (f : Fate) (tallied : same f waiting ≡ false)
-      (spares : (c : Chip) (e : Event) → Found g c → Minds (ibf c g) (deedIn g Input c e) → gives f (fill g Input c) (deedIn g Input c e) ≡ false) where
-    none-lost : (c : Chip) (h : Offer) (n : ℕ) (es : List Event) → Found g c → Disciplined g (aroundOf c) c es
+      (spares : (c : Chip) (e : Event) → HasFound g c → Minds (ibf c g) (deedIn g Input c e) → gives f (fill g Input c) (deedIn g Input c e) ≡ false) where
+    none-lost : (c : Chip) (h : Offer) (n : ℕ) (es : List Event) → HasFound g c → Disciplined g (aroundOf c) c es
         → count f (storyOf g Input c h n es) ≡ 0
     none-lost c h n [] found kept = none-yet f tallied (fill g Input c) h n
     none-lost c h n (e ∷ es) found kept =
@@ -91,7 +91,7 @@ module _ (g : Group) where
         ∙ none-lost (after c e) (heldAfter h n d) (suc n) es (found-next c e found (kept .0)) (rw (around-next c e) (kept .1)))
 
   -- From any chip on which a read of the strobed port, if one runs, has found a byte.
-  pub disciplined-from : (c : Chip) → Found g c → (es : List Event) → Disciplined g (aroundOf c) c es
+  pub disciplined-from : (c : Chip) → HasFound g c → (es : List Event) → Disciplined g (aroundOf c) c es
       → NoneLost (oldByte g Input c es ++ newBytes g Input c es)
   disciplined-from c found es kept =
       let h = offeredAt 0 (latch g Input c) in

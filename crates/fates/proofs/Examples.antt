@@ -1,29 +1,21 @@
--- The examples are as they say: one theorem, which the checker computes. What the chip counts in them follows from the promise.
--- Rests on Demand.
+-- The bytes of every example are as it says: one theorem, which the checker computes from the events.
+-- Rests on nothing.
 use mathlib.Core.Path.{_≡_, refl}
 use mathlib.Core.List.{List, [], _∷_}
 use Rattle.bits.specs.Bit.{bitOf}
-use Rattle.control.specs.declared.Group.the-variants.{A}
-use Rattle.channel.specs.declared.Side.the-variants.{Input}
-use Rattle.chip.specs.State.{powerUp, tallyOf}
 use Rattle.fates.specs.Bytes.{Byte}
-use Rattle.fates.specs.Promise.{run}
-use Rattle.fates.specs.Examples.{Example, found, lostBale, examples}
-use Rattle.fates.proofs.Demand.{fates}
+use Rattle.fates.specs.Examples.{Example, bytesIn, examples}
 
+-- The bytes that the definitions find in each example, and those that it says.
 abbrev foundIn : List Example → List (List Byte)
 foundIn [] = []
-foundIn (x ∷ xs) = found x ∷ foundIn xs
+foundIn (x ∷ xs) = bytesIn x ∷ foundIn xs
 
 abbrev saidOf : List Example → List (List Byte)
 saidOf [] = []
 saidOf (x ∷ xs) = x .said ∷ saidOf xs
 
+-- The two lists are one.
 pub as-said : foundIn examples ≡ saidOf examples
 unfolding bitOf
 as-said = refl
-
--- The lost digit is counted.
-pub bale-swallowed : tallyOf (run powerUp lostBale) A Input .swallowed ≡ 1
-unfolding bitOf
-bale-swallowed = fates A Input lostBale .tallySwallowed

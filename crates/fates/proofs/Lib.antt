@@ -9,10 +9,11 @@ pub mod Followed
 pub mod Ordered
 pub mod Counted
 pub mod Shown
-pub mod AsOffered
+pub mod SameByte
 pub mod ReadsRun
 pub mod Discipline
 pub mod Demand
 pub mod Examples
-pub mod DisciplineExamples
+pub mod Answered
+pub mod DisciplineKept
 pub mod ManyOffers

@@ -19,7 +19,7 @@ use Rattle.fates.proofs.Demand.{fates}
 
 -- Port A in mode 1, an input, with the levels x on its lines and every line of port C high.
 abbrev strobing : ℕ → Around
-strobing x = record { phase = Idle; word = 0xb0; a = x; b = 0xff; c = 0xff }
+strobing x = record { phase = Idle; word = 0xb0; levelsA = x; levelsB = 0xff; levelsC = 0xff }
 
 offers-of : (n v k x : ℕ) → length (bytes k (deeds A Input (strobing x) (times n (strobe v)))) ≡ n
 unfolding bitOf

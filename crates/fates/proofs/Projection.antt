@@ -29,7 +29,7 @@ use Rattle.levels.proofs.After.{levelled-input, levelled-output}
 use Rattle.step.specs.Step.{onBus, afterEndRead, afterEndWrite, afterOf}
 use Rattle.step.proofs.ByKind.{by-kind}
 use Rattle.laws.specs.History.{Event, event, stepped}
-use Rattle.fates.specs.Kinds.{Named, beginRead, endRead, endWrite, levels, named, accepts}
+use Rattle.fates.specs.Kinds.{Named, readBegun, readEnded, writeEnded, newLevels, named, accepts}
 use Rattle.fates.specs.Deeds.{offered, taken, ended, nothing, levelsOn, strobes, when, ownDeed, deedOf, deed}
 use Rattle.fates.specs.Promise.{aroundOf}
 use Rattle.fates.proofs.Tables.{own-same, line-same, strobes-same}
@@ -49,13 +49,13 @@ module _ (c : Core) (g : Group) where
   rests : (s : Side) → Goes (on s) (channelOf c g s) (moved s (channelOf c g s) (when (on s) nothing))
   rests s = goes (at-rest s (channelOf c g s) (on s))
 
-  begun : (ph : Phase) (s : Side) (x : ℕ) → After ph s (beginRead x) (begunRead c x)
+  begun : (ph : Phase) (s : Side) (x : ℕ) → After ph s (readBegun x) (begunRead c x)
   begun ph Input x =
       rw (begun-input c x g, strobes-same (c .word) g Input, own-same x g)
       (goes (moves Input (channelOf c g Input) taken (strobedInput (c .word) g) (ownAddress x g)))
   begun ph Output x = rw (begun-output c x g) (rests Output)
 
-  read-ended : (ph : Phase) (s : Side) → After ph s endRead (afterEndRead c ph)
+  read-ended : (ph : Phase) (s : Side) → After ph s readEnded (afterEndRead c ph)
   read-ended Idle Input = rests Input
   read-ended Idle Output = rests Output
   read-ended (Reading p) Input =
@@ -68,7 +68,7 @@ module _ (c : Core) (g : Group) where
   -- The channel after the end of a write of d at the address x that is no mode word.
   abbrev AfterWrite : Side → ℕ → ℕ → Core → Type 0
   AfterWrite s x d c′ =
-      Goes (on s) (channelOf c′ g s) (moved s (channelOf c g s) (when (on s) (ownDeed g s (aroundOf (onBus (Writing x d) c)) endWrite)))
+      Goes (on s) (channelOf c′ g s) (moved s (channelOf c g s) (when (on s) (ownDeed g s (aroundOf (onBus (Writing x d) c)) writeEnded)))
 
   stored : (s : Side) (x d : ℕ) (c′ : Core) → Stored c′ c x d → AfterWrite s x d c′
   stored Input x d c′ k = rw (k .input g) (rests Input)
@@ -80,13 +80,13 @@ module _ (c : Core) (g : Group) where
   spared Input x d own c′ k = rw (spared-port k g) (rests Input)
   spared Output x d own c′ k = rw (spared-port k g, own-same x g, own) (rests Output)
 
-  write-ended : (ph : Phase) (s : Side) → After ph s endWrite (afterEndWrite c ph)
+  write-ended : (ph : Phase) (s : Side) → After ph s writeEnded (afterEndWrite c ph)
   write-ended Idle Input = rests Input
   write-ended Idle Output = rests Output
   write-ended (Reading p) Input = rests Input
   write-ended (Reading p) Output = rests Output
   write-ended (Writing x d) s =
-      by-address (After (Writing x d) s endWrite) c x d
+      by-address (After (Writing x d) s writeEnded) c x d
       (λ mode. rw (mode) (goes (renewed-channel c d g s)))
       (λ mode own c′ k. rw (mode) (spared s x d (own g) c′ k))
       (λ mode c′ k. rw (mode) (stored s x d c′ k))
@@ -99,7 +99,7 @@ module _ (c : Core) (g : Group) where
       go A = refl
       go B = refl
 
-  levels-set : (ph : Phase) (s : Side) (x d : ℕ) → After ph s (levels x d) (levelled c x d)
+  levels-set : (ph : Phase) (s : Side) (x d : ℕ) → After ph s (newLevels x d) (levelled c x d)
   unfolding fallen
   levels-set ph Input x d =
       rw (levelled-input c x d g, strobes-same (c .word) g Input, line-same g Input, ← levels-same ph)

@@ -9,10 +9,10 @@ use Rattle.channel.specs.declared.Side.the-variants.{Input}
 use Rattle.chip.specs.declared.Phase.{Phase}
 use Rattle.chip.specs.declared.Phase.the-variants.{Idle, Reading, Writing}
 use Rattle.laws.specs.History.{Event}
-use Rattle.fates.specs.Kinds.{Named, reset, beginRead, endRead, beginWrite, endWrite, levels, unknown, named, accepts}
+use Rattle.fates.specs.Kinds.{Named, reset, readBegun, readEnded, writeBegun, writeEnded, newLevels, unknown, named, accepts}
 use Rattle.fates.specs.Around.{Around, ofModeWord, aroundAfter, aroundNext}
 use Rattle.fates.specs.Deeds.{Deed, offered, taken, ended, clearedAway, nothing, portNumber, levelsOn, strobes, readRuns, falls, when, deedOf, deed}
-use Rattle.fates.specs.Discipline.{fetches}
+use Rattle.fates.specs.Discipline.{strobedReadRuns}
 
 -- What a deed tells of a read of the strobed port before it (r) and after it (r′), where `on` is whether the port is strobed: only a
 -- byte taken begins such a read, and nothing ends it but its end, a mode word and a reset.
@@ -47,38 +47,40 @@ write-ends true on on′ = and-false on′
 write-ends false true on′ = and-false on′
 write-ends false false on′ = and-false on′
 
+-- Surroundings put together.
 abbrev around : Phase → ℕ → ℕ → ℕ → ℕ → Around
-around ph w x y z = record { phase = ph; word = w; a = x; b = y; c = z }
+around ph w x y z = record { phase = ph; word = w; levelsA = x; levelsB = y; levelsC = z }
 
 -- The bus is free where a cycle begins.
 pub refused : (b : Bool) → (b && false) ≡ true → ⊥
 refused b h = subst T (sym h ∙ and-false b) tt
 
 module _ (g : Group) (w x y z : ℕ) where
+  -- The word strobes the port's input.
   abbrev on : Bool
   on = strobes w g Input
 
   reads-on : (ph : Phase) (e : Named) → accepts ph e ≡ true
-      → Reads on (fetches g (around ph w x y z)) (fetches g (aroundAfter (around ph w x y z) e)) (deedOf g Input (around ph w x y z) e)
+      → Reads on (strobedReadRuns g (around ph w x y z)) (strobedReadRuns g (aroundAfter (around ph w x y z) e)) (deedOf g Input (around ph w x y z) e)
   reads-on ph reset ok = and-false (strobes 0x9b g Input)
-  reads-on Idle (beginRead p) ok = begins on (eqb p (portNumber g))
-  reads-on (Reading q) (beginRead p) ok = absurd (refused (ltb p 3) ok)
-  reads-on (Writing q d) (beginRead p) ok = absurd (refused (ltb p 3) ok)
-  reads-on ph endRead ok = ends on (readRuns g ph)
-  reads-on Idle (beginWrite p u) ok = rests on
-  reads-on (Reading q) (beginWrite p u) ok = absurd (refused (ltb p 4) ok)
-  reads-on (Writing q d) (beginWrite p u) ok = absurd (refused (ltb p 4) ok)
-  reads-on Idle endWrite ok = absurd (subst T (sym ok) tt)
-  reads-on (Reading q) endWrite ok = absurd (subst T (sym ok) tt)
-  reads-on (Writing q d) endWrite ok = write-ends (ofModeWord (Writing q d)) on (strobes (cond (ofModeWord (Writing q d)) d w) g Input)
-  reads-on ph (levels p u) ok = strobe on (on && readRuns g ph) (falls g Input (around ph w x y z) p u) (levelsOn g (around ph w x y z))
+  reads-on Idle (readBegun p) ok = begins on (eqb p (portNumber g))
+  reads-on (Reading q) (readBegun p) ok = absurd (refused (ltb p 3) ok)
+  reads-on (Writing q d) (readBegun p) ok = absurd (refused (ltb p 3) ok)
+  reads-on ph readEnded ok = ends on (readRuns g ph)
+  reads-on Idle (writeBegun p u) ok = rests on
+  reads-on (Reading q) (writeBegun p u) ok = absurd (refused (ltb p 4) ok)
+  reads-on (Writing q d) (writeBegun p u) ok = absurd (refused (ltb p 4) ok)
+  reads-on Idle writeEnded ok = absurd (subst T (sym ok) tt)
+  reads-on (Reading q) writeEnded ok = absurd (subst T (sym ok) tt)
+  reads-on (Writing q d) writeEnded ok = write-ends (ofModeWord (Writing q d)) on (strobes (cond (ofModeWord (Writing q d)) d w) g Input)
+  reads-on ph (newLevels p u) ok = strobe on (on && readRuns g ph) (falls g Input (around ph w x y z) p u) (levelsOn g (around ph w x y z))
   reads-on ph unknown ok = absurd (subst T (sym ok) tt)
 
 -- The same of every event, accepted or refused.
-pub reads-next : (g : Group) (a : Around) (e : Event) → Reads (strobes (a .word) g Input) (fetches g a) (fetches g (aroundNext a e)) (deed g Input a e)
+pub reads-next : (g : Group) (a : Around) (e : Event) → Reads (strobes (a .word) g Input) (strobedReadRuns g a) (strobedReadRuns g (aroundNext a e)) (deed g Input a e)
 reads-next g a e = go (accepts (a .phase) (named e)) refl
   where
     go : (ok : Bool) → accepts (a .phase) (named e) ≡ ok
-        → Reads (strobes (a .word) g Input) (fetches g a) (fetches g (cond ok (aroundAfter a (named e)) a)) (when ok (deedOf g Input a (named e)))
-    go true ok = reads-on g (a .word) (a .a) (a .b) (a .c) (a .phase) (named e) ok
+        → Reads (strobes (a .word) g Input) (strobedReadRuns g a) (strobedReadRuns g (cond ok (aroundAfter a (named e)) a)) (when ok (deedOf g Input a (named e)))
+    go true ok = reads-on g (a .word) (a .levelsA) (a .levelsB) (a .levelsC) (a .phase) (named e) ok
     go false ok = refl

@@ -45,6 +45,7 @@ fateBy ended = swallowed
 fateBy clearedAway = cleared
 fateBy nothing = waiting
 
+-- One byte, with its fate.
 unfoldable pub fated : Offer → ℕ → Fate → List Byte
 fated h n f = record { offer = h; outcome = decidedAt n f } ∷ []
 
@@ -58,7 +59,8 @@ decided Waiting h n clearedAway = fated h n (fateBy clearedAway)
 decided Waiting h n nothing = []
 decided Fetching h n d = []
 
--- The one step on which every theorem below goes: what a deed decides stands first, and the rest is the story from there.
+-- The step on which the theorems on tallies, values and the discipline go: what a deed decides stands first, and the rest is the story from
+-- there.
 pub story-step : (s : Side) (f : Fill) (h : Offer) (n : ℕ) (d : Deed) (later : List Deed)
     → story f h n (d ∷ later) ≡ decided f h n d ++ story (fillAfter s f d) (heldAfter h n d) (suc n) later
 unfolding decided fated

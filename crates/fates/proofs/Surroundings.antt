@@ -20,7 +20,7 @@ use Rattle.levels.proofs.After.{levelled-word, levelled-ports, levelled-lines}
 use Rattle.step.specs.Step.{onBus, afterEndRead, afterEndWrite, afterOf}
 use Rattle.step.proofs.ByKind.{by-kind}
 use Rattle.laws.specs.History.{Event, event, stepped}
-use Rattle.fates.specs.Kinds.{endWrite, levels, named, accepts}
+use Rattle.fates.specs.Kinds.{writeEnded, newLevels, named, accepts}
 use Rattle.fates.specs.Around.{aroundAfter, aroundNext}
 use Rattle.fates.specs.Promise.{aroundOf}
 use Rattle.fates.proofs.Accepted.{no-kind-accepted, by-outcome}
@@ -31,7 +31,7 @@ around-like ph c′ c k = rw (k .word, k .ports A, k .ports B, k .lines)
 
 -- Those of a core made anew.
 around-renewed : (ph : Phase) (c : Core) (w : ℕ)
-    → aroundOf (onBus ph (renewed c w)) ≡ record { phase = ph; word = w; a = c .a .outside; b = c .b .outside; c = c .c .outside }
+    → aroundOf (onBus ph (renewed c w)) ≡ record { phase = ph; word = w; levelsA = c .a .outside; levelsB = c .b .outside; levelsC = c .c .outside }
 around-renewed ph c w = rw (renewed-word c w, renewed-ports c w A, renewed-ports c w B, renewed-lines c w)
 
 module _ (c : Core) where
@@ -40,16 +40,16 @@ module _ (c : Core) where
   read-ended (Reading p) = around-like Idle (endedRead c p) c (ended-around c p)
   read-ended (Writing x d) = refl
 
-  write-ended : (ph : Phase) → aroundOf (onBus Idle (afterEndWrite c ph)) ≡ aroundAfter (aroundOf (onBus ph c)) endWrite
+  write-ended : (ph : Phase) → aroundOf (onBus Idle (afterEndWrite c ph)) ≡ aroundAfter (aroundOf (onBus ph c)) writeEnded
   write-ended Idle = refl
   write-ended (Reading p) = refl
   write-ended (Writing x d) =
-      by-address (λ c′. aroundOf (onBus Idle c′) ≡ aroundAfter (aroundOf (onBus (Writing x d) c)) endWrite) c x d
+      by-address (λ c′. aroundOf (onBus Idle c′) ≡ aroundAfter (aroundOf (onBus (Writing x d) c)) writeEnded) c x d
       (λ mode. rw (mode) (around-renewed Idle c d))
       (λ mode own c′ k. rw (mode) (around-like Idle c′ c (spared-around k)))
       (λ mode c′ k. rw (mode) (around-like Idle c′ c (k .around)))
 
-  levels-set : (ph : Phase) (x d : ℕ) → aroundOf (onBus ph (levelled c x d)) ≡ aroundAfter (aroundOf (onBus ph c)) (levels x d)
+  levels-set : (ph : Phase) (x d : ℕ) → aroundOf (onBus ph (levelled c x d)) ≡ aroundAfter (aroundOf (onBus ph c)) (newLevels x d)
   levels-set ph x d = rw (levelled-word c x d, levelled-ports c x d A, levelled-ports c x d B, levelled-lines c x d)
 
 module _ (c : Chip) where

@@ -6,19 +6,19 @@ use Rattle.bits.specs.Bit.{bitOf}
 use Rattle.chip.specs.declared.Phase.{Phase}
 use Rattle.chip.specs.declared.Phase.the-variants.{Idle, Reading, Writing}
 use Rattle.laws.specs.History.{Event}
-use Rattle.fates.specs.Kinds.{Named, reset, endRead, endWrite, unknown, beginRead, beginWrite, levels, named, accepts}
+use Rattle.fates.specs.Kinds.{Named, reset, readEnded, writeEnded, unknown, readBegun, writeBegun, newLevels, named, accepts}
 
 -- The phase, the mode word in force, and the levels on ports A, B and C.
 pub record Around : Type 0 where
   pub phase : Phase
   pub word : ℕ
-  pub a : ℕ
-  pub b : ℕ
-  pub c : ℕ
+  pub levelsA : ℕ
+  pub levelsB : ℕ
+  pub levelsC : ℕ
 
 -- At power-up the bus is idle, the mode word is 9B and every line is high.
 abbrev pub atPowerUp : Around
-atPowerUp = record { phase = Idle; word = 0x9b; a = 0xff; b = 0xff; c = 0xff }
+atPowerUp = record { phase = Idle; word = 0x9b; levelsA = 0xff; levelsB = 0xff; levelsC = 0xff }
 
 -- The write that runs is of a mode word: to control, with bit 7 set ("Mode words").
 abbrev pub ofModeWord : Phase → Bool
@@ -26,7 +26,7 @@ ofModeWord Idle = false
 ofModeWord (Reading p) = false
 ofModeWord (Writing x d) = eqb x 3 && bitOf d 7
 
--- The byte that the write brings.
+-- The byte that the write brings; 0 stands where no write runs, and is not asked for.
 abbrev pub brought : Phase → ℕ
 brought Idle = 0
 brought (Reading p) = 0
@@ -35,31 +35,31 @@ brought (Writing x d) = d
 -- A cycle runs from its beginning to its end; a reset drops it.
 abbrev pub phaseAfter : Phase → Named → Phase
 phaseAfter ph reset = Idle
-phaseAfter ph (beginRead x) = Reading x
-phaseAfter ph endRead = Idle
-phaseAfter ph (beginWrite x d) = Writing x d
-phaseAfter ph endWrite = Idle
-phaseAfter ph (levels x d) = ph
+phaseAfter ph (readBegun x) = Reading x
+phaseAfter ph readEnded = Idle
+phaseAfter ph (writeBegun x d) = Writing x d
+phaseAfter ph writeEnded = Idle
+phaseAfter ph (newLevels x d) = ph
 phaseAfter ph unknown = ph
 
 -- A mode word comes into force at the end of its write, and a reset brings back 9B.
 abbrev pub wordAfter : Phase → ℕ → Named → ℕ
 wordAfter ph w reset = 0x9b
-wordAfter ph w (beginRead x) = w
-wordAfter ph w endRead = w
-wordAfter ph w (beginWrite x d) = w
-wordAfter ph w endWrite = cond (ofModeWord ph) (brought ph) w
-wordAfter ph w (levels x d) = w
+wordAfter ph w (readBegun x) = w
+wordAfter ph w readEnded = w
+wordAfter ph w (writeBegun x d) = w
+wordAfter ph w writeEnded = cond (ofModeWord ph) (brought ph) w
+wordAfter ph w (newLevels x d) = w
 wordAfter ph w unknown = w
 
 -- The levels of port p, which the outside alone changes.
 abbrev pub levelsAfter : ℕ → ℕ → Named → ℕ
 levelsAfter p l reset = l
-levelsAfter p l (beginRead x) = l
-levelsAfter p l endRead = l
-levelsAfter p l (beginWrite x d) = l
-levelsAfter p l endWrite = l
-levelsAfter p l (levels x d) = cond (eqb x p) d l
+levelsAfter p l (readBegun x) = l
+levelsAfter p l readEnded = l
+levelsAfter p l (writeBegun x d) = l
+levelsAfter p l writeEnded = l
+levelsAfter p l (newLevels x d) = cond (eqb x p) d l
 levelsAfter p l unknown = l
 
 -- All of it after an accepted event.
@@ -67,9 +67,9 @@ abbrev pub aroundAfter : Around → Named → Around
 aroundAfter a e = record {
   phase = phaseAfter (a .phase) e;
   word = wordAfter (a .phase) (a .word) e;
-  a = levelsAfter 0 (a .a) e;
-  b = levelsAfter 1 (a .b) e;
-  c = levelsAfter 2 (a .c) e;
+  levelsA = levelsAfter 0 (a .levelsA) e;
+  levelsB = levelsAfter 1 (a .levelsB) e;
+  levelsC = levelsAfter 2 (a .levelsC) e;
 }
 
 -- After any event: a refused one changes nothing.

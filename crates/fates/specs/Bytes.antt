@@ -1,5 +1,5 @@
--- The bytes of a channel and the fate of each, from what the events were to the channel ("Handshake", on fates). Events are counted from
--- 1, refused ones too. Nothing here, nor in Kinds, Around and Deeds, asks a chip.
+-- The bytes of a channel and the fate of each, by what the events were to the channel ("Handshake"). Events are counted from 1, refused
+-- ones too. Nothing here, nor in Kinds, Around and Deeds, asks a chip.
 use mathlib.Core.Bool.{Bool}
 use mathlib.Core.List.{List, [], _∷_}
 use Prim.Native.Nat.{ℕ, suc, _+_}
@@ -30,15 +30,16 @@ pub record Byte : Type 0 where
   pub offer : Offer
   pub outcome : Outcome
 
--- The value v offered at place n, and the fate f decided there.
+-- The value v offered at place n.
 abbrev pub offeredAt : ℕ → ℕ → Offer
 offeredAt n v = record { place = n; value = v }
 
+-- The fate f decided at place n.
 abbrev pub decidedAt : ℕ → Fate → Outcome
 decidedAt n f = record { fate = f; place = n }
 
--- The first deed that is something decides; the deeds begin at place n. A byte that none decides still waits, and its place is the one
--- after the last.
+-- What becomes of a byte that waits before these deeds, the first of which is at place n: the first that is not `nothing` decides. Where
+-- there is none the byte goes on waiting, and the place is the one after the last event.
 abbrev pub outcomeOf : ℕ → List Deed → Outcome
 outcomeOf n [] = decidedAt n waiting
 outcomeOf n (offered v ∷ later) = decidedAt n overwritten
@@ -72,6 +73,7 @@ rank swallowed = 2
 rank cleared = 3
 rank waiting = 4
 
+-- Two fates are one.
 abbrev pub same : Fate → Fate → Bool
 same f g = eqb (rank f) (rank g)
 

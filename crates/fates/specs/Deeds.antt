@@ -12,11 +12,12 @@ use Rattle.channel.specs.declared.Side.the-variants.{Input, Output}
 use Rattle.chip.specs.declared.Phase.{Phase}
 use Rattle.chip.specs.declared.Phase.the-variants.{Idle, Reading, Writing}
 use Rattle.laws.specs.History.{Event}
-use Rattle.fates.specs.Kinds.{Named, reset, endRead, endWrite, unknown, beginRead, beginWrite, levels, named, accepts}
+use Rattle.fates.specs.Kinds.{Named, reset, readEnded, writeEnded, unknown, readBegun, writeBegun, newLevels, named, accepts}
 use Rattle.fates.specs.Around.{Around, ofModeWord, brought, aroundNext}
 
--- A byte is offered: STB falls, or the own port's write ends. Taken: the own port's read begins, or ACK falls. Ended: the own port's
--- read ends. Cleared away: a mode word or a reset. Any other event is nothing to the channel.
+-- What an event can be to a channel. `offered v`: the byte v comes in by STB, or is written. `taken`: a read of the port begins, or ACK
+-- falls, whether or not a byte is there to be had. `ended`: that read is over. `clearedAway`: all channels are wiped. `nothing`: the
+-- event is for others.
 pub data Deed : Type 0 where
   offered : ℕ → Deed
   taken ended clearedAway nothing : Deed
@@ -28,8 +29,8 @@ portNumber B = 1
 
 -- The levels outside on that port.
 abbrev pub levelsOn : Group → Around → ℕ
-levelsOn A a = a .a
-levelsOn B a = a .b
+levelsOn A a = a .levelsA
+levelsOn B a = a .levelsB
 
 -- The pin of its STB or ACK ("Port C roles").
 abbrev pub strobePin : Group → Side → ℕ
@@ -59,12 +60,13 @@ facing w B Output = not (bitOf w 1)
 abbrev pub strobes : ℕ → Group → Side → Bool
 strobes w g s = inModeTwo w g || (inModeOne w g && facing w g s)
 
--- The port's own read runs, and its own write.
+-- A read of the port runs.
 abbrev pub readRuns : Group → Phase → Bool
 readRuns g Idle = false
 readRuns g (Reading p) = eqb p (portNumber g)
 readRuns g (Writing x d) = false
 
+-- A write to it runs.
 abbrev pub writeRuns : Group → Phase → Bool
 writeRuns g Idle = false
 writeRuns g (Reading p) = false
@@ -72,37 +74,37 @@ writeRuns g (Writing x d) = eqb x (portNumber g)
 
 -- Levels d on port x lower the channel's STB or ACK, which was high: only port C has such lines.
 abbrev pub falls : Group → Side → Around → ℕ → ℕ → Bool
-falls g s a x d = eqb x 2 && (bitOf (a .c) (strobePin g s) && not (bitOf d (strobePin g s)))
+falls g s a x d = eqb x 2 && (bitOf (a .levelsC) (strobePin g s) && not (bitOf d (strobePin g s)))
 
 -- A deed under a condition.
 abbrev pub when : Bool → Deed → Deed
 when holds d = cond holds d nothing
 
--- What an accepted event is to a strobed channel.
+-- What an accepted event is to a strobed channel ("Handshake").
 abbrev pub ownDeed : Group → Side → Around → Named → Deed
 ownDeed g s a reset = nothing
-ownDeed g Input a (beginRead x) = when (eqb x (portNumber g)) taken
-ownDeed g Output a (beginRead x) = nothing
-ownDeed g Input a endRead = when (readRuns g (a .phase)) ended
-ownDeed g Output a endRead = nothing
-ownDeed g s a (beginWrite x d) = nothing
-ownDeed g Input a endWrite = nothing
-ownDeed g Output a endWrite = when (writeRuns g (a .phase)) (offered (brought (a .phase)))
-ownDeed g Input a (levels x d) = when (falls g Input a x d) (offered (levelsOn g a))
-ownDeed g Output a (levels x d) = when (falls g Output a x d) taken
+ownDeed g Input a (readBegun x) = when (eqb x (portNumber g)) taken
+ownDeed g Output a (readBegun x) = nothing
+ownDeed g Input a readEnded = when (readRuns g (a .phase)) ended
+ownDeed g Output a readEnded = nothing
+ownDeed g s a (writeBegun x d) = nothing
+ownDeed g Input a writeEnded = nothing
+ownDeed g Output a writeEnded = when (writeRuns g (a .phase)) (offered (brought (a .phase)))
+ownDeed g Input a (newLevels x d) = when (falls g Input a x d) (offered (levelsOn g a))
+ownDeed g Output a (newLevels x d) = when (falls g Output a x d) taken
 ownDeed g s a unknown = nothing
 
--- A reset, and the end of a write of a mode word, clear every channel away, whatever the mode.
+-- A reset wipes every channel, in whatever mode, and so does a mode word as its write ends ("State", "Mode words").
 abbrev pub clears : Phase → Named → Bool
 clears ph reset = true
-clears ph (beginRead x) = false
-clears ph endRead = false
-clears ph (beginWrite x d) = false
-clears ph endWrite = ofModeWord ph
-clears ph (levels x d) = false
+clears ph (readBegun x) = false
+clears ph readEnded = false
+clears ph (writeBegun x d) = false
+clears ph writeEnded = ofModeWord ph
+clears ph (newLevels x d) = false
 clears ph unknown = false
 
--- What an accepted event is to a channel; one that the mode word does not strobe has no part in edges and cycles.
+-- What an accepted event is to a channel. Without a handshake, lines and cycles are nothing to it ("Events and numbers").
 abbrev pub deedOf : Group → Side → Around → Named → Deed
 deedOf g s a e = cond (clears (a .phase) e) clearedAway (when (strobes (a .word) g s) (ownDeed g s a e))
 

@@ -19,15 +19,16 @@ use Rattle.fates.specs.Bytes.{Byte, overwritten, swallowed, count}
 abbrev pub ibf : Chip → Group → Bool
 ibf c g = pin c (flagPin g Input)
 
--- A read of a strobed port runs.
-abbrev pub fetches : Group → Around → Bool
-fetches g a = strobes (a .word) g Input && readRuns g (a .phase)
+-- A read of the port runs while STB brings bytes into it.
+abbrev pub strobedReadRuns : Group → Around → Bool
+strobedReadRuns g a = strobes (a .word) g Input && readRuns g (a .phase)
 
 -- The condition at the start: such a read, if one runs, has found a byte. At power-up none runs.
-abbrev pub Found : Group → Chip → Type 0
-Found g c = fetches g (aroundOf c) ≡ true → channelOf (c .core) g Input .fill ≡ Fetching
+abbrev pub HasFound : Group → Chip → Type 0
+HasFound g c = strobedReadRuns g (aroundOf c) ≡ true → channelOf (c .core) g Input .fill ≡ Fetching
 
--- What the level of IBF before an event allows it to be. A read in mode 0 is no deed, and so is free ("Handshake").
+-- What the level of IBF before an event allows it to be. A read of the port while it is no strobed input, in mode 0 or as an output, is
+-- `nothing` to the channel, and so is free.
 abbrev pub Minds : Bool → Deed → Type 0
 Minds level (offered v) = level ≡ false
 Minds level taken = level ≡ true

@@ -5,6 +5,8 @@ use Rattle.control.specs.declared.Group.{Group}
 use Rattle.control.specs.declared.Group.the-variants.{A, B}
 use Rattle.channel.specs.declared.Side.{Side}
 use Rattle.channel.specs.declared.Side.the-variants.{Input, Output}
+use Rattle.channel.specs.declared.Tally.{Tally}
+use Rattle.ports.specs.declared.Pins.{Pins}
 use Rattle.laws.specs.History.{Event, event, write, levels, beginRead, endRead, strobe}
 use Rattle.laws.specs.Marked.{P13}
 use Rattle.fates.specs.Bytes.{Fate, handedOver, overwritten, swallowed, cleared, waiting, Byte, offeredAt, decidedAt, bytesOf}
@@ -21,8 +23,8 @@ abbrev pub example : List Event → Group → Side → List Byte → Example
 example es g s bs = record { history = es; group = g; side = s; said = bs }
 
 -- What the definitions make of it.
-abbrev pub found : Example → List Byte
-found x = bytesOf (x .group) (x .side) (x .history)
+abbrev pub bytesIn : Example → List Byte
+bytesIn x = bytesOf (x .group) (x .side) (x .history)
 
 -- The byte v, offered at place n and decided at place m.
 infixl 70 _at_is_at_
@@ -37,24 +39,32 @@ lostBale = write 3 0xb0 ++ strobe 0x41 ++ beginRead 0 ++ strobe 0x42 ++ endRead
 abbrev pub twoDigits : List Event
 twoDigits = write 3 0xb0 ++ strobe 0x41 ++ beginRead 0 ++ endRead ++ strobe 0x42 ++ beginRead 0 ++ endRead
 
--- Port A in mode 2: a byte in by STB and read, then a byte out by ACK.
+-- Port A in mode 2: a byte in by STB and read, then a byte written, which ACK takes out.
+abbrev pub inAndWritten : List Event
+inAndWritten = write 3 0xc0 ++ strobe 0x41 ++ beginRead 0 ++ endRead ++ write 0 0x55
+
 abbrev pub bothWays : List Event
-bothWays = write 3 0xc0 ++ strobe 0x41 ++ beginRead 0 ++ endRead ++ write 0 0x55 ++ levels 2 0xbf
+bothWays = inAndWritten ++ levels 2 0xbf
 
 -- A byte waits while the mode word is written once more.
 abbrev pub sameWordAgain : List Event
 sameWordAgain = write 3 0xb0 ++ strobe 0x41 ++ write 3 0xb0
 
--- A printer on port B: it is given a second byte before it has taken the first, takes that one, and is reset before the third.
+-- A printer on port B: a second byte is written before it has taken the first; it takes the second, and a reset comes before it takes
+-- the third.
 abbrev pub printer : List Event
 printer = write 3 0x94 ++ write 1 0x33 ++ write 1 0x34 ++ levels 2 0xfb ++ write 1 0x35 ++ (event 0 0 0 ∷ [])
+
+-- Port A in mode 0, where pin 4 of port C is no STB: levels, a fall and a read.
+abbrev pub plain : List Event
+plain = write 3 0x9b ++ strobe 0x41 ++ beginRead 0 ++ endRead
 
 -- A byte waits on port B, and nothing that follows is for it: a read of port A, another begun meanwhile and so refused, a read of
 -- control, which is refused too, and a kind that there is not.
 abbrev pub notForIt : List Event
 notForIt = write 3 0x96 ++ levels 1 0x41 ++ levels 2 0xfb ++ beginRead 0 ++ beginRead 1 ++ endRead ++ beginRead 3 ++ (event 9 1 0 ∷ [])
 
--- Each of the five fates, each side, both groups and mode 2.
+-- Each of the five fates, each side, both groups, mode 2, and a port without a handshake, which has no bytes.
 abbrev pub examples : List Example
 examples =
     example lostBale A Input (0x41 at 4 is handedOver at 6 ∷ 0x42 at 8 is swallowed at 10 ∷ [])
@@ -65,6 +75,7 @@ examples =
     ∷ example bothWays A Output (0x55 at 9 is handedOver at 10 ∷ [])
     ∷ example sameWordAgain A Input (0x41 at 4 is cleared at 7 ∷ [])
     ∷ example printer B Output (0x33 at 4 is overwritten at 6 ∷ 0x34 at 6 is handedOver at 7 ∷ 0x35 at 9 is cleared at 10 ∷ [])
+    ∷ example plain A Input []
     ∷ example notForIt B Input (0x41 at 4 is waiting at 10 ∷ [])
     ∷ []
 
@@ -76,3 +87,12 @@ times (suc n) es = es ++ times n es
 -- Port A strobed n times, with nobody to read it.
 abbrev pub strobedTimes : ℕ → ℕ → List Event
 strobedTimes n v = write 3 0xb0 ++ times n (strobe v)
+
+-- What the chip is said to count and to show in two of the examples. The lost bale: both digits were offered, one was handed over and
+-- one swallowed.
+abbrev pub baleTally : Tally
+baleTally = record { offered = 2; handed = 1; overwritten = 0; swallowed = 1; cleared = 0 }
+
+-- Both ways: after the write the lines of port A are still the outside's, as the strobe left them.
+abbrev pub beforeAck : Pins
+beforeAck = record { levels = 0x41; driven = 0 }

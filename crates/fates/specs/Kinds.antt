@@ -11,13 +11,13 @@ use Rattle.laws.specs.History.{Event}
 
 -- The six kinds, each with the operands that it has, and what is none of them.
 pub data Named : Type 0 where
-  reset endRead endWrite unknown : Named
-  beginRead : ℕ → Named
-  beginWrite levels : ℕ → ℕ → Named
+  reset readEnded writeEnded unknown : Named
+  readBegun : ℕ → Named
+  writeBegun newLevels : ℕ → ℕ → Named
 
 -- The kinds in the order of their numbers, 00 to 05, with the operands x and d.
 abbrev pub kinds : ℕ → ℕ → List Named
-kinds x d = reset ∷ beginRead x ∷ endRead ∷ beginWrite x d ∷ endWrite ∷ levels x d ∷ []
+kinds x d = reset ∷ readBegun x ∷ readEnded ∷ writeBegun x d ∷ writeEnded ∷ newLevels x d ∷ []
 
 -- An event by name.
 abbrev pub named : Event → Named
@@ -45,9 +45,9 @@ inWrite (Writing a d) = true
 -- a write there or at control; it ends by its own end.
 abbrev pub accepts : Phase → Named → Bool
 accepts ph reset = true
-accepts ph (beginRead x) = ltb x 3 && free ph
-accepts ph endRead = inRead ph
-accepts ph (beginWrite x d) = ltb x 4 && free ph
-accepts ph endWrite = inWrite ph
-accepts ph (levels x d) = ltb x 3
+accepts ph (readBegun x) = ltb x 3 && free ph
+accepts ph readEnded = inRead ph
+accepts ph (writeBegun x d) = ltb x 4 && free ph
+accepts ph writeEnded = inWrite ph
+accepts ph (newLevels x d) = ltb x 3
 accepts ph unknown = false

@@ -33,9 +33,9 @@ abbrev pub aroundOf : Chip → Around
 aroundOf c = record {
   phase = c .phase;
   word = c .core .word;
-  a = c .core .a .outside;
-  b = c .core .b .outside;
-  c = c .core .c .outside;
+  levelsA = c .core .a .outside;
+  levelsB = c .core .b .outside;
+  levelsC = c .core .c .outside;
 }
 
 -- The bytes offered since then, their first event at place 1.
@@ -58,7 +58,7 @@ abbrev pub Each : (Byte → Type 0) → List Byte → Type 0
 Each P [] = Unit {0}
 Each P (b ∷ bs) = P b × Each P bs
 
--- One after the other: a byte is decided after it is offered, and not later than the next one is offered.
+-- One after the other, from place n on: a byte is decided after it is offered, and the next is offered no earlier than that.
 abbrev pub InOrder : ℕ → List Byte → Type 0
 InOrder n [] = Unit {0}
 InOrder n (b ∷ bs) = (n ≤ b .offer .place) × (b .offer .place < b .outcome .place) × InOrder (b .outcome .place) bs

@@ -1,13 +1,12 @@
--- The discipline is kept in one history and broken in another, in the pins as the chip shows them: its condition can be met, and asks
--- something. The checker computes both.
+-- The chip in two of the examples: what it counts and what it shows there, computed by the checker.
 -- Rests on nothing.
-use mathlib.Core.Path.{_≡_, refl, subst}
-use lib.Dec.{T}
+use mathlib.Core.Path.{_≡_, refl}
 use Rattle.bits.specs.Bit.{bitOf, valueOf, withBit}
 use Rattle.control.specs.declared.Group.the-variants.{A}
 use Rattle.control.specs.Mode.{modeOf, inputOf, upperInput, lowerInput, strobedInput, strobedOutput, outputOf}
 use Rattle.control.specs.Word.{controlOf}
 use Rattle.roles.specs.Role.{usesOf, freeRole, roleOf}
+use Rattle.channel.specs.declared.Side.the-variants.{Input, Output}
 use Rattle.channel.specs.Channel.{flagOf}
 use Rattle.channel.specs.Moves.{afterOffer, afterHandOver, afterEndRead, afterClear}
 use Rattle.chip.specs.State.{powerUp}
@@ -21,15 +20,21 @@ use Rattle.ports.specs.Reads.{readPort, readLines, readOf}
 use Rattle.ports.specs.Pins.{drivesPort, pinsOfPort, pinsOfLines, pinsOf}
 use Rattle.step.specs.Numbers.{numberOf}
 use Rattle.step.specs.Step.{stepOf}
-use Rattle.fates.specs.Around.{atPowerUp}
-use Rattle.fates.specs.Examples.{lostBale, twoDigits}
-use Rattle.fates.specs.Discipline.{Disciplined}
+use Rattle.laws.specs.History.{event}
+use Rattle.fates.specs.Promise.{Shows, run, tallies}
+use Rattle.fates.specs.Examples.{lostBale, inAndWritten, baleTally, beforeAck}
 
-pub two-digits-disciplined : Disciplined A atPowerUp powerUp twoDigits
+-- The lost digit is counted as swallowed.
+pub bale-counted : tallies A Input powerUp lostBale ≡ baleTally
 unfolding bitOf valueOf withBit modeOf inputOf upperInput lowerInput strobedInput strobedOutput outputOf controlOf usesOf freeRole roleOf flagOf afterOffer afterHandOver afterEndRead afterClear requestOf intrOf clearedPort renewed pinSet commanded begunRead endedRead storedBy latchWritten written fallen edged levelledLines levelled readPort readLines readOf drivesPort pinsOfPort pinsOfLines pinsOf numberOf stepOf
-two-digits-disciplined = (tt, (tt, (tt, (refl, (tt, (refl, (tt, (tt, (refl, (tt, (refl, (tt, tt))))))))))))
+bale-counted = refl
 
--- The second digit of the lost bale comes while IBF is high.
-pub lost-bale-undisciplined : ¬ Disciplined A atPowerUp powerUp lostBale
+-- The byte written in mode 2 does not show before ACK falls.
+pub not-before : pinsOf (run powerUp inAndWritten) 0 ≡ beforeAck
 unfolding bitOf valueOf withBit modeOf inputOf upperInput lowerInput strobedInput strobedOutput outputOf controlOf usesOf freeRole roleOf flagOf afterOffer afterHandOver afterEndRead afterClear requestOf intrOf clearedPort renewed pinSet commanded begunRead endedRead storedBy latchWritten written fallen edged levelledLines levelled readPort readLines readOf drivesPort pinsOfPort pinsOfLines pinsOf numberOf stepOf
-lost-bale-undisciplined kept = subst T (kept .1 .1 .1 .1 .1 .1 .1 .0) tt
+not-before = refl
+
+-- It shows as ACK falls.
+pub ack-shows : Shows A Output (run powerUp inAndWritten) (event 5 2 0xbf) 0x55
+unfolding bitOf valueOf withBit modeOf inputOf upperInput lowerInput strobedInput strobedOutput outputOf controlOf usesOf freeRole roleOf flagOf afterOffer afterHandOver afterEndRead afterClear requestOf intrOf clearedPort renewed pinSet commanded begunRead endedRead storedBy latchWritten written fallen edged levelledLines levelled readPort readLines readOf drivesPort pinsOfPort pinsOfLines pinsOf numberOf stepOf
+ack-shows = (refl, refl)

@@ -1,0 +1,35 @@
+-- The discipline in two of the examples, by the pins as the chip shows them: it can be kept, and it asks something. The checker computes
+-- it.
+-- Rests on nothing.
+use mathlib.Core.Path.{refl, subst}
+use lib.Dec.{T}
+use Rattle.bits.specs.Bit.{bitOf, valueOf, withBit}
+use Rattle.control.specs.declared.Group.the-variants.{A}
+use Rattle.control.specs.Mode.{modeOf, inputOf, upperInput, lowerInput, strobedInput, strobedOutput, outputOf}
+use Rattle.control.specs.Word.{controlOf}
+use Rattle.roles.specs.Role.{usesOf, freeRole, roleOf}
+use Rattle.channel.specs.Channel.{flagOf}
+use Rattle.channel.specs.Moves.{afterOffer, afterHandOver, afterEndRead, afterClear}
+use Rattle.chip.specs.State.{powerUp}
+use Rattle.status.specs.Status.{requestOf, intrOf}
+use Rattle.settings.specs.Renewed.{clearedPort, renewed}
+use Rattle.settings.specs.Commanded.{pinSet, commanded}
+use Rattle.cycles.specs.Read.{begunRead, endedRead}
+use Rattle.cycles.specs.Write.{storedBy, latchWritten, written}
+use Rattle.levels.specs.Levels.{fallen, edged, levelledLines, levelled}
+use Rattle.ports.specs.Reads.{readPort, readLines, readOf}
+use Rattle.ports.specs.Pins.{drivesPort, pinsOfPort, pinsOfLines, pinsOf}
+use Rattle.step.specs.Numbers.{numberOf}
+use Rattle.step.specs.Step.{stepOf}
+use Rattle.fates.specs.Around.{atPowerUp}
+use Rattle.fates.specs.Examples.{lostBale, twoDigits}
+use Rattle.fates.specs.Discipline.{Disciplined}
+
+pub two-digits-disciplined : Disciplined A atPowerUp powerUp twoDigits
+unfolding bitOf valueOf withBit modeOf inputOf upperInput lowerInput strobedInput strobedOutput outputOf controlOf usesOf freeRole roleOf flagOf afterOffer afterHandOver afterEndRead afterClear requestOf intrOf clearedPort renewed pinSet commanded begunRead endedRead storedBy latchWritten written fallen edged levelledLines levelled readPort readLines readOf drivesPort pinsOfPort pinsOfLines pinsOf numberOf stepOf
+two-digits-disciplined = (tt, (tt, (tt, (refl, (tt, (refl, (tt, (tt, (refl, (tt, (refl, (tt, tt))))))))))))
+
+-- The second digit of the lost bale comes while IBF is high.
+pub lost-bale-undisciplined : ¬ Disciplined A atPowerUp powerUp lostBale
+unfolding bitOf valueOf withBit modeOf inputOf upperInput lowerInput strobedInput strobedOutput outputOf controlOf usesOf freeRole roleOf flagOf afterOffer afterHandOver afterEndRead afterClear requestOf intrOf clearedPort renewed pinSet commanded begunRead endedRead storedBy latchWritten written fallen edged levelledLines levelled readPort readLines readOf drivesPort pinsOfPort pinsOfLines pinsOf numberOf stepOf
+lost-bale-undisciplined kept = subst T (kept .1 .1 .1 .1 .1 .1 .1 .0) tt
