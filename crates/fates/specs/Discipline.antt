@@ -1,5 +1,5 @@
--- The discipline under which no input byte is lost: the device strobes only while IBF is low, and the program begins a read of the port
--- only while it is high.
+-- The discipline under which no input byte is lost: STB falls only at times when IBF is low, and reads of the port begin only at times
+-- when it is high.
 use mathlib.Core.Path.{_≡_}
 use mathlib.Core.Bool.{Bool, true, false, _&&_}
 use mathlib.Core.List.{List, [], _∷_}
