@@ -1,6 +1,6 @@
 -- What each move leaves of a channel's condition, latch and tallies, for those who stand above ("Handshake").
 -- Rests on nothing.
-use mathlib.Core.Path.{_≡_, refl}
+use mathlib.Core.Path.{_≡_, refl, ap}
 use mathlib.Core.Bool.{true}
 use Prim.Native.Nat.{ℕ}
 use Rattle.channel.specs.declared.Fill.{Fill}
@@ -29,33 +29,29 @@ leaves Empty left = Empty
 leaves Waiting left = left
 leaves Fetching left = Fetching
 
+-- A channel after handing over, whether or not a byte was there.
+hand-over : (ch : Channel) (left : Fill)
+    → afterHandOver ch left
+    ≡ record { fill = leaves (ch .fill) left; latch = ch .latch; tally = counted handed (isWaiting (ch .fill)) (ch .tally) }
+unfolding afterHandOver
+hand-over ch left = go (ch .fill) refl
+  where
+    go : (f : Fill) → ch .fill ≡ f
+        → afterHandOver ch left
+        ≡ record { fill = leaves (ch .fill) left; latch = ch .latch; tally = counted handed (isWaiting (ch .fill)) (ch .tally) }
+    go Empty e = rw (e)
+    go Waiting e = rw (e)
+    go Fetching e = rw (e)
+
 module _ (ch : Channel) (left : Fill) where
   pub hand-over-leaves : afterHandOver ch left .fill ≡ leaves (ch .fill) left
-  unfolding afterHandOver
-  hand-over-leaves = go (ch .fill) refl
-    where
-      go : (f : Fill) → ch .fill ≡ f → afterHandOver ch left .fill ≡ leaves (ch .fill) left
-      go Empty e = rw (e)
-      go Waiting e = rw (e)
-      go Fetching e = rw (e)
+  hand-over-leaves = ap (λ (r : Channel). r .fill) (hand-over ch left)
 
   pub hand-over-keeps : afterHandOver ch left .latch ≡ ch .latch
-  unfolding afterHandOver
-  hand-over-keeps = go (ch .fill) refl
-    where
-      go : (f : Fill) → ch .fill ≡ f → afterHandOver ch left .latch ≡ ch .latch
-      go Empty e = rw (e)
-      go Waiting e = rw (e)
-      go Fetching e = rw (e)
+  hand-over-keeps = ap (λ (r : Channel). r .latch) (hand-over ch left)
 
   pub hand-over-counts : afterHandOver ch left .tally ≡ counted handed (isWaiting (ch .fill)) (ch .tally)
-  unfolding afterHandOver
-  hand-over-counts = go (ch .fill) refl
-    where
-      go : (f : Fill) → ch .fill ≡ f → afterHandOver ch left .tally ≡ counted handed (isWaiting (ch .fill)) (ch .tally)
-      go Empty e = rw (e)
-      go Waiting e = rw (e)
-      go Fetching e = rw (e)
+  hand-over-counts = ap (λ (r : Channel). r .tally) (hand-over ch left)
 
 -- The end of a read leaves the latch, and a mode word or reset nothing.
 module _ (ch : Channel) where

@@ -5,3 +5,4 @@ pub mod ModeTwo
 pub mod PinNamed
 pub mod Strobed
 pub mod AsByte
+pub mod ByBits

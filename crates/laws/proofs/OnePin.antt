@@ -21,7 +21,7 @@ use Rattle.chip.specs.declared.Phase.the-variants.{Writing}
 use Rattle.chip.specs.declared.Enables.{Enables}
 use Rattle.chip.specs.declared.Core.{Core}
 use Rattle.chip.specs.declared.Chip.{Chip}
-use Rattle.chip.specs.State.{portOf, withEnables}
+use Rattle.chip.specs.State.{withEnables}
 use Rattle.chip.specs.Handshakes.{groupAt, lineOf, enableOf}
 use Rattle.settings.specs.Commanded.{enabled, setAs, pinSet}
 use Rattle.settings.proofs.After.{bit-word}
@@ -144,8 +144,3 @@ pub bit-set-changes-one : (c : Chip) (b x d : ℕ) → c .phase ≡ Writing 3 b 
     → OnePin (c .core) (b / 2 % 8) (bitOf b 0) (roleOf (c .core .word) (b / 2 % 8)) (stepOf c 4 x d .chip .core)
 bit-set-changes-one c b x d phase clear =
     rw (write-ends c 3 b x d phase, set-word (c .core) b clear) (one-pin (c .core) (b / 2 % 8) (bitOf b 0) (omega arith))
-
--- It leaves both ports alone.
-pub one-port : {c : Core} {n : ℕ} {v : Bool} {r : Role} {c′ : Core} → OnePin c n v r c′ → (g : Group) → portOf c′ g ≡ portOf c g
-one-port one A = one .a
-one-port one B = one .b

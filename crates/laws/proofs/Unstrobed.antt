@@ -36,9 +36,6 @@ pub record Kept (before after : Channel) : Type 0 where
   pub fill : after .fill ≡ before .fill
   pub tally : after .tally ≡ before .tally
 
-as-it-was : (ch : Channel) → Kept ch ch
-as-it-was ch = record { fill = refl; tally = refl }
-
 -- A channel that is the same is kept.
 kept : {before after : Channel} → after ≡ before → Kept before after
 kept same = record { fill = ap (λ ch. ch .fill) same; tally = ap (λ ch. ch .tally) same }
@@ -62,8 +59,8 @@ module _ (c : Core) (g : Group) where
     where
       go : (out own : Bool) → Kept (channelOf c g Output) (cond own (cond out (storedIn (channelOf c g Output) false d) (channelOf c g Output)) (channelOf c g Output))
       go true true = record { fill = refl; tally = refl }
-      go false true = as-it-was (channelOf c g Output)
-      go out false = as-it-was (channelOf c g Output)
+      go false true = kept refl
+      go out false = kept refl
 
   kept-written : (s : Side) → strobed (c .word) g s ≡ false → (x d : ℕ) → makesAnew (Writing x d) ≡ false → Kept (channelOf c g s) (channelOf (written c x d) g s)
   kept-written s off x d other =
@@ -77,7 +74,7 @@ module _ (c : Chip) (g : Group) (s : Side) (off : strobed (c .core .word) g s �
   Still c′ = Kept (channelOf (c .core) g s) (channelOf (c′ .core) g s)
 
   still : Still c
-  still = as-it-was (channelOf (c .core) g s)
+  still = kept refl
 
   after-read : (ph : Phase) → c .phase ≡ ph → (x d : ℕ) → Still (stepOf c 2 x d .chip)
   after-read Idle phase x d = rw (step-refuses c 2 x d (row-refuses (c .phase) 2 x 4 (rw (phase)))) (still)
