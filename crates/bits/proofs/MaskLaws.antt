@@ -2,14 +2,14 @@
 -- Rests on Tested and BitLaws.
 use mathlib.Core.Path.{_≡_, _∙_, refl, ap}
 use mathlib.Core.Bool.{Bool, true, false, cond, not, _&&_, _||_}
-use Prim.Native.Nat.{ℕ, _-_, _/_, _%_, _^_, _<_}
+use Prim.Native.Nat.{ℕ, _*_, _-_, _/_, _%_, _^_, _<_}
 use native.Mathlib.Nat.{mod-lt}
 use native.Mathlib.Omega.{arith}
 use lib.Dec.{T, eqb, lit<}
 use lib.Bits.{bitAnd, bitOr, and-shr, or-shr, and-mod, or-mod, and-lt, or-lt}
-use Rattle.bits.specs.Bit.{bitOf, assembled, blendOf}
-use Rattle.bits.proofs.Tested.{all, same, bits-of-two}
-use Rattle.bits.proofs.BitLaws.{bit-of-assembled, byte-by-bits}
+use Rattle.bits.specs.Bit.{bitOf, assembled, withBit, blendOf}
+use Rattle.bits.proofs.Tested.{all, same, bits, bits-of-two}
+use Rattle.bits.proofs.BitLaws.{bit-of-assembled, assembled-same, byte-by-bits}
 
 -- An operation of masks works bit by bit: it commutes with shifts and remainders, and a test covers the two bits at one place.
 module _ (op : ℕ → ℕ → ℕ) (on : Bool → Bool → Bool)
@@ -59,3 +59,22 @@ masks-blend m x y hm hx hy =
     byte-by-bits (bitOr (bitAnd x m) (bitAnd y (255 - m))) (λ k. cond (bitOf m k) (bitOf x k) (bitOf y k))
     (or-lt 8 (bitAnd x m) (bitAnd y (255 - m)) (and-lt 8 x m hx hm) (and-lt 8 y (255 - m) hy (omega arith)))
     (λ k hk. rw (bit-or, bit-and x m k, bit-and y (255 - m) k, bit-not m k hm hk) (either (bitOf m k) (bitOf x k) (bitOf y k)))
+
+-- A mask of one bit, and a byte that is all ones or all zeros: a blend of the two puts that bit.
+one-bit : (n k : ℕ) → n < 8 → k < 8 → bitOf (1 * 2 ^ n % 256) k ≡ eqb k n
+unfolding bitOf
+one-bit n k hn hk = bits-of-two 8 8 (λ n k. bitOf (1 * 2 ^ n % 256) k) (λ n k. eqb k n) tt n k hn hk
+
+full : (on : Bool) (k : ℕ) → k < 8 → bitOf (cond on 255 0) k ≡ on
+unfolding bitOf
+full true k h = bits 8 (λ k. bitOf 255 k) (λ k. true) tt k h
+full false k h = bits 8 (λ k. bitOf 0 k) (λ k. false) tt k h
+
+pub blend-puts : (x n : ℕ) (on : Bool) → n < 8 → blendOf (1 * 2 ^ n % 256) (cond on 255 0) x ≡ withBit x n on
+unfolding withBit
+blend-puts x n on hn =
+    blend-assembled (1 * 2 ^ n % 256) (cond on 255 0) x
+    ∙ assembled-same
+    (λ k. cond (bitOf (1 * 2 ^ n % 256) k) (bitOf (cond on 255 0) k) (bitOf x k))
+    (λ k. cond (eqb k n) on (bitOf x k))
+    (λ k hk. rw (one-bit n k hn hk, full on k hk))

@@ -20,7 +20,7 @@ pub fn with_bit(x: u8, n: u8, on: bool) -> u8
     if 7 < n {
         return x;
     }
-    if on { x | (1 << n) } else { x & !(1 << n) }
+    blend(1 << n, choose(on, 0xff, 0), x)
 }
 
 // The byte of which these are the bits 7 to 0.

@@ -4,4 +4,5 @@ pub mod Deeds
 pub mod Bytes
 pub mod Promise
 pub mod Discipline
+pub mod ScriptRun
 pub mod Examples

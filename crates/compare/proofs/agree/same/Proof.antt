@@ -1,0 +1,15 @@
+-- `compare::agree::same` is safe and ends: its loop counts to 12.
+-- Rests on nothing.
+use Prim.Native.Nat.{_≤_, _-_}
+use borrow.Author.Needs.{needs}
+use Rattle.compare.proofs.agree.same.Statement.{statement}
+use Rattle.compare.proofs.agree.same.Tie as tie
+
+abbrev Inv-loop : tie.InvT-loop
+Inv-loop one other at₀ at = at ≤ 12
+
+abbrev μ-loop : tie.MeasureT-loop
+μ-loop one other at₀ at = 12 - at
+
+pub same-spec : {M : Type 1} → statement M
+same-spec = tie.close (tie.spec Inv-loop μ-loop (λ c. search needs) (λ c. search needs) (λ c. search needs) (λ c. search needs) (λ c. search needs) (λ c. search needs) (λ c. search needs) (λ c. search needs))

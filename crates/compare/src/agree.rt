@@ -1,0 +1,62 @@
+// Whether the two models agree after an event.
+use super::counts;
+use super::counts::Counts;
+use super::print;
+use super::views::View;
+
+fn same(one: [u8; 12], other: [u8; 12]) -> bool {
+    for at in 0..12 {
+        if one[at] != other[at] {
+            return false;
+        }
+    }
+    true
+}
+
+fn same_tallies(one: [u16; 20], other: [u16; 20]) -> bool {
+    for at in 0..20 {
+        if one[at] != other[at] {
+            return false;
+        }
+    }
+    true
+}
+
+fn agree(one: View, other: View) -> bool {
+    let shown = one.shown;
+    let its_shown = other.shown;
+    let tally = one.tally;
+    let its_tally = other.tally;
+    same(shown, its_shown) & same_tallies(tally, its_tally)
+}
+
+fn report(view: View) {
+    let shown = view.shown;
+    let tally = view.tally;
+    print::bytes(shown);
+    print::tallies(tally);
+    print::word(b"\n");
+}
+
+// The first difference: the history, the place in it and the event as one number; then, of the proved model and of the second one,
+// all that was compared.
+fn show(history: u64, place: u64, event: u64, one: View, other: View) {
+    print::word(b"first difference:");
+    print::item(history);
+    print::item(place);
+    print::item(event);
+    print::word(b"\n");
+    report(one);
+    report(other);
+}
+
+// Counts a difference after an event at a place, from 0, of the history that the counts have come to, and prints the first one.
+pub(super) fn hold(counts: &mut Counts, event: u64, place: u64, one: View, other: View) {
+    if agree(one, other) {
+        return;
+    }
+    if counts[counts::DIFFERENCES] == 0 {
+        show(counts[0], place, event, one, other);
+    }
+    counts::add(counts, counts::DIFFERENCES, 0, 1);
+}

@@ -1,0 +1,104 @@
+// Exchanges: six events each in their proper order, so that bytes meet every fate. An event is eight digits, two each: its
+// kind, its first operand, the bits of its second operand that are drawn, and the bits that are set.
+pub(super) const COUNT: u64 = 14;
+
+pub(super) const EVENTS: [u64; 84] = [
+    // A byte comes in at A and is read.
+    0x0500ff00, // any levels
+    0x050200ef, // STB falls, the other pins high
+    0x050200ff, // and rises
+    0x01000000, // a read begins
+    0x02000000, // and ends
+    0x0502ff00, // any levels of C
+    // One comes in before the last is read.
+    0x0502ef00, // STB falls, the other pins at any level
+    0x0502ef10, // and rises
+    0x0502ef00, // falls again
+    0x0502ef10, // and rises
+    0x01000000, // a read begins
+    0x02000000, // and ends
+    // One comes in within a read, and one behind it.
+    0x01000000, // a read begins
+    0x050200ef, // STB falls
+    0x0502ef10, // and rises
+    0x02000000, // the read ends
+    0x0502ef00, // STB falls
+    0x050200ff, // and rises
+    // A byte goes out at A, and one stays.
+    0x0300ff00, // a write begins
+    0x04000000, // and ends
+    0x050200bf, // ACK falls, the other pins high
+    0x050200ff, // and rises
+    0x0300ff00, // a write begins
+    0x04000000, // and ends
+    // One is written over another and goes out.
+    0x0300ff00, // a write begins
+    0x04000000, // and ends
+    0x0300ff00, // a second write begins
+    0x04000000, // and ends
+    0x0502bf00, // ACK falls, the other pins at any level
+    0x0502bf40, // and rises
+    // A byte comes in at B and is read.
+    0x0501ff00, // any levels
+    0x050200fb, // STB falls, the other pins high
+    0x050200ff, // and rises
+    0x01010000, // a read begins
+    0x02000000, // and ends
+    0x0502ff00, // any levels of C
+    // One comes in before the last is read.
+    0x0502fb00, // STB falls, the other pins at any level
+    0x0502fb04, // and rises
+    0x0502fb00, // falls again
+    0x0502fb04, // and rises
+    0x01010000, // a read begins
+    0x02000000, // and ends
+    // One comes in within a read, and one behind it.
+    0x01010000, // a read begins
+    0x050200fb, // STB falls
+    0x0502fb04, // and rises
+    0x02000000, // the read ends
+    0x0502fb00, // STB falls
+    0x050200ff, // and rises
+    // A byte goes out at B, and one stays.
+    0x0301ff00, // a write begins
+    0x04000000, // and ends
+    0x050200fb, // ACK falls, the other pins high
+    0x050200ff, // and rises
+    0x0301ff00, // a write begins
+    0x04000000, // and ends
+    // One is written over another and goes out.
+    0x0301ff00, // a write begins
+    0x04000000, // and ends
+    0x0301ff00, // a second write begins
+    0x04000000, // and ends
+    0x0502fb00, // ACK falls, the other pins at any level
+    0x0502fb04, // and rises
+    // Any mode, and the enables of A.
+    0x03037f80, // a mode word
+    0x04000000, // takes effect
+    0x03037009, // pin 4 set
+    0x04000000, // takes effect
+    0x0303700d, // pin 6 set
+    0x04000000, // takes effect
+    // Mode 1 in both groups, by one of four words, so that the same one often comes again; and enables.
+    0x030312a4, // a mode word
+    0x04000000, // takes effect
+    0x03037005, // pin 2 set
+    0x04000000, // takes effect
+    0x03037009, // pin 4 set
+    0x04000000, // takes effect
+    // Bytes wait at A and B as a mode word takes effect.
+    0x0300ff00, // a write to A begins
+    0x04000000, // and ends
+    0x0301ff00, // a write to B begins
+    0x04000000, // and ends
+    0x03037f80, // a mode word
+    0x04000000, // takes effect
+    // The lines of C.
+    0x0302ff00, // a write to C begins
+    0x04000000, // and ends
+    0x03037f00, // any pin set or reset
+    0x04000000, // takes effect
+    0x01020000, // a read of C begins
+    0x02000000, // and ends
+];

@@ -1,0 +1,60 @@
+// What a model shows and counts after an event, in one form for both models.
+use super::twins;
+use second::Answer;
+use step::Stepped;
+
+// What is shown: 0 the number, 1 the byte; 2 to 4 the levels of A, B and C, 5 to 7 their driven pins; and of what is kept:
+// 8 to 10 the phase, its port or address and its byte, 11 the mode word.
+pub(super) struct View {
+    pub(super) shown: [u8; 12],
+    pub(super) tally: [u16; 20],
+}
+
+pub(super) fn of_proved(last: Stepped) -> View {
+    let chip = last.chip;
+    let phase = chip.phase;
+    let a = ports::view::pins(chip, 0);
+    let b = ports::view::pins(chip, 1);
+    let c = ports::view::pins(chip, 2);
+    let bus = twins::running(phase);
+    let tally = twins::tallies(chip);
+    View {
+        shown: [
+            last.number,
+            last.byte,
+            a.levels,
+            b.levels,
+            c.levels,
+            a.driven,
+            b.driven,
+            c.driven,
+            bus.phase,
+            bus.place,
+            bus.data,
+            chip.core.word,
+        ],
+        tally,
+    }
+}
+
+pub(super) fn of_second(last: Answer) -> View {
+    let machine = last.machine;
+    let tally = machine.tally;
+    View {
+        shown: [
+            last.number,
+            last.byte,
+            second::levels(machine, 0),
+            second::levels(machine, 1),
+            second::levels(machine, 2),
+            second::driven(machine, 0),
+            second::driven(machine, 1),
+            second::driven(machine, 2),
+            machine.phase,
+            machine.place,
+            machine.data,
+            machine.word,
+        ],
+        tally,
+    }
+}

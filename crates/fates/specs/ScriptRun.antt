@@ -1,0 +1,40 @@
+-- Demand 3 of a script: the history that a text is, and what is promised of its run.
+use mathlib.Core.Path.{_≡_}
+use mathlib.Core.List.{List, [], _∷_, _++_, map}
+use Prim.Native.Nat.{ℕ}
+use Rattle.control.specs.declared.Group.{Group}
+use Rattle.channel.specs.declared.Side.{Side}
+use Rattle.channel.specs.declared.Side.the-variants.{Input}
+use Rattle.chip.specs.declared.Chip.{Chip}
+use Rattle.chip.specs.State.{noTally, powerUp}
+use Rattle.frames.specs.declared.Frame.{Frame}
+use Rattle.frames.specs.declared.Frame.the-variants.{Event as Frame·Event, NoFrame}
+use Rattle.script.specs.Lines.{Line, linesOf}
+use Rattle.script.specs.Answers.{frameIn, shownAfter, lineText, answersOf}
+use Rattle.laws.specs.History.{Event, event, stepped}
+use Rattle.fates.specs.Around.{atPowerUp}
+use Rattle.fates.specs.Bytes.{bytesOf}
+use Rattle.fates.specs.Promise.{Fates}
+use Rattle.fates.specs.Discipline.{Disciplined, NoneLost}
+
+-- A frame is its event; what is no frame is an event of no kind, so that the place of an event is the number of its line.
+abbrev pub eventOf : Frame → Event
+eventOf (Frame·Event k x d) = event k x d
+eventOf NoFrame = event 0xff 0 0
+
+-- The history of a text: an event for each line.
+abbrev pub historyOf : List ℕ → List Event
+historyOf text = map (λ (l : Line). eventOf (frameIn l)) (linesOf text)
+
+-- The answer lines that a history is given, event by event.
+abbrev pub answersTo : Chip → List Event → List ℕ
+answersTo c [] = []
+answersTo c (e ∷ es) = lineText (shownAfter (stepped c e)) ++ answersTo (stepped c e .chip) es
+
+-- What is promised of a text: its answers are those of its history from power-up; every byte of that history has its fate on each of
+-- the four channels; and where scale and program mind IBF no input byte is lost.
+pub record RunKept (text : List ℕ) : Type 0 where
+  pub answers : answersOf text ≡ answersTo powerUp (historyOf text)
+  pub fates : (g : Group) (s : Side)
+      → Fates g s powerUp (historyOf text) noTally (bytesOf g s (historyOf text)) (bytesOf g s (historyOf text))
+  pub noneLost : (g : Group) → Disciplined g atPowerUp powerUp (historyOf text) → NoneLost (bytesOf g Input (historyOf text))

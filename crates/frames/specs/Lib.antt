@@ -1,0 +1,2 @@
+pub mod Digits
+pub mod Frames

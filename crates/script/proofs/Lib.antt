@@ -1,0 +1,9 @@
+pub mod FirstLength
+pub mod FirstLine
+pub mod Past
+pub mod LineCount
+pub mod Filling
+pub mod Answering
+pub mod Numbers
+pub mod Pieces
+pub mod Outcome

@@ -1,0 +1,13 @@
+-- `answer::show` meets its contract.
+-- Rests on the contract of ports' view::pins.
+use Rattle.script.proofs.answer.show.Statement.{statement}
+use Rattle.script.proofs.answer.show.Tie as tie
+
+pub show-spec : {M : Type 1} → statement M
+show-spec =
+    tie.close
+    (tie.spec
+    (λ c κs. tt)
+    (λ c κs. tt)
+    (λ c κs. tt)
+    (λ c. rw (c .pins3 .ensures, c .before .pins2 .ensures, c .before .before .pins .ensures)))

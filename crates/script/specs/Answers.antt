@@ -1,0 +1,51 @@
+-- What a script is answered, line by line, by a chip at power-up ("Script and program").
+use mathlib.Core.List.{List, [], _∷_, _++_}
+use Prim.Native.Nat.{ℕ}
+use Rattle.chip.specs.declared.Chip.{Chip}
+use Rattle.chip.specs.State.{powerUp}
+use Rattle.ports.specs.Pins.{pinsOf}
+use Rattle.step.specs.declared.Stepped.{Stepped}
+use Rattle.step.specs.Step.{refused, stepOf}
+use Rattle.frames.specs.declared.Frame.{Frame}
+use Rattle.frames.specs.declared.Frame.the-variants.{Event, NoFrame}
+use Rattle.frames.specs.Digits.{written}
+use Rattle.frames.specs.Frames.{frameOf}
+use Rattle.script.specs.declared.Shown.{Shown}
+use Rattle.script.specs.Lines.{lf, Line, ended, rest, linesOf}
+
+-- What a line says. A rest without LF says nothing, however well it is formed.
+unfoldable pub frameIn : Line → Frame
+frameIn (ended bytes) = frameOf bytes
+frameIn (rest bytes) = NoFrame
+
+-- A frame is an event of the chip; what is no frame is refused with the number 1.
+unfoldable pub acted : Chip → Frame → Stepped
+acted c (Event k x d) = stepOf c k x d
+acted c NoFrame = refused c 1
+
+-- What becomes of the chip at a line.
+abbrev pub atLine : Chip → Line → Stepped
+atLine c l = acted c (frameIn l)
+
+-- What is shown after a line: its number, its byte, and the levels of A, B and C.
+abbrev pub shownAfter : Stepped → Shown
+shownAfter s = record {
+  number = s .number;
+  byte = s .byte;
+  a = pinsOf (s .chip) 0 .levels;
+  b = pinsOf (s .chip) 1 .levels;
+  c = pinsOf (s .chip) 2 .levels;
+}
+
+-- An answer line: these five in that order, and LF.
+unfoldable pub lineText : Shown → List ℕ
+lineText r = written (r .number) ++ written (r .byte) ++ written (r .a) ++ written (r .b) ++ written (r .c) ++ (lf ∷ [])
+
+-- The answers to some lines, each of which meets the chip that the one before it left.
+unfoldable pub answersFrom : Chip → List Line → List ℕ
+answersFrom c [] = []
+answersFrom c (l ∷ ls) = lineText (shownAfter (atLine c l)) ++ answersFrom (atLine c l .chip) ls
+
+-- The answers to a text.
+abbrev pub answersOf : List ℕ → List ℕ
+answersOf text = answersFrom powerUp (linesOf text)

@@ -1,0 +1,37 @@
+// What a line is answered: what the chip makes of it, and what is shown of that.
+ghost use mathlib.Core.Path.{_≡_};
+ghost use Rattle.script.specs.Answers.{acted, shownAfter};
+use super::Shown;
+use chip::Chip;
+use frames::Frame;
+use step::Stepped;
+
+// A frame is an event; what is no frame has the number 1, and leaves the chip as it was.
+pub(super) fn act(chip: Chip, frame: Frame) -> Stepped
+    ensures { λ r. ⌜ r ≡ acted chip frame ⌝ }
+{
+    match frame {
+        Frame::Event(kind, first, second) => step::step(chip, kind, first, second),
+        Frame::NoFrame => Stepped {
+            chip,
+            number: 1,
+            byte: 0,
+        },
+    }
+}
+
+// What the answer to a line shows.
+pub(super) fn show(last: Stepped) -> Shown
+    ensures { λ r. ⌜ r ≡ shownAfter last ⌝ }
+{
+    let a = ports::view::pins(last.chip, 0);
+    let b = ports::view::pins(last.chip, 1);
+    let c = ports::view::pins(last.chip, 2);
+    Shown {
+        number: last.number,
+        byte: last.byte,
+        a: a.levels,
+        b: b.levels,
+        c: c.levels,
+    }
+}
