@@ -1,19 +1,18 @@
 -- Demand 3 holds of every script.
 -- Rests on Demand, and on the outcomes of a step (step's Outcome).
-use mathlib.Core.Path.{_≡_, _∙_, refl, ap, sym}
+use mathlib.Core.Path.{_≡_, refl, ap, sym}
 use mathlib.Core.List.{List, [], _∷_, _++_, map}
 use Prim.Native.Nat.{ℕ}
 use native.Mathlib.Omega.{arith}
 use Rattle.chip.specs.declared.Chip.{Chip}
 use Rattle.chip.specs.State.{powerUp}
-use Rattle.step.specs.declared.Stepped.{Stepped}
 use Rattle.step.specs.Numbers.{numberOf}
 use Rattle.step.proofs.Outcome.{step-refuses}
 use Rattle.frames.specs.declared.Frame.{Frame}
 use Rattle.frames.specs.declared.Frame.the-variants.{Event as Frame·Event, NoFrame}
 use Rattle.script.specs.Lines.{Line, linesOf}
-use Rattle.script.specs.Answers.{frameIn, acted, atLine, shownAfter, lineText, answersFrom}
-use Rattle.laws.specs.History.{Event, stepped}
+use Rattle.script.specs.Answers.{frameIn, acted, shownAfter, lineText, answersFrom}
+use Rattle.laws.specs.History.{stepped}
 use Rattle.fates.specs.ScriptRun.{eventOf, historyOf, answersTo, RunKept}
 use Rattle.fates.proofs.Demand.{fates, disciplined}
 

@@ -7,7 +7,8 @@ use native.Mathlib.Numerals.{add-one}
 use lib.ListN.{length, getD, drop, drop-of-length-le}
 use lib.Seq.{drop-cons}
 use borrow.Author.Tests.{eq-eqb, ne-eqb}
-use Rattle.script.specs.Lines.{lf, firstLength}
+use Rattle.script.specs.Lines.{lf}
+use Rattle.script.specs.Walk.{firstLength}
 
 pub at-end : (text : List ℕ) (at : ℕ) → length text ≤ at → firstLength (drop at text) ≡ 0
 unfolding firstLength

@@ -9,7 +9,8 @@ use native.Mathlib.Omega.{arith}
 use borrow.Author.Tests.{lt-ltb}
 use lib.Dec.{eqb, ltb, leb·suc-suc}
 use lib.ListN.{length, take, drop}
-use Rattle.script.specs.Lines.{lf, Line, ended, rest, withByte, beforeLines, linesOf, firstLength, lineOf}
+use Rattle.script.specs.Lines.{lf, Line, ended, rest, withByte, beforeLines, linesOf}
+use Rattle.script.specs.Walk.{firstLength, lineOf}
 
 -- A byte in front of a text makes its first line longer by one.
 with-byte : (b n : ℕ) (text : List ℕ) → withByte b (lineOf n text) ≡ lineOf (suc n) (b ∷ text)

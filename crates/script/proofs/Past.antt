@@ -10,7 +10,8 @@ use lib.Dec.{ltb}
 use lib.ListN.{length, take, drop, length-drop, drop-of-length-le}
 use borrow.Author.Tests.{ltb-true, ltb-false}
 use borrow.Rule.Slice.PartAt.{part-to-end}
-use Rattle.script.specs.Lines.{linesOf, firstLength, lineOf, pastLine}
+use Rattle.script.specs.Lines.{linesOf}
+use Rattle.script.specs.Walk.{firstLength, lineOf, pastLine}
 use Rattle.script.proofs.FirstLine.{first-and-rest}
 
 past-within : (text : List ℕ) (n : ℕ) → pastLine text n ≤ length text

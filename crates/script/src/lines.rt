@@ -1,6 +1,6 @@
 // The lines of a text: how long the first one is, what it says, what follows it, and how many there are.
 ghost use mathlib.Core.Path.{_≡_};
-ghost use Rattle.script.specs.Lines.{firstLength, lineOf, pastLine};
+ghost use Rattle.script.specs.Walk.{firstLength, lineOf, pastLine};
 ghost use Rattle.script.specs.Answers.{frameIn};
 ghost use Rattle.script.specs.Run.{lineCount};
 use super::LF;

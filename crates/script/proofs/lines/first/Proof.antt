@@ -6,7 +6,7 @@ use native.Mathlib.Omega.{arith}
 use native.Mathlib.Nat.{zero-add}
 use lib.ListN.{length, drop}
 use borrow.Author.Needs.{needs}
-use Rattle.script.specs.Lines.{firstLength}
+use Rattle.script.specs.Walk.{firstLength}
 use Rattle.script.proofs.FirstLength.{at-end, at-lf, within}
 use Rattle.script.proofs.lines.first.Statement.{statement}
 use Rattle.script.proofs.lines.first.Tie as tie

@@ -2,7 +2,7 @@
 -- Rests on nothing.
 use borrow.Author.Needs.{needs}
 use borrow.Author.Tests.{lt-ltb, le-ltb}
-use Rattle.script.specs.Lines.{pastLine}
+use Rattle.script.specs.Walk.{pastLine}
 use Rattle.script.proofs.lines.past.Statement.{statement}
 use Rattle.script.proofs.lines.past.Tie as tie
 
