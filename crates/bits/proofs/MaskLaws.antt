@@ -44,7 +44,7 @@ unfolding blendOf
 bit-of-blend m x y = bit-of-assembled (λ k. cond (bitOf m k) (bitOf x k) (bitOf y k))
 
 -- What a mask and its complement leave of two bits is one of them, and so of two bytes.
-pub either : (m a b : Bool) → (a && m || b && not m) ≡ cond m a b
+either : (m a b : Bool) → (a && m || b && not m) ≡ cond m a b
 either true true b = refl
 either true false true = refl
 either true false false = refl

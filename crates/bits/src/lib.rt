@@ -50,10 +50,3 @@ pub fn choose(on: bool, yes: u8, no: u8) -> u8
 {
     if on { yes } else { no }
 }
-
-// One of two bits.
-pub fn select(on: bool, yes: bool, no: bool) -> bool
-    ensures { λ r. ⌜ r ≡ cond on yes no ⌝ }
-{
-    (yes & on) | (no & !on)
-}

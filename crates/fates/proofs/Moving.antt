@@ -7,7 +7,7 @@ use lib.Dec.{T}
 use Rattle.channel.specs.declared.Side.{Side}
 use Rattle.channel.specs.declared.Side.the-variants.{Output}
 use Rattle.channel.specs.declared.Channel.{Channel}
-use Rattle.cycles.specs.Write.{storedIn}
+use Rattle.writes.specs.Write.{storedIn}
 use Rattle.fates.specs.Deeds.{Deed, offered, nothing, when}
 use Rattle.fates.proofs.Moved.{moved}
 

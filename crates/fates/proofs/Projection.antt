@@ -1,7 +1,7 @@
 -- Each channel of the chip moves as its own history says: what an event is to the channel, in the history's words, is what the step
 -- does to it. One lemma over the four channels.
--- Rests on Tables, Accepted, Moved and Moving, and on what the crates below say of each event: settings' After, cycles' AfterRead and
--- AfterWrite, levels' After, chip's Surrounded, control's Strobed, the step's ByKind.
+-- Rests on Tables, Accepted, Moved and Moving, and on what the crates below say of each event: settings' After, reads' and
+-- writes' After, levels' After, chip's Surrounded, control's Strobed, the step's ByKind.
 use mathlib.Core.Path.{_≡_, refl}
 use mathlib.Core.Bool.{Bool, true, false}
 use Prim.Native.Nat.{ℕ}
@@ -21,9 +21,9 @@ use Rattle.chip.specs.State.{portOf, channelOf}
 use Rattle.chip.specs.Handshakes.{ownAddress, lineOf}
 use Rattle.chip.proofs.Surrounded.{Spared, spared-port}
 use Rattle.settings.proofs.After.{renewed-channel}
-use Rattle.cycles.specs.Read.{begunRead}
-use Rattle.cycles.proofs.AfterRead.{begun-input, begun-output, ended-input, ended-output}
-use Rattle.cycles.proofs.AfterWrite.{Stored, by-address}
+use Rattle.reads.specs.Read.{begunRead}
+use Rattle.reads.proofs.After.{begun-input, begun-output, ended-input, ended-output}
+use Rattle.writes.proofs.After.{Stored, by-address}
 use Rattle.levels.specs.Levels.{fallen, levelled}
 use Rattle.levels.proofs.After.{levelled-input, levelled-output}
 use Rattle.step.specs.Step.{onBus, afterEndRead, afterEndWrite, afterOf}

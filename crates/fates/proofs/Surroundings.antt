@@ -1,5 +1,5 @@
 -- The chip's bus phase, mode word and outside levels are those that the history works out for itself.
--- Rests on Accepted, and on what the crates below say of each event: settings' After, cycles' AfterRead and AfterWrite, levels' After,
+-- Rests on Accepted, and on what the crates below say of each event: settings' After, reads' and writes' After, levels' After,
 -- chip's Surrounded, the step's ByKind.
 use mathlib.Core.Path.{_≡_, refl}
 use mathlib.Core.Bool.{true, cond}
@@ -12,9 +12,9 @@ use Rattle.chip.specs.declared.Chip.{Chip}
 use Rattle.chip.proofs.Surrounded.{Surrounded, spared-around}
 use Rattle.settings.specs.Renewed.{renewed}
 use Rattle.settings.proofs.After.{renewed-word, renewed-ports, renewed-lines}
-use Rattle.cycles.specs.Read.{begunRead, endedRead}
-use Rattle.cycles.proofs.AfterRead.{begun-around, ended-around}
-use Rattle.cycles.proofs.AfterWrite.{by-address}
+use Rattle.reads.specs.Read.{begunRead, endedRead}
+use Rattle.reads.proofs.After.{begun-around, ended-around}
+use Rattle.writes.proofs.After.{by-address}
 use Rattle.levels.specs.Levels.{levelled}
 use Rattle.levels.proofs.After.{levelled-word, levelled-ports, levelled-lines}
 use Rattle.step.specs.Step.{onBus, afterEndRead, afterEndWrite, afterOf}

@@ -38,17 +38,9 @@ pub fn frame(line: &[u8]) -> Frame
     let kind = byte_at(line, 0);
     let first = byte_at(line, 2);
     let second = byte_at(line, 4);
-    if 6 <= kind {
-        return Frame::NoFrame;
+    let long = line.len() == length(kind);
+    if (kind < 6) & long & (first < 256) & (second < 256) {
+        return Frame::Event(kind as u8, first as u8, second as u8);
     }
-    if line.len() != length(kind) {
-        return Frame::NoFrame;
-    }
-    if 256 <= first {
-        return Frame::NoFrame;
-    }
-    if 256 <= second {
-        return Frame::NoFrame;
-    }
-    Frame::Event(kind as u8, first as u8, second as u8)
+    Frame::NoFrame
 }

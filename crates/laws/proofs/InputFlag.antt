@@ -1,5 +1,5 @@
 -- IBF as the sheet has it, in every state: set by the fall of STB, still set while the read runs, reset by its end ("Handshake").
--- Rests on FlagAfter, Refusals, ChannelPins, the channel's Left, cycles' AfterRead, levels' After, and the step's ByKind, Ends and
+-- Rests on FlagAfter, Refusals, ChannelPins, the channel's Left, reads' After, levels' After, and the step's ByKind, Ends and
 -- Outcome.
 use mathlib.Core.Path.{_≡_, _∙_, refl, sym}
 use mathlib.Core.Bool.{true, false, not, _&&_}
@@ -23,8 +23,8 @@ use Rattle.chip.specs.declared.Chip.{Chip}
 use Rattle.chip.specs.State.{portOf, channelOf}
 use Rattle.chip.specs.Handshakes.{strobed, lineOf, ownAddress, reading}
 use Rattle.status.specs.Status.{flagAt}
-use Rattle.cycles.specs.Read.{begunRead, endedRead}
-use Rattle.cycles.proofs.AfterRead.{begun-input, begun-around, ended-input, ended-around}
+use Rattle.reads.specs.Read.{begunRead, endedRead}
+use Rattle.reads.proofs.After.{begun-input, begun-around, ended-input, ended-around}
 use Rattle.levels.specs.Levels.{lineFalls, levelled}
 use Rattle.levels.proofs.After.{levelled-input, levelled-word}
 use Rattle.step.specs.Numbers.{isBusy, isWriting}

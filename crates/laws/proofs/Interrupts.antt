@@ -2,7 +2,7 @@
 -- beginning of the own read or write drops it ("Handshake").
 -- Rests on ChannelPins, on control's ModeTwo and Strobed, and on the step's Outcome.
 use mathlib.Core.Path.{_≡_, _∙_, refl, ap, sym}
-use mathlib.Core.Bool.{Bool, true, false, not, _&&_, _||_}
+use mathlib.Core.Bool.{Bool, true, false, not, _&&_, _||_, or-false}
 use Prim.Native.Nat.{ℕ}
 use borrow.Author.Tests.{not-true}
 use Rattle.bits.specs.Bit.{bitOf}
@@ -37,10 +37,6 @@ intr-in-mode-2 c two =
     let both = mode-2-both-ways (c .core .word) two in
     intr-pin c A Input (both .taking)
     ∙ rw (half-is c A Input (both .taking), half-is c A Output (both .giving))
-
-or-false : (b : Bool) → (b || false) ≡ b
-or-false true = refl
-or-false false = refl
 
 dropped : (a b d e : Bool) → (a && b && d && e && not true) ≡ false
 dropped true true true true = refl

@@ -24,7 +24,7 @@ use Rattle.chip.specs.State.{noEnables, portOf, channelOf}
 use Rattle.chip.specs.Handshakes.{enableOf}
 use Rattle.settings.specs.Renewed.{clearedPort, renewed}
 use Rattle.settings.proofs.After.{renewed-channel, renewed-word, renewed-ports, renewed-lines, renewed-latch, renewed-enables, mode-word}
-use Rattle.cycles.specs.Write.{written}
+use Rattle.writes.specs.Write.{written}
 use Rattle.ports.specs.Reads.{readPort}
 use Rattle.ports.specs.Pins.{drivesPort, pinsOfPort, pinsOfLines, pinsOf}
 use Rattle.step.specs.Numbers.{numberOf}

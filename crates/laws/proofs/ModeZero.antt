@@ -1,5 +1,5 @@
 -- Mode 0: outputs are latched and inputs are not ("Writes and bit set/reset", "Reads and pins").
--- Rests on OwnPort, cycles' AfterWrite, levels' After, and the step's Ends and Outcome.
+-- Rests on OwnPort, writes' After, levels' After, and the step's Ends and Outcome.
 use mathlib.Core.Path.{_≡_, _∙_, refl, ap, sym}
 use mathlib.Core.Bool.{true, false, not, and-false}
 use Prim.Native.Nat.{ℕ}
@@ -13,8 +13,8 @@ use Rattle.chip.specs.declared.Core.{Core}
 use Rattle.chip.specs.declared.Chip.{Chip}
 use Rattle.chip.specs.State.{portOf}
 use Rattle.chip.specs.Handshakes.{ownAddress}
-use Rattle.cycles.specs.Write.{written}
-use Rattle.cycles.proofs.AfterWrite.{own-stored}
+use Rattle.writes.specs.Write.{written}
+use Rattle.writes.proofs.After.{own-stored}
 use Rattle.levels.specs.Levels.{levelled}
 use Rattle.levels.proofs.After.{levelled-output, levelled-word, levelled-ports}
 use Rattle.ports.specs.Reads.{readPort, readOf}

@@ -25,7 +25,7 @@ use Rattle.chip.specs.State.{withEnables}
 use Rattle.chip.specs.Handshakes.{groupAt, lineOf, enableOf}
 use Rattle.settings.specs.Commanded.{enabled, setAs, pinSet}
 use Rattle.settings.proofs.After.{bit-word}
-use Rattle.cycles.specs.Write.{written}
+use Rattle.writes.specs.Write.{written}
 use Rattle.step.specs.Step.{stepOf}
 use Rattle.step.proofs.Ends.{write-ends}
 

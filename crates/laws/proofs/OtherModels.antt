@@ -1,6 +1,6 @@
 -- The five errors seen in other models, each forbidden in every state. IBF lowered as the read begins: begin-keeps-ibf in InputFlag.
 -- A mode word equal to the last one taken for no change: same-word-renews in ModeWords. The other three are here.
--- Rests on ChannelPins, Refusals, cycles' AfterRead, bits' BitLaws, and the step's Ends and Outcome.
+-- Rests on ChannelPins, Refusals, reads' After, bits' BitLaws, and the step's Ends and Outcome.
 use mathlib.Core.Path.{_≡_, _∙_, refl, ap, sym, ap₂}
 use mathlib.Core.Bool.{Bool, true, false, cond, _&&_, _||_, and-false}
 use Prim.Native.Nat.{ℕ, _<_, _≤_}
@@ -21,9 +21,9 @@ use Rattle.chip.specs.declared.Core.{Core}
 use Rattle.chip.specs.declared.Chip.{Chip}
 use Rattle.chip.specs.State.{channelOf, withLatch}
 use Rattle.chip.specs.Handshakes.{groupAt, strobed, lineOf, enableOf, ownAddress, running}
-use Rattle.cycles.specs.Read.{begunRead}
-use Rattle.cycles.proofs.AfterRead.{begun-input, begun-output, begun-around, begun-enables}
-use Rattle.cycles.specs.Write.{writable, latchWritten, written}
+use Rattle.reads.specs.Read.{begunRead}
+use Rattle.reads.proofs.After.{begun-input, begun-output, begun-around, begun-enables}
+use Rattle.writes.specs.Write.{writable, latchWritten, written}
 use Rattle.status.specs.Status.{flagAt, requestOf, intrOf}
 use Rattle.ports.specs.Pins.{levelAs}
 use Rattle.step.specs.Numbers.{numberOf}

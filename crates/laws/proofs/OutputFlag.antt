@@ -1,5 +1,5 @@
 -- OBF as the sheet has it, in every state: low from the end of the write to the fall of ACK ("Handshake").
--- Rests on FlagAfter, Refusals, ChannelPins, control's Strobed, the channel's Left, chip's Surrounded, cycles' AfterRead and AfterWrite,
+-- Rests on FlagAfter, Refusals, ChannelPins, control's Strobed, the channel's Left, chip's Surrounded, reads' and writes' After,
 -- levels' After, and the step's ByKind, Ends and Outcome.
 use mathlib.Core.Path.{_≡_, _∙_, refl, ap, sym, subst}
 use mathlib.Core.Bool.{Bool, true, false, cond, not, _&&_}
@@ -25,10 +25,10 @@ use Rattle.chip.specs.State.{channelOf}
 use Rattle.chip.specs.Handshakes.{strobed, lineOf, ownAddress}
 use Rattle.chip.proofs.Surrounded.{spared-port}
 use Rattle.status.specs.Status.{flagAt}
-use Rattle.cycles.specs.Read.{begunRead, endedRead}
-use Rattle.cycles.proofs.AfterRead.{begun-output, begun-around, ended-output, ended-around}
-use Rattle.cycles.proofs.AfterWrite.{by-address, own-stored}
-use Rattle.cycles.specs.Write.{storedIn, written}
+use Rattle.reads.specs.Read.{begunRead, endedRead}
+use Rattle.reads.proofs.After.{begun-output, begun-around, ended-output, ended-around}
+use Rattle.writes.proofs.After.{by-address, own-stored}
+use Rattle.writes.specs.Write.{storedIn, written}
 use Rattle.levels.specs.Levels.{lineFalls, levelled}
 use Rattle.levels.proofs.After.{levelled-output, levelled-word}
 use Rattle.step.specs.Step.{stepOf}

@@ -1,6 +1,6 @@
 -- A channel that the mode word does not strobe takes no part in edges and cycles: it keeps its condition and its tallies through
 -- every event but a reset and a mode word ("Events and numbers").
--- Rests on Refusals, chip's Surrounded, cycles' AfterRead and AfterWrite, levels' After, and the step's ByKind, Ends and Outcome.
+-- Rests on Refusals, chip's Surrounded, reads' and writes' After, levels' After, and the step's ByKind, Ends and Outcome.
 use mathlib.Core.Path.{_≡_, _∙_, refl, ap, sym, subst}
 use mathlib.Core.Bool.{Bool, true, false, cond, and-false}
 use Prim.Native.Nat.{ℕ}
@@ -18,10 +18,10 @@ use Rattle.chip.specs.declared.Chip.{Chip}
 use Rattle.chip.specs.State.{sideOf, channelOf}
 use Rattle.chip.specs.Handshakes.{strobed, ownAddress}
 use Rattle.chip.proofs.Surrounded.{spared-port}
-use Rattle.cycles.specs.Read.{begunRead, endedRead}
-use Rattle.cycles.specs.Write.{storedIn, written}
-use Rattle.cycles.proofs.AfterRead.{begun-input, begun-output, ended-input, ended-output}
-use Rattle.cycles.proofs.AfterWrite.{Stored, by-address}
+use Rattle.reads.specs.Read.{begunRead, endedRead}
+use Rattle.writes.specs.Write.{storedIn, written}
+use Rattle.reads.proofs.After.{begun-input, begun-output, ended-input, ended-output}
+use Rattle.writes.proofs.After.{Stored, by-address}
 use Rattle.levels.specs.Levels.{levelled}
 use Rattle.levels.proofs.After.{levelled-input, levelled-output}
 use Rattle.step.specs.Step.{stepOf}

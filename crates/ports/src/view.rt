@@ -12,11 +12,13 @@ fn drives(core: Core, group: Group) -> bool
     ensures { λ r. ⌜ r ≡ drivesPort core group ⌝ }
 {
     match group {
-        Group::A => bits::select(
-            control::mode::mode(core.word, group) == 2,
-            !bits::bit(core.c.outside, 6),
-            control::mode::output(core.word, group),
-        ),
+        Group::A => {
+            if control::mode::mode(core.word, Group::A) == 2 {
+                !bits::bit(core.c.outside, 6)
+            } else {
+                control::mode::output(core.word, Group::A)
+            }
+        }
         Group::B => control::mode::output(core.word, group),
     }
 }

@@ -32,6 +32,10 @@ requestOf c g s =
 unfoldable pub intrOf : Chip → Group → Bool
 intrOf c g = requestOf c g Input || requestOf c g Output
 
+-- Group B has one pin for the flags of its two channels: it tells IBF of a strobed input, and OBF otherwise.
+abbrev pub flagOfB : Core → Bool
+flagOfB c = cond (strobedInput (c .word) B) (flagAt c B Input) (flagAt c B Output)
+
 -- The sheet's status word: OBF and INTE of A's output, IBF and INTE of its input, INTR of A; INTE, flag and INTR of B. Each
 -- stands on the pin that tells it where that pin takes part in a handshake.
 unfoldable pub statusOf : Chip → ℕ
@@ -40,5 +44,5 @@ statusOf c =
     (flagAt (c .core) A Output) (c .core .inte .output)
     (flagAt (c .core) A Input) (c .core .inte .input)
     (intrOf c A)
-    (c .core .inte .b) (cond (strobedInput (c .core .word) B) (flagAt (c .core) B Input) (flagAt (c .core) B Output))
+    (c .core .inte .b) (flagOfB (c .core))
     (intrOf c B)

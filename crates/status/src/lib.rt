@@ -1,7 +1,7 @@
 // The interrupt requests, and the status word: what port C tells of both handshakes.
 ghost use mathlib.Core.Path.{_≡_};
 ghost use Rattle.chip.specs.Handshakes.{strobed, lineOf, enableOf, ownAddress, reading, writing, running};
-ghost use Rattle.status.specs.Status.{flagAt, requestOf, intrOf, statusOf};
+ghost use Rattle.status.specs.Status.{flagAt, requestOf, intrOf, flagOfB, statusOf};
 use channel::Side;
 use chip::Chip;
 use chip::Core;
@@ -111,13 +111,22 @@ fn intr(chip: Chip, group: Group) -> bool
     request(chip, group, Side::Input) | request(chip, group, Side::Output)
 }
 
+// Group B's flag: its two channels share the pin.
+fn flag_of_b(core: Core) -> bool
+    ensures { λ r. ⌜ r ≡ flagOfB core ⌝ }
+{
+    if control::mode::strobed_input(core.word, Group::B) {
+        return flag(core, Group::B, Side::Input);
+    }
+    flag(core, Group::B, Side::Output)
+}
+
 // Every flag, enable and request on the pin that tells it.
 pub fn status(chip: Chip) -> u8
     ensures { λ r. ⌜ r ≡ statusOf chip ⌝ }
 {
     let core = chip.core;
     let inte = core.inte;
-    let taking = control::mode::strobed_input(core.word, Group::B);
     bits::byte(
         flag(core, Group::A, Side::Output),
         inte.output,
@@ -125,11 +134,7 @@ pub fn status(chip: Chip) -> u8
         inte.input,
         intr(chip, Group::A),
         inte.b,
-        bits::select(
-            taking,
-            flag(core, Group::B, Side::Input),
-            flag(core, Group::B, Side::Output),
-        ),
+        flag_of_b(core),
         intr(chip, Group::B),
     )
 }

@@ -8,14 +8,14 @@ use Rattle.chip.specs.declared.Phase.{Phase}
 use Rattle.chip.specs.declared.Phase.the-variants.{Idle, Reading, Writing}
 use Rattle.chip.specs.declared.Core.{Core}
 use Rattle.chip.specs.declared.Chip.{Chip}
-use Rattle.cycles.specs.Read.{endedRead}
-use Rattle.cycles.specs.Write.{written}
+use Rattle.reads.specs.Read.{endedRead}
+use Rattle.writes.specs.Write.{written}
 use Rattle.step.specs.declared.Stepped.{Stepped}
 use Rattle.step.specs.Numbers.{numberOf}
 use Rattle.step.specs.Step.{onBus, afterEndRead, afterEndWrite, accepted, refused, stepOf}
 
 -- An end of kind k in a phase, where `after` says what it makes of the core.
-abbrev pub endIn : (Core → Phase → Core) → ℕ → Chip → Phase → Stepped
+abbrev endIn : (Core → Phase → Core) → ℕ → Chip → Phase → Stepped
 endIn after k c ph = cond (eqb (numberOf ph k 0) 0) (accepted (onBus Idle (after (c .core) ph)) 0) (refused c (numberOf ph k 0))
 
 -- An end in its own phase is accepted, and does what the cycle asks.

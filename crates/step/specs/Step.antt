@@ -7,8 +7,8 @@ use Rattle.chip.specs.declared.Phase.the-variants.{Idle, Reading, Writing}
 use Rattle.chip.specs.declared.Core.{Core}
 use Rattle.chip.specs.declared.Chip.{Chip}
 use Rattle.settings.specs.Renewed.{renewed}
-use Rattle.cycles.specs.Read.{begunRead, endedRead}
-use Rattle.cycles.specs.Write.{written}
+use Rattle.reads.specs.Read.{begunRead, endedRead}
+use Rattle.writes.specs.Write.{written}
 use Rattle.levels.specs.Levels.{levelled}
 use Rattle.ports.specs.Reads.{readOf}
 use Rattle.step.specs.declared.Stepped.{Stepped}

@@ -5,15 +5,12 @@ use Rattle.status.proofs.status.Tie as tie
 
 pub status-spec : {M : Type 1} → statement M
 unfolding statusOf
-status-spec = tie.close (tie.spec (λ c κs. tt) (λ c κs. tt) (λ c κs. tt) (λ c κs. tt) (λ c κs. tt) (λ c κs. tt) (λ c κs. tt) (λ c κs. tt) (λ c κs. tt)
+status-spec = tie.close (tie.spec (λ c κs. tt) (λ c κs. tt) (λ c κs. tt) (λ c κs. tt) (λ c κs. tt) (λ c κs. tt)
     (λ c. rw (
       c .byte .ensures,
       c .before .intr2 .ensures,
-      c .before .before .select .ensures,
-      c .before .before .before .flag4 .ensures,
-      c .before .before .before .before .flag3 .ensures,
-      c .before .before .before .before .before .intr .ensures,
-      c .before .before .before .before .before .before .flag2 .ensures,
-      c .before .before .before .before .before .before .before .flag .ensures,
-      c .before .before .before .before .before .before .before .before .strobed-input .ensures,
+      c .before .before .flag-of-b .ensures,
+      c .before .before .before .intr .ensures,
+      c .before .before .before .before .flag2 .ensures,
+      c .before .before .before .before .before .flag .ensures,
     )))

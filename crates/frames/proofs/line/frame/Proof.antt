@@ -1,80 +1,51 @@
--- `line::frame` meets its contract, test by test.
+-- `line::frame` meets its contract: its one test is whether the line is a frame.
 -- Rests on the contracts of line::byte_at and line::length.
-use borrow.Author.Needs.{needs}
-use borrow.Author.Tests.{lt-ltb, le-ltb, eq-eqb, ne-eqb}
+use mathlib.Core.Path.{_≡_}
+use mathlib.Core.Bool.{Bool, true, _&&_, and-eq-true-iff}
+use Prim.Native.Nat.{ℕ, _<_}
+use native.Mathlib.Omega.{arith}
+use lib.Dec.{ltb}
+use borrow.Author.Tests.{ltb-true}
 use Rattle.frames.specs.Frames.{isFrame, frameOf}
 use Rattle.frames.proofs.line.frame.Statement.{statement}
 use Rattle.frames.proofs.line.frame.Tie as tie
 
+-- What the test says of the three bytes where it holds.
+tested : (k x d : ℕ) (long : Bool) → (ltb k 6 && long && ltb x 256 && ltb d 256) ≡ true → (k < 6) × (x < 256) × (d < 256)
+tested k x d long e =
+    let both = and-eq-true-iff (ltb k 6 && long && ltb x 256) (ltb d 256) .0 e in
+    let front = and-eq-true-iff (ltb k 6 && long) (ltb x 256) .0 (both .0) in
+    (ltb-true k 6 (and-eq-true-iff (ltb k 6) long .0 (front .0) .0), ltb-true x 256 (front .1), ltb-true d 256 (both .1))
+
 returns : tie.Need-returns
 unfolding frameOf isFrame
-returns c = rw (← c .before .before .before .byte-at .ensures, le-ltb _ _ (c .if1 .taken))
+returns c =
+    let bytes = c .before .before in
+    rw (
+      ← bytes .byte-at3 .ensures,
+      ← bytes .before .byte-at2 .ensures,
+      ← bytes .before .before .byte-at .ensures,
+      ← c .before .length .ensures,
+      c .if1 .taken,
+    )
 
 returns-2 : tie.Need-returns-2
 unfolding frameOf isFrame
 returns-2 c =
-    let kind = c .before .before in
-    rw (← kind .before .before .before .byte-at .ensures, ← c .before .length .ensures, lt-ltb _ _ (kind .if1 .left), ne-eqb _ _ (c .if2 .taken))
-
-returns-3 : tie.Need-returns-3
-unfolding frameOf isFrame
-returns-3 c =
-    let fits = c .before in
-    let kind = fits .before .before in
+    let bytes = c .before .before in
     rw (
-      ← kind .before .before .byte-at2 .ensures,
-      ← kind .before .before .before .byte-at .ensures,
-      ← fits .before .length .ensures,
-      lt-ltb _ _ (kind .if1 .left),
-      eq-eqb _ _ (fits .if2 .left),
-      le-ltb _ _ (c .if3 .taken),
-    )
-
-returns-4 : tie.Need-returns-4
-unfolding frameOf isFrame
-returns-4 c =
-    let fits = c .before .before in
-    let kind = fits .before .before in
-    rw (
-      ← kind .before .byte-at3 .ensures,
-      ← kind .before .before .byte-at2 .ensures,
-      ← kind .before .before .before .byte-at .ensures,
-      ← fits .before .length .ensures,
-      lt-ltb _ _ (kind .if1 .left),
-      eq-eqb _ _ (fits .if2 .left),
-      lt-ltb _ _ (c .before .if3 .left),
-      le-ltb _ _ (c .if4 .taken),
-    )
-
-returns-5 : tie.Need-returns-5
-unfolding frameOf isFrame
-returns-5 c =
-    let fits = c .before .before in
-    let kind = fits .before .before in
-    rw (
-      ← kind .before .byte-at3 .ensures,
-      ← kind .before .before .byte-at2 .ensures,
-      ← kind .before .before .before .byte-at .ensures,
-      ← fits .before .length .ensures,
-      lt-ltb _ _ (kind .if1 .left),
-      eq-eqb _ _ (fits .if2 .left),
-      lt-ltb _ _ (c .before .if3 .left),
-      lt-ltb _ _ (c .if4 .left),
+      ← bytes .byte-at3 .ensures,
+      ← bytes .before .byte-at2 .ensures,
+      ← bytes .before .before .byte-at .ensures,
+      ← c .before .length .ensures,
+      c .if1 .left,
     )
 
 pub frame-spec : {M : Type 1} → statement M
-frame-spec =
-    tie.close
-    (tie.spec
-    (λ c κs. tt)
-    (λ c κs. tt)
-    (λ c κs. tt)
+frame-spec = tie.close (tie.spec
+    (λ c κs. tt) (λ c κs. tt) (λ c κs. tt) (λ c κs. tt)
+    (λ c. let bytes = c .before .before in omega (arith, tested (bytes .before .before .byte-at .result) (bytes .before .byte-at2 .result) (bytes .byte-at3 .result) _ (c .if1 .taken) .0))
+    (λ c. let bytes = c .before .before in omega (arith, tested (bytes .before .before .byte-at .result) (bytes .before .byte-at2 .result) (bytes .byte-at3 .result) _ (c .if1 .taken) .1))
+    (λ c. let bytes = c .before .before in omega (arith, tested (bytes .before .before .byte-at .result) (bytes .before .byte-at2 .result) (bytes .byte-at3 .result) _ (c .if1 .taken) .2))
     returns
-    (λ c κs. tt)
-    returns-2
-    returns-3
-    returns-4
-    (λ c. search needs)
-    (λ c. search needs)
-    (λ c. search needs)
-    returns-5)
+    returns-2)

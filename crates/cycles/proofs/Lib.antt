@@ -1,3 +1,0 @@
-pub mod WriteByMasks
-pub mod AfterRead
-pub mod AfterWrite

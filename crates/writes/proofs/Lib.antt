@@ -1,0 +1,2 @@
+pub mod ByMasks
+pub mod After
