@@ -33,13 +33,10 @@ fn start(chip: Chip, machine: Machine) -> Pair {
     }
 }
 
-fn happen(pair: Pair, kind: u8, first: u8, second: u8) -> Pair {
-    let chip = pair.proved.chip;
-    let machine = pair.second.machine;
-    Pair {
-        proved: step::step(chip, kind, first, second),
-        second: second::event(machine, kind, first, second),
-    }
+fn happen(mut pair: Pair, kind: u8, first: u8, second: u8) -> Pair {
+    pair.proved = step::step(pair.proved.chip, kind, first, second);
+    pair.second = second::event(pair.second.machine, kind, first, second);
+    pair
 }
 
 // Counts what the event did, and compares the models after it. Leaves what the proved one shows.

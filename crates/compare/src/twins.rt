@@ -31,7 +31,7 @@ pub(super) fn running(phase: Phase) -> Bus {
     }
 }
 
-fn fill(channel: Channel) -> u8 {
+fn mark(channel: Channel) -> u8 {
     let fill = channel.fill;
     match fill {
         Fill::Empty => 0,
@@ -41,53 +41,62 @@ fn fill(channel: Channel) -> u8 {
 }
 
 pub(super) fn tallies(chip: Chip) -> [u16; 20] {
-    let core = chip.core;
     [
-        core.a.input.tally.offered,
-        core.a.input.tally.handed,
-        core.a.input.tally.overwritten,
-        core.a.input.tally.swallowed,
-        core.a.input.tally.cleared,
-        core.a.output.tally.offered,
-        core.a.output.tally.handed,
-        core.a.output.tally.overwritten,
-        core.a.output.tally.swallowed,
-        core.a.output.tally.cleared,
-        core.b.input.tally.offered,
-        core.b.input.tally.handed,
-        core.b.input.tally.overwritten,
-        core.b.input.tally.swallowed,
-        core.b.input.tally.cleared,
-        core.b.output.tally.offered,
-        core.b.output.tally.handed,
-        core.b.output.tally.overwritten,
-        core.b.output.tally.swallowed,
-        core.b.output.tally.cleared,
+        chip.core.a.input.tally.offered,
+        chip.core.a.input.tally.handed,
+        chip.core.a.input.tally.overwritten,
+        chip.core.a.input.tally.swallowed,
+        chip.core.a.input.tally.cleared,
+        chip.core.a.output.tally.offered,
+        chip.core.a.output.tally.handed,
+        chip.core.a.output.tally.overwritten,
+        chip.core.a.output.tally.swallowed,
+        chip.core.a.output.tally.cleared,
+        chip.core.b.input.tally.offered,
+        chip.core.b.input.tally.handed,
+        chip.core.b.input.tally.overwritten,
+        chip.core.b.input.tally.swallowed,
+        chip.core.b.input.tally.cleared,
+        chip.core.b.output.tally.offered,
+        chip.core.b.output.tally.handed,
+        chip.core.b.output.tally.overwritten,
+        chip.core.b.output.tally.swallowed,
+        chip.core.b.output.tally.cleared,
     ]
+}
+
+fn bit(on: bool, worth: u8) -> u8 {
+    if on { worth } else { 0 }
 }
 
 pub(super) fn machine(chip: Chip) -> Machine {
     let phase = chip.phase;
-    let core = chip.core;
     let bus = running(phase);
-    let a = core.a;
-    let b = core.b;
     let tally = tallies(chip);
     Machine {
         phase: bus.phase,
         place: bus.place,
         data: bus.data,
-        word: core.word,
-        outside: [a.outside, b.outside, core.c.outside],
+        word: chip.core.word,
+        outside_a: chip.core.a.outside,
+        outside_b: chip.core.b.outside,
+        outside_c: chip.core.c.outside,
         latch: [
-            a.output.latch,
-            a.input.latch,
-            b.output.latch,
-            b.input.latch,
-            core.c.latch,
+            chip.core.a.input.latch,
+            chip.core.a.output.latch,
+            chip.core.b.input.latch,
+            chip.core.b.output.latch,
         ],
-        enable: [core.inte.output, core.inte.input, core.inte.b],
-        fill: [fill(a.input), fill(a.output), fill(b.input), fill(b.output)],
+        latch_c: chip.core.c.latch,
+        enable: bit(chip.core.inte.input, 16)
+            | bit(chip.core.inte.output, 64)
+            | bit(chip.core.inte.b, 4),
+        fill: [
+            mark(chip.core.a.input),
+            mark(chip.core.a.output),
+            mark(chip.core.b.input),
+            mark(chip.core.b.output),
+        ],
         tally,
     }
 }

@@ -1,35 +1,37 @@
 // New outside levels, and the falls of STB and ACK among them.
 
 use super::Machine;
-use super::bits;
+use super::channels;
+use super::digits;
 use super::handshake;
-use super::roles;
+use super::words;
 
-// The outside levels of port 0, 1 or 2 become `level`. Only the pins 6, 4 and 2 of port C can be the outside's strobes; where
-// another port moved, none of them falls.
-pub(super) fn moved(machine: Machine, port: usize, level: u8) -> Machine {
-    let mut outside = machine.outside;
-    let old = outside[2];
-    outside[port % 3] = level;
-    let new = outside[2];
-    let mut next = machine;
-    next.outside = outside;
-    next = edge(next, 6, old, new);
-    next = edge(next, 4, old, new);
-    edge(next, 2, old, new)
+// The outside levels of port 0, 1 or 2 become `level`. Only the pins 6, 4 and 2 of port C can be the outside's strobes.
+pub(super) fn moved(mut machine: Machine, port: u8, level: u8) -> Machine {
+    let fell = machine.outside_c & !level;
+    match port {
+        0 => machine.outside_a = level,
+        1 => machine.outside_b = level,
+        _ => {
+            machine.outside_c = level;
+            machine = edge(machine, channels::A_IN, fell, 4);
+            machine = edge(machine, channels::A_OUT, fell, 6);
+            machine = edge(machine, channels::B_IN, fell, 2);
+            machine = edge(machine, channels::B_OUT, fell, 2);
+        }
+    }
+    machine
 }
 
-// Only a fall acts, and only by the role that the pin has now.
-fn edge(machine: Machine, pin: usize, old: u8, new: u8) -> Machine {
-    let roles = roles::roles_of(machine.word);
-    let role = roles[pin % 8];
-    let fell = bits::bit(old, pin) & !bits::bit(new, pin);
-    let channel = roles::channel_at(pin, role);
-    if fell & (role == roles::STB) {
-        handshake::strobe(machine, channel)
-    } else if fell & (role == roles::ACK) {
-        handshake::acknowledge(machine, channel)
-    } else {
-        machine
+// Only a fall acts, and only in a channel that is strobed now. A byte that is strobed in is what is put on the pins, also where the
+// chip drives the port itself; one that is acknowledged frees its channel at once.
+fn edge(machine: Machine, channel: usize, fell: u8, pin: usize) -> Machine {
+    if !(digits::bit(fell, pin) & words::strobed(machine.word, channel)) {
+        return machine;
+    }
+    match channel {
+        channels::A_IN => handshake::offer(machine, channel, machine.outside_a),
+        channels::B_IN => handshake::offer(machine, channel, machine.outside_b),
+        _ => handshake::settle(machine, channel, handshake::HANDED_OVER, handshake::EMPTY),
     }
 }
