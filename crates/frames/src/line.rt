@@ -38,8 +38,8 @@ pub fn frame(line: &[u8]) -> Frame
     let kind = byte_at(line, 0);
     let first = byte_at(line, 2);
     let second = byte_at(line, 4);
-    let long = line.len() == length(kind);
-    if (kind < 6) & long & (first < 256) & (second < 256) {
+    let exact = line.len() == length(kind);
+    if (kind < 6) & exact & (first < 256) & (second < 256) {
         return Frame::Event(kind as u8, first as u8, second as u8);
     }
     Frame::NoFrame

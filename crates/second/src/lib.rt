@@ -1,4 +1,4 @@
-// A second model of the 8255A, to be held against another one. It is written from the rules alone and keeps the chip in
+// A second model of the 8255A, to be held against another one. It shares nothing with that one, and keeps the chip in
 // bytes and flat arrays with numbered places. Each function answers for every value of the machine, reached or not.
 
 mod bus; // reset, and the beginnings and ends of reads and writes

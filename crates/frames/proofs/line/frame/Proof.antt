@@ -11,11 +11,11 @@ use Rattle.frames.proofs.line.frame.Statement.{statement}
 use Rattle.frames.proofs.line.frame.Tie as tie
 
 -- What the test says of the three bytes where it holds.
-tested : (k x d : ℕ) (long : Bool) → (ltb k 6 && long && ltb x 256 && ltb d 256) ≡ true → (k < 6) × (x < 256) × (d < 256)
-tested k x d long e =
-    let both = and-eq-true-iff (ltb k 6 && long && ltb x 256) (ltb d 256) .0 e in
-    let front = and-eq-true-iff (ltb k 6 && long) (ltb x 256) .0 (both .0) in
-    (ltb-true k 6 (and-eq-true-iff (ltb k 6) long .0 (front .0) .0), ltb-true x 256 (front .1), ltb-true d 256 (both .1))
+tested : (k x d : ℕ) (exact : Bool) → (ltb k 6 && exact && ltb x 256 && ltb d 256) ≡ true → (k < 6) × (x < 256) × (d < 256)
+tested k x d exact e =
+    let both = and-eq-true-iff (ltb k 6 && exact && ltb x 256) (ltb d 256) .0 e in
+    let front = and-eq-true-iff (ltb k 6 && exact) (ltb x 256) .0 (both .0) in
+    (ltb-true k 6 (and-eq-true-iff (ltb k 6) exact .0 (front .0) .0), ltb-true x 256 (front .1), ltb-true d 256 (both .1))
 
 returns : tie.Need-returns
 unfolding frameOf isFrame

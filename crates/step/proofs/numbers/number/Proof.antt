@@ -10,11 +10,13 @@ use Rattle.step.specs.Numbers.{isReading, isWriting, isBusy, numberOf}
 use Rattle.step.proofs.numbers.number.Statement.{statement}
 use Rattle.step.proofs.numbers.number.Tie as tie
 
+-- A cycle that runs is a read or a write.
 one-of-two : (ph : Phase) → (isReading ph || isWriting ph) ≡ isBusy ph
 one-of-two Idle = refl
 one-of-two (Reading p) = refl
 one-of-two (Writing a d) = refl
 
+-- 5 is the number of an end that does not find its cycle.
 unless : (b : Bool) → _≡_ {A = ℕ} (cond b 0 5) (cond (not b) 5 0)
 unless true = refl
 unless false = refl
