@@ -1,6 +1,7 @@
-// Bits of a byte, by shifts and masks: one taken, one put, eight assembled, two bytes blended under a mask.
+// Bits of a byte, by shifts and masks: one taken, one put, eight assembled, two bytes blended under a mask; and two bytes as a number.
 ghost use mathlib.Core.Path.{_≡_};
 ghost use mathlib.Core.Bool.{cond};
+ghost use Prim.Native.Nat.{_+_, _*_};
 ghost use Rattle.bits.specs.Bit.{bitOf, withBit, byteOf, blendOf};
 
 // Whether bit n of x is set. A byte has no bit above 7, so none is set there.
@@ -42,6 +43,13 @@ pub fn blend(mask: u8, x: u8, y: u8) -> u8
     ensures { λ r. ⌜ r ≡ blendOf mask x y ⌝ }
 {
     (x & mask) | (y & !mask)
+}
+
+// The number of two bytes.
+pub fn pair(low: u8, high: u8) -> u16
+    ensures { λ r. ⌜ r ≡ low + 256 * high ⌝ }
+{
+    (low as u16) + 256 * (high as u16)
 }
 
 // One of two bytes, so that what stands above has no branch of its own.

@@ -1,6 +1,7 @@
 // One strobed channel: whether a byte waits in it, its latch, and what became of the bytes offered to it. The four channels of a
 // chip are all of this kind.
 ghost use mathlib.Core.Path.{_≡_};
+ghost use mathlib.Core.Bool.{cond};
 ghost use Rattle.channel.specs.Channel.{isWaiting, isEmpty, flagOf, next};
 ghost use Rattle.channel.specs.Moves.{afterOffer, afterHandOver, afterEndRead, afterClear};
 
@@ -104,15 +105,22 @@ pub fn hand_over(channel: Channel, left: Fill) -> Channel
     channel
 }
 
-// The end of a read: the channel is empty, and a byte that waits is swallowed.
-pub fn end_read(channel: Channel) -> Channel
-    ensures { λ r. ⌜ r ≡ afterEndRead channel ⌝ }
+fn either(on: bool, yes: Fill, no: Fill) -> Fill
+    ensures { λ r. ⌜ r ≡ cond on yes no ⌝ }
+{
+    if on { yes } else { no }
+}
+
+// The end of a read, where the channel takes part in it: the channel is empty, and a byte that waits is swallowed. The condition is
+// asked field by field, since a branch that gives back one of two channels makes the compiler copy both.
+pub fn end_read(channel: Channel, on: bool) -> Channel
+    ensures { λ r. ⌜ r ≡ cond on (afterEndRead channel) channel ⌝ }
 {
     let fill = channel.fill;
     let mut tally = channel.tally;
-    tally.swallowed = next_if(waiting(fill), tally.swallowed);
+    tally.swallowed = next_if(on & waiting(fill), tally.swallowed);
     Channel {
-        fill: Fill::Empty,
+        fill: either(on, Fill::Empty, fill),
         latch: channel.latch,
         tally,
     }

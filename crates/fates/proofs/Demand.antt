@@ -60,7 +60,7 @@ fates B Input es = fates-from B Input powerUp none-counted es
 fates B Output es = fates-from B Output powerUp none-counted es
 
 -- No read runs at power-up.
-no-read : (g : Group) → HasFound g powerUp
+pub no-read : (g : Group) → HasFound g powerUp
 no-read g runs = absurd (refused (strobes 0x9b g Input) runs)
 
 -- The discipline, from power-up.

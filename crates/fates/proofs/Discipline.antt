@@ -71,7 +71,7 @@ module _ (g : Group) where
       minded (ibf c g) (strobes (c .core .word) g Input) (strobedReadRuns g (aroundOf c)) (strobedReadRuns g (aroundNext (aroundOf c) e))
       (fill g Input c) (deedIn g Input c e) (flag-shown c) found (reads-next g (aroundOf c) e)
 
-  found-next : (c : Chip) (e : Event) → HasFound g c → Minds (ibf c g) (deedIn g Input c e) → HasFound g (after c e)
+  pub found-next : (c : Chip) (e : Event) → HasFound g c → Minds (ibf c g) (deedIn g Input c e) → HasFound g (after c e)
   found-next c e found minds runs =
       next-fill g Input c e ∙ safe c e found minds .found (ap (strobedReadRuns g) (sym (around-next c e)) ∙ runs)
 

@@ -29,7 +29,7 @@ use Rattle.fates.proofs.Followed.{after, fill, latch, deedIn, storyOf, 
 use Rattle.fates.proofs.Shown.{WhereTaken, taken-shows}
 
 -- The mode word changes only where every channel is cleared.
-word-stays : (ph : Phase) (w : ℕ) (e : Named) → clears ph e ≡ false → wordAfter ph w e ≡ w
+pub word-stays : (ph : Phase) (w : ℕ) (e : Named) → clears ph e ≡ false → wordAfter ph w e ≡ w
 word-stays ph w reset none = absurd (subst T none tt)
 word-stays ph w (readBegun x) none = refl
 word-stays ph w readEnded none = refl

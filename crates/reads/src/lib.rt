@@ -18,9 +18,7 @@ fn fetch(mut port: Port, strobed: bool) -> Port
 fn finish(mut port: Port, strobed: bool) -> Port
     ensures { λ r. ⌜ r ≡ doneWith port strobed ⌝ }
 {
-    if strobed {
-        port.input = channel::end_read(port.input);
-    }
+    port.input = channel::end_read(port.input, strobed);
     port
 }
 

@@ -115,10 +115,8 @@ fn intr(chip: Chip, group: Group) -> bool
 fn flag_of_b(core: Core) -> bool
     ensures { λ r. ⌜ r ≡ flagOfB core ⌝ }
 {
-    if control::mode::strobed_input(core.word, Group::B) {
-        return flag(core, Group::B, Side::Input);
-    }
-    flag(core, Group::B, Side::Output)
+    let taken = control::mode::strobed_input(core.word, Group::B);
+    (taken & flag(core, Group::B, Side::Input)) | (!taken & flag(core, Group::B, Side::Output))
 }
 
 // Every flag, enable and request on the pin that tells it.

@@ -30,16 +30,39 @@ afterEndWrite c Idle = c
 afterEndWrite c (Reading p) = c
 afterEndWrite c (Writing a d) = written c a d
 
--- The state after an accepted event of kind k with operands x and d: 00 reset, which drops a running cycle and sets mode word 9B;
--- 01 begin read at address x; 02 end read; 03 begin write of d at address x; 04 end write; 05 outside levels on port x become d.
+-- What an accepted event makes of the chip. 00, reset: a running cycle is dropped, and mode word 9B is set.
+abbrev pub reset : Chip → Chip
+reset c = onBus Idle (renewed (c .core) 0x9b)
+
+-- 01, begin read at address x.
+abbrev pub readBegun : Chip → ℕ → Chip
+readBegun c x = onBus (Reading x) (begunRead (c .core) x)
+
+-- 02, end read.
+abbrev pub readEnded : Chip → Chip
+readEnded c = onBus Idle (afterEndRead (c .core) (c .phase))
+
+-- 03, begin write of d at address x.
+abbrev pub writeBegun : Chip → ℕ → ℕ → Chip
+writeBegun c x d = onBus (Writing x d) (c .core)
+
+-- 04, end write.
+abbrev pub writeEnded : Chip → Chip
+writeEnded c = onBus Idle (afterEndWrite (c .core) (c .phase))
+
+-- 05, the outside levels on port x become d.
+abbrev pub levelsPut : Chip → ℕ → ℕ → Chip
+levelsPut c x d = onBus (c .phase) (levelled (c .core) x d)
+
+-- The state after an accepted event of kind k with operands x and d.
 abbrev pub afterOf : Chip → ℕ → ℕ → ℕ → Chip
 afterOf c k x d =
-    cond (eqb k 0) (onBus Idle (renewed (c .core) 0x9b))
-    (cond (eqb k 1) (onBus (Reading x) (begunRead (c .core) x))
-    (cond (eqb k 2) (onBus Idle (afterEndRead (c .core) (c .phase)))
-    (cond (eqb k 3) (onBus (Writing x d) (c .core))
-    (cond (eqb k 4) (onBus Idle (afterEndWrite (c .core) (c .phase)))
-    (onBus (c .phase) (levelled (c .core) x d))))))
+    cond (eqb k 0) (reset c)
+    (cond (eqb k 1) (readBegun c x)
+    (cond (eqb k 2) (readEnded c)
+    (cond (eqb k 3) (writeBegun c x d)
+    (cond (eqb k 4) (writeEnded c)
+    (levelsPut c x d)))))
 
 -- Only a read that begins has a byte to give.
 abbrev pub byteGiven : Chip → ℕ → ℕ → ℕ

@@ -1,16 +1,39 @@
 // One event of the chip: refused by its number, and then nothing changes, or accepted, with its effect and the byte of a read.
 ghost use mathlib.Core.Path.{_≡_};
-ghost use Rattle.step.specs.Step.{stepOf};
+ghost use Rattle.step.specs.Step.{afterOf, byteGiven, stepOf};
 use chip::Chip;
 
-mod effect;
-mod numbers;
+pub mod kinds;
+pub mod numbers;
 
 // What an event gives: the new state, the number, and the byte of an accepted read.
 pub struct Stepped {
     pub chip: Chip,
     pub number: u8,
     pub byte: u8,
+}
+
+fn after(chip: Chip, kind: u8, first: u8, second: u8) -> Chip
+    ensures { λ r. ⌜ r ≡ afterOf chip kind first second ⌝ }
+{
+    match kind {
+        0 => kinds::reset(chip),
+        1 => kinds::begin_read(chip, first),
+        2 => kinds::end_read(chip),
+        3 => kinds::begin_write(chip, first, second),
+        4 => kinds::end_write(chip),
+        _ => kinds::levels(chip, first, second),
+    }
+}
+
+// Only a read that begins has a byte to give.
+fn byte(chip: Chip, kind: u8, first: u8) -> u8
+    ensures { λ r. ⌜ r ≡ byteGiven chip kind first ⌝ }
+{
+    if kind == 1 {
+        return ports::read::value(chip, first);
+    }
+    0
 }
 
 // One event: a kind and two operands, of which those that the kind lacks are ignored.
@@ -27,11 +50,8 @@ pub fn step(chip: Chip, kind: u8, first: u8, second: u8) -> Stepped
         };
     }
     Stepped {
-        chip: Chip {
-            phase: effect::bus(chip, kind, first, second),
-            core: effect::core(chip, kind, first, second),
-        },
+        chip: after(chip, kind, first, second),
         number: 0,
-        byte: effect::byte(chip, kind, first),
+        byte: byte(chip, kind, first),
     }
 }

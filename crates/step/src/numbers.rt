@@ -24,7 +24,7 @@ fn writing(phase: Phase) -> bool
 }
 
 // 0 for an event that is accepted.
-pub(super) fn number(phase: Phase, kind: u8, first: u8) -> u8
+pub fn number(phase: Phase, kind: u8, first: u8) -> u8
     ensures { λ r. ⌜ r ≡ numberOf phase kind first ⌝ }
 {
     let read = reading(phase);

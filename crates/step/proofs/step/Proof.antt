@@ -9,6 +9,6 @@ unfolding stepOf
 step-spec = tie.close (tie.spec
     (λ c κs. tt)
     (λ c. rw (← c .before .number .ensures, ne-eqb _ _ (c .if1 .taken)))
-    (λ c κs. tt) (λ c κs. tt) (λ c κs. tt)
-    (λ c. let accepted = c .before .before .before in
-    rw (← accepted .before .number .ensures, accepted .if1 .left, c .byte .ensures, c .before .core .ensures, c .before .before .bus .ensures)))
+    (λ c κs. tt) (λ c κs. tt)
+    (λ c. let accepted = c .before .before in
+    rw (← accepted .before .number .ensures, accepted .if1 .left, c .byte .ensures, c .before .after .ensures)))

@@ -1,0 +1,3 @@
+pub mod Asked
+pub mod Stepping
+pub mod HostStep

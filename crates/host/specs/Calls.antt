@@ -1,0 +1,79 @@
+-- What the host's calls answer, and what they leave of the bytes that they are lent. Each answer is one number: the refusal in its lowest
+-- byte, and what is given above it.
+use mathlib.Core.Bool.{Bool, cond, _&&_, _||_}
+use mathlib.Core.List.{List}
+use Prim.Native.Nat.{ℕ, _+_, _*_, _%_}
+use lib.Dec.{eqb, ltb}
+use lib.ListN.{length}
+use Rattle.control.specs.declared.Group.{Group}
+use Rattle.control.specs.declared.Group.the-variants.{A, B}
+use Rattle.channel.specs.declared.Side.{Side}
+use Rattle.channel.specs.declared.Side.the-variants.{Input, Output}
+use Rattle.channel.specs.declared.Tally.{Tally}
+use Rattle.chip.specs.State.{powerUp, tallyOf}
+use Rattle.ports.specs.declared.Pins.{Pins}
+use Rattle.ports.specs.Pins.{pinsOf}
+use Rattle.step.specs.declared.Stepped.{Stepped}
+use Rattle.step.specs.Step.{stepOf}
+use Rattle.image.specs.Layout.{imageOf}
+use Rattle.image.specs.Restored.{stateOf}
+use Rattle.image.specs.Good.{isImage}
+use Rattle.image.specs.Slices.{savedIn}
+
+-- A number with two bytes above it.
+abbrev pub packed : ℕ → ℕ → ℕ → ℕ
+packed number low high = number + 256 * low + 65536 * high
+
+-- 8, a bad image or a slice that is not 64 bytes, comes before all others.
+abbrev pub orBad : List ℕ → ℕ → ℕ
+orBad l answer = cond (isImage l) answer 8
+
+-- 2, there is no such port, channel or tally, comes next.
+abbrev pub orNone : Bool → ℕ → ℕ
+orNone none answer = cond none 2 answer
+
+-- Power-up asks nothing of the bytes but their number, and writes over them.
+abbrev pub powerUpAnswer : List ℕ → ℕ
+powerUpAnswer l = cond (eqb (length l) 64) 0 8
+
+abbrev pub powerUpImage : List ℕ → List ℕ
+powerUpImage l = savedIn l powerUp
+
+-- The step of the state that the image tells, with its number and its byte.
+abbrev pub stepOn : List ℕ → ℕ → ℕ → ℕ → Stepped
+stepOn l k x d = stepOf (stateOf l) k x d
+
+unfoldable pub stepAnswer : List ℕ → ℕ → ℕ → ℕ → ℕ
+stepAnswer l k x d = orBad l (packed (stepOn l k x d .number) (stepOn l k x d .byte) 0)
+
+-- The image of the state after an accepted event. A refusal writes nothing.
+unfoldable pub stepImage : List ℕ → ℕ → ℕ → ℕ → List ℕ
+stepImage l k x d = cond (isImage l && eqb (stepOn l k x d .number) 0) (imageOf (stepOn l k x d .chip)) l
+
+-- The pin view of a port.
+abbrev pub pinsGiven : Pins → ℕ
+pinsGiven p = packed 0 (p .levels) (p .driven)
+
+unfoldable pub pinsAnswer : List ℕ → ℕ → ℕ
+pinsAnswer l p = orBad l (orNone (ltb 2 p) (pinsGiven (pinsOf (stateOf l) p)))
+
+-- The channels are numbered A in, A out, B in, B out, and the tallies of each in the order of their fates.
+abbrev pub groupNumbered : ℕ → Group
+groupNumbered k = cond (ltb k 2) A B
+
+abbrev pub sideNumbered : ℕ → Side
+sideNumbered k = cond (eqb (k % 2) 0) Input Output
+
+unfoldable pub counterNumbered : Tally → ℕ → ℕ
+counterNumbered t n =
+    cond (eqb n 0) (t .offered)
+    (cond (eqb n 1) (t .handed)
+    (cond (eqb n 2) (t .overwritten)
+    (cond (eqb n 3) (t .swallowed)
+    (t .cleared))))
+
+unfoldable pub tallyAnswer : List ℕ → ℕ → ℕ → ℕ
+tallyAnswer l k n =
+    orBad l
+    (orNone (ltb 3 k || ltb 4 n)
+    (256 * counterNumbered (tallyOf (stateOf l) (groupNumbered k) (sideNumbered k)) n))

@@ -1,0 +1,118 @@
+// What a host asks of a chip that it keeps as an image: power-up, the step, the pin view and the tallies. Each answer is one number: the
+// refusal in its lowest byte, and what is given above it.
+ghost use mathlib.Core.Path.{_≡_};
+ghost use Prim.Native.Nat.{_*_};
+ghost use Rattle.host.specs.Calls.{packed, powerUpAnswer, powerUpImage, stepAnswer, stepImage, pinsGiven, pinsAnswer, groupNumbered, sideNumbered, counterNumbered, tallyAnswer};
+use channel::Side;
+use channel::Tally;
+use control::Group;
+use ports::Pins;
+
+mod events;
+mod told;
+
+// The length of an image.
+const LENGTH: usize = 64;
+
+// A bad image, or a slice of another length.
+const BAD_IMAGE: u32 = 8;
+
+// No such port, channel or tally.
+const NO_SUCH: u32 = 2;
+
+fn packed(number: u8, low: u8, high: u8) -> u32
+    ensures { λ r. ⌜ r ≡ packed number low high ⌝ }
+{
+    (number as u32) + 256 * (low as u32) + 65536 * (high as u32)
+}
+
+// The chip at power-up, whatever stood there.
+pub fn power_up(image: &mut [u8]) -> u32
+    ensures { λ r. ⌜ r ≡ powerUpAnswer (now (image .entry)) ⌝ }
+    ensures { λ _. ⌜ now (image .exit) ≡ powerUpImage (now (image .entry)) ⌝ }
+{
+    if image.len() != LENGTH {
+        return BAD_IMAGE;
+    }
+    let chip = chip::power_up();
+    image::save(image, chip);
+    0
+}
+
+// One event, with its number and the byte of an accepted read.
+pub fn step(image: &mut [u8], kind: u8, first: u8, second: u8) -> u32
+    ensures { λ r. ⌜ r ≡ stepAnswer (now (image .entry)) kind first second ⌝ }
+    ensures { λ _. ⌜ now (image .exit) ≡ stepImage (now (image .entry)) kind first second ⌝ }
+{
+    let good = image::good(image);
+    if !good {
+        return BAD_IMAGE;
+    }
+    let phase = told::bus(image);
+    let number = step::numbers::number(phase, kind, first);
+    if number != 0 {
+        return number as u32;
+    }
+    packed(0, events::accept(image, kind, first, second), 0)
+}
+
+fn shown(pins: Pins) -> u32
+    ensures { λ r. ⌜ r ≡ pinsGiven pins ⌝ }
+{
+    packed(0, pins.levels, pins.driven)
+}
+
+// The levels of a port's pins, and a one for each that the chip drives.
+pub fn pins(image: &[u8], port: u8) -> u32
+    ensures { λ r. ⌜ r ≡ pinsAnswer (now (image .entry)) port ⌝ }
+{
+    if !image::good(image) {
+        return BAD_IMAGE;
+    }
+    if 2 < port {
+        return NO_SUCH;
+    }
+    shown(ports::view::pins(told::state(image), port))
+}
+
+fn group(channel: u8) -> Group
+    ensures { λ r. ⌜ r ≡ groupNumbered channel ⌝ }
+{
+    if channel < 2 { Group::A } else { Group::B }
+}
+
+fn side(channel: u8) -> Side
+    ensures { λ r. ⌜ r ≡ sideNumbered channel ⌝ }
+{
+    if channel % 2 == 0 {
+        Side::Input
+    } else {
+        Side::Output
+    }
+}
+
+fn counter(tally: Tally, number: u8) -> u16
+    ensures { λ r. ⌜ r ≡ counterNumbered tally number ⌝ }
+{
+    match number {
+        0 => tally.offered,
+        1 => tally.handed,
+        2 => tally.overwritten,
+        3 => tally.swallowed,
+        _ => tally.cleared,
+    }
+}
+
+// One of the five tallies of one of the four channels.
+pub fn tally(image: &[u8], channel: u8, number: u8) -> u32
+    ensures { λ r. ⌜ r ≡ tallyAnswer (now (image .entry)) channel number ⌝ }
+{
+    if !image::good(image) {
+        return BAD_IMAGE;
+    }
+    if (3 < channel) | (4 < number) {
+        return NO_SUCH;
+    }
+    let tally = chip::channels::tally(told::state(image), group(channel), side(channel));
+    256 * (counter(tally, number) as u32)
+}

@@ -1,0 +1,7 @@
+pub mod Places
+pub mod Zeros
+pub mod Long
+pub mod ComesBack
+pub mod Fitting
+pub mod SameBytes
+pub mod OneImage

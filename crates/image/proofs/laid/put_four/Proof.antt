@@ -1,0 +1,13 @@
+-- `laid::put_four` meets its contract: two pairs, one behind the other.
+use borrow.Author.Needs.{needs}
+use Rattle.image.proofs.Places.{two}
+use Rattle.image.proofs.laid.put_four.Statement.{statement}
+use Rattle.image.proofs.laid.put_four.Tie as tie
+
+pub put-four-spec : {M : Type 1} → statement M
+put-four-spec = tie.close (tie.spec
+    (λ c κs. search needs) (λ c. search needs) (λ c κs. search needs) (λ c. search needs)
+    (λ c.
+    let second = c .before .before in
+    let first = second .before .before .before .before in
+    rw (second .put-two2 .ensures, first .put-two .ensures, two (first .before .before .before .args .at))))

@@ -1,0 +1,4 @@
+pub mod Layout
+pub mod Restored
+pub mod Good
+pub mod Slices

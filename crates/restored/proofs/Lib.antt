@@ -1,0 +1,3 @@
+pub mod Conditions
+pub mod Stays
+pub mod Saved

@@ -1,0 +1,92 @@
+-- Demand 3 from a chip that a host restores from an image.
+-- Rests on Stays, on image's ComesBack, OneImage and SameBytes, on host's HostStep, and on fates' Demand, Discipline and Followed.
+use mathlib.Core.Path.{_≡_, refl, sym, subst}
+use mathlib.Core.Bool.{true}
+use mathlib.Core.List.{List, [], _∷_}
+use Prim.Native.Nat.{ℕ, _+_, _*_, _<_}
+use native.Mathlib.Omega.{arith}
+use Rattle.control.specs.declared.Group.{Group}
+use Rattle.control.specs.declared.Group.the-variants.{A, B}
+use Rattle.channel.specs.declared.Side.{Side}
+use Rattle.channel.specs.declared.Side.the-variants.{Input, Output}
+use Rattle.chip.specs.declared.Chip.{Chip}
+use Rattle.chip.specs.State.{powerUp, tallyOf}
+use Rattle.laws.specs.History.{Event}
+use Rattle.fates.specs.Promise.{run, aroundOf, SixteenBits}
+use Rattle.fates.specs.Discipline.{HasFound, Disciplined}
+use Rattle.fates.proofs.Followed.{after}
+use Rattle.fates.proofs.Surroundings.{around-next}
+use Rattle.fates.proofs.Discipline.{found-next, disciplined-from}
+use Rattle.fates.proofs.Demand.{fates-from, no-read}
+use Rattle.image.specs.Layout.{imageOf}
+use Rattle.image.specs.Restored.{byteAt, tallyAt, stateOf}
+use Rattle.image.specs.Good.{hasImage, isImage, Bytes}
+use Rattle.host.specs.Calls.{stepImage}
+use Rattle.image.proofs.ComesBack.{comes-back}
+use Rattle.image.proofs.SameBytes.{small}
+use Rattle.image.proofs.OneImage.{has-image, tells-such}
+use Rattle.host.proofs.HostStep.{by-number}
+use Rattle.restored.specs.Host.{hostRun, Restored, StillNoneLost}
+use Rattle.restored.proofs.Stays.{image-stays}
+
+-- The host holds the image of a chip that has one.
+record Holds (l : List ℕ) (c : Chip) : Type 0 where
+  image : isImage l ≡ true
+  state : stateOf l ≡ c
+  has : hasImage c ≡ true
+
+holds-next : (l : List ℕ) (e : Event) → Holds l (stateOf l) → Holds (stepImage l (e .kind) (e .first) (e .second)) (after (stateOf l) e)
+holds-next l e h =
+    let has-next = image-stays (stateOf l) e (h .has) in
+    by-number l (e .kind) (e .first) (e .second) Holds (h .image)
+    (record { image = has-image (after (stateOf l) e) has-next; state = comes-back (after (stateOf l) e); has = has-next }) h
+
+holds-run : (l : List ℕ) (c : Chip) (es : List Event) → Holds l c → Holds (hostRun l es) (run c es)
+holds-run l c [] h = h
+holds-run l c (e ∷ es) h =
+    let here : Holds l (stateOf l) = record { image = h .image; state = refl; has = subst (λ (d : Chip). hasImage d ≡ true) (sym (h .state)) (h .has) } in
+    holds-run (stepImage l (e .kind) (e .first) (e .second)) (after c e) es
+    (subst (λ (d : Chip). Holds (stepImage l (e .kind) (e .first) (e .second)) (after d e)) (h .state) (holds-next l e here))
+
+-- Tallies of two bytes each.
+two-bytes : (b h : ℕ) → b < 256 → h < 256 → b + 256 * h < 65536
+two-bytes b h lb lh = omega (arith, lb, lh)
+
+module _ (l : List ℕ) (bytes : Bytes l) where
+  wide-small : (i j : ℕ) → byteAt l i + 256 * byteAt l j < 65536
+  wide-small i j = two-bytes (byteAt l i) (byteAt l j) (small l bytes i) (small l bytes j)
+
+  tally-small : (i : ℕ) → SixteenBits (tallyAt l i)
+  tally-small i = record {
+    offered = wide-small i (i + 1);
+    handed = wide-small (i + 2) (i + 2 + 1);
+    overwritten = wide-small (i + 4) (i + 4 + 1);
+    swallowed = wide-small (i + 6) (i + 6 + 1);
+    cleared = wide-small (i + 8) (i + 8 + 1);
+  }
+
+  sixteen-bits : (g : Group) (s : Side) → SixteenBits (tallyOf (stateOf l) g s)
+  unfolding stateOf
+  sixteen-bits A Input = tally-small 0
+  sixteen-bits A Output = tally-small 10
+  sixteen-bits B Input = tally-small 20
+  sixteen-bits B Output = tally-small 30
+
+-- From every image, over all events.
+pub restored : (l : List ℕ) → Bytes l → isImage l ≡ true → (es : List Event) → Restored l es
+restored l bytes good es =
+    let at-end = holds-run l (stateOf l) es (record { image = good; state = refl; has = tells-such l bytes good }) in
+    record { image = at-end .image; state = at-end .state; fates = λ g s. fates-from g s (stateOf l) (sixteen-bits l bytes g s) es }
+
+-- In a run that keeps to the discipline, a read of the strobed port has always found a byte.
+has-found : (g : Group) (c : Chip) (es : List Event) → HasFound g c → Disciplined g (aroundOf c) c es → HasFound g (run c es)
+has-found g c [] found kept = found
+has-found g c (e ∷ es) found kept =
+    has-found g (after c e) es (found-next g c e found (kept .0)) (rw (around-next c e) (kept .1))
+
+-- From an image saved in such a run.
+pub still-none-lost : (g : Group) (before es : List Event) → StillNoneLost g before es
+still-none-lost g before es kept-before kept =
+    let c = run powerUp before in
+    disciplined-from g (stateOf (imageOf c))
+    (subst (HasFound g) (sym (comes-back c)) (has-found g powerUp before (no-read g) kept-before)) es kept

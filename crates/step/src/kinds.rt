@@ -1,0 +1,74 @@
+// What an accepted event of each kind makes of the chip. Each kind stands alone, so that who has chosen one has to do with no other.
+ghost use mathlib.Core.Path.{_≡_};
+ghost use Rattle.step.specs.Step.{onBus, afterEndRead, afterEndWrite, reset, readBegun, readEnded, writeBegun, writeEnded, levelsPut};
+use chip::Chip;
+use chip::Core;
+use chip::Phase;
+
+fn on_bus(phase: Phase, core: Core) -> Chip
+    ensures { λ r. ⌜ r ≡ onBus phase core ⌝ }
+{
+    Chip { phase, core }
+}
+
+pub fn reset(chip: Chip) -> Chip
+    ensures { λ r. ⌜ r ≡ reset chip ⌝ }
+{
+    on_bus(Phase::Idle, settings::renew(chip.core, 0x9b))
+}
+
+pub fn begin_read(chip: Chip, port: u8) -> Chip
+    ensures { λ r. ⌜ r ≡ readBegun chip port ⌝ }
+{
+    on_bus(Phase::Reading(port), reads::begin(chip.core, port))
+}
+
+fn end_that_read(core: Core, phase: Phase) -> Core
+    ensures { λ r. ⌜ r ≡ afterEndRead core phase ⌝ }
+{
+    match phase {
+        Phase::Idle => core,
+        Phase::Reading(port) => reads::end(core, port),
+        Phase::Writing(_, _) => core,
+    }
+}
+
+// Where no read runs there is none to end, and only the bus is freed.
+pub fn end_read(chip: Chip) -> Chip
+    ensures { λ r. ⌜ r ≡ readEnded chip ⌝ }
+{
+    let phase = chip.phase;
+    on_bus(Phase::Idle, end_that_read(chip.core, phase))
+}
+
+pub fn begin_write(chip: Chip, address: u8, byte: u8) -> Chip
+    ensures { λ r. ⌜ r ≡ writeBegun chip address byte ⌝ }
+{
+    on_bus(Phase::Writing(address, byte), chip.core)
+}
+
+fn end_that_write(core: Core, phase: Phase) -> Core
+    ensures { λ r. ⌜ r ≡ afterEndWrite core phase ⌝ }
+{
+    match phase {
+        Phase::Idle => core,
+        Phase::Reading(_) => core,
+        Phase::Writing(address, byte) => writes::end(core, address, byte),
+    }
+}
+
+// Where no write runs there is none to end, and only the bus is freed.
+pub fn end_write(chip: Chip) -> Chip
+    ensures { λ r. ⌜ r ≡ writeEnded chip ⌝ }
+{
+    let phase = chip.phase;
+    on_bus(Phase::Idle, end_that_write(chip.core, phase))
+}
+
+// Levels leave the bus as it is.
+pub fn levels(chip: Chip, port: u8, levels: u8) -> Chip
+    ensures { λ r. ⌜ r ≡ levelsPut chip port levels ⌝ }
+{
+    let phase = chip.phase;
+    on_bus(phase, levels::set(chip.core, port, levels))
+}

@@ -1,0 +1,32 @@
+/* The bus of the store's computer: one card on it, and the ways to reach the card from the processor and from outside. */
+#ifndef HOST_BUS_H
+#define HOST_BUS_H
+
+#include "towanchor.h"
+
+/* How a card shows the pins of a port: towanchor_pins, or the view of a card that differs. */
+typedef unsigned int (*pin_view)(const unsigned char *image, size_t length, unsigned char port);
+
+struct bus {
+    unsigned char image[TOWANCHOR_IMAGE_SIZE]; /* the whole card */
+    pin_view view;
+};
+
+/* Powers the card up. */
+void bus_power_up(struct bus *bus, pin_view view);
+
+/* The processor's side. A cycle takes time: between its beginning and its end the outside goes on. */
+unsigned char bus_begin_read(struct bus *bus, unsigned char address);
+void bus_end_read(struct bus *bus);
+void bus_begin_write(struct bus *bus, unsigned char address, unsigned char byte);
+void bus_end_write(struct bus *bus);
+
+/* The outside: puts levels on the pins of a port, or a level on one pin of port C. */
+void bus_put_levels(struct bus *bus, unsigned char port, unsigned char levels);
+void bus_put_pin(struct bus *bus, unsigned char pin, int high);
+
+/* What both sides see: the levels of a port's pins, and whether one pin of port C is high. */
+unsigned char bus_levels(const struct bus *bus, unsigned char port);
+int bus_pin(const struct bus *bus, unsigned char pin);
+
+#endif

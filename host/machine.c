@@ -1,0 +1,32 @@
+/* The machine: nothing stands still while the processor reads or writes. */
+#include "machine.h"
+
+void machine_start(struct machine *machine, pin_view view, const char *digits)
+{
+    bus_power_up(&machine->bus, view);
+    machine->scale.digits = digits;
+    machine->printer.text[0] = '\0';
+    machine->printer.length = 0;
+}
+
+void machine_outside(struct machine *machine)
+{
+    scale_turn(&machine->scale, &machine->bus);
+    printer_turn(&machine->printer, &machine->bus);
+}
+
+unsigned char machine_read(struct machine *machine, unsigned char address)
+{
+    unsigned char byte = bus_begin_read(&machine->bus, address);
+
+    machine_outside(machine);
+    bus_end_read(&machine->bus);
+    return byte;
+}
+
+void machine_write(struct machine *machine, unsigned char address, unsigned char byte)
+{
+    bus_begin_write(&machine->bus, address, byte);
+    machine_outside(machine);
+    bus_end_write(&machine->bus);
+}

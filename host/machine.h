@@ -1,0 +1,24 @@
+/* The machine: the bus with the scale and the printer at the card's pins. */
+#ifndef HOST_MACHINE_H
+#define HOST_MACHINE_H
+
+#include "printer.h"
+#include "scale.h"
+
+struct machine {
+    struct bus bus;
+    struct scale scale;
+    struct printer printer;
+};
+
+/* Switches the machine on, with a bale on the scale and no text on the paper. */
+void machine_start(struct machine *machine, pin_view view, const char *digits);
+
+/* Gives the outside a moment: the scale and the printer. */
+void machine_outside(struct machine *machine);
+
+/* A whole cycle of the processor; the outside has a moment before it ends. */
+unsigned char machine_read(struct machine *machine, unsigned char address);
+void machine_write(struct machine *machine, unsigned char address, unsigned char byte);
+
+#endif

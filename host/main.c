@@ -1,0 +1,83 @@
+/* One bale is weighed three times: on this card, on this card with its image saved and restored at every turn, and on last
+ * season's card. Scale, printer and program are the same. */
+#include "old_card.h"
+#include "program.h"
+
+#include <stdio.h>
+#include <string.h>
+
+#define WEIGHT "187"
+
+/* A machine whose printer does not come to an end is stopped; what it has printed is its ticket. */
+#define MOST_TURNS 1000
+
+/* How often a machine was restored, and how often the card was refused while it was scribbled over. */
+struct restorations {
+    unsigned int made;
+    unsigned int refused;
+};
+
+/* Saves the card, scribbles over it, and restores it: its image is all that there is to save. */
+static void save_and_restore(struct bus *bus, struct restorations *restorations)
+{
+    unsigned char saved[TOWANCHOR_IMAGE_SIZE];
+
+    memcpy(saved, bus->image, sizeof saved);
+    memset(bus->image, 0xA5, sizeof bus->image);
+    if (TOWANCHOR_NUMBER(towanchor_pins(bus->image, sizeof bus->image, TOWANCHOR_A)) == TOWANCHOR_NO_STATE)
+        restorations->refused++;
+    memcpy(bus->image, saved, sizeof saved);
+    restorations->made++;
+}
+
+/* Weighs the bale and prints its ticket; on the way the card is saved and restored, unless 'restorations' is NULL. */
+static void weigh(struct machine *machine, pin_view view, struct restorations *restorations)
+{
+    struct program program;
+    int turn;
+
+    machine_start(machine, view, WEIGHT);
+    program_start(&program, machine);
+    for (turn = 0; turn < MOST_TURNS && !program_done(&program, machine); turn++) {
+        if (restorations != NULL)
+            save_and_restore(&machine->bus, restorations);
+        machine_outside(machine);
+        program_turn(&program, machine);
+    }
+}
+
+static unsigned int tally(const struct machine *machine, unsigned char which)
+{
+    return TOWANCHOR_TALLY(towanchor_tally(machine->bus.image, sizeof machine->bus.image, TOWANCHOR_A_IN, which));
+}
+
+static void report(const char *name, const struct machine *machine)
+{
+    printf("%s: %s\n", name, machine->printer.text);
+    printf("    digits offered by the scale: %u, handed over: %u, swallowed: %u\n", tally(machine, TOWANCHOR_OFFERED),
+           tally(machine, TOWANCHOR_HANDED_OVER), tally(machine, TOWANCHOR_SWALLOWED));
+}
+
+static const char *compared(const struct machine *machine, const struct machine *other)
+{
+    return strcmp(machine->printer.text, other->printer.text) == 0 ? "equal" : "different";
+}
+
+int main(void)
+{
+    struct machine plain, restored, old;
+    struct restorations restorations = {0, 0};
+
+    weigh(&plain, towanchor_pins, NULL);
+    weigh(&restored, towanchor_pins, &restorations);
+    weigh(&old, old_card_pins, NULL);
+
+    printf("the scale sends: %s\n", WEIGHT);
+    report("this card", &plain);
+    report("this card, saved and restored", &restored);
+    printf("    restored %u times; refused while scribbled over: %u times\n", restorations.made, restorations.refused);
+    printf("    its ticket and the one before: %s\n", compared(&plain, &restored));
+    report("last season's card", &old);
+    printf("    its ticket and this card's: %s\n", compared(&plain, &old));
+    return 0;
+}

@@ -1,0 +1,108 @@
+/*
+ * Towanchor: a proved model of Intel's 8255A, as C functions over an image of 64 bytes.
+ *
+ * An image is the whole state of one chip. The host owns it: it may lie at any address, be copied, saved, moved and restored
+ * byte by byte, and there may be as many as the host likes, one for each chip. The host need not look inside. A new image is
+ * made by towanchor_power_up; one that came from elsewhere, a file perhaps, is judged by every function that is given it, and
+ * refused with TOWANCHOR_NO_STATE where it is the image of no state.
+ *
+ * What a function answers, and what it writes into the image, depends on the image and the operands and on nothing else. No
+ * function allocates, prints, keeps anything from one call to the next, or fails: each returns one number, to be taken apart by
+ * the macros below, of which TOWANCHOR_NUMBER says whether the call was accepted. A refused call writes nothing, and all bits of
+ * its answer above the number are 0.
+ *
+ * In every function 'image' points to 'length' bytes, and 'length' must be TOWANCHOR_IMAGE_SIZE.
+ */
+#ifndef TOWANCHOR_H
+#define TOWANCHOR_H
+
+#include <stddef.h>
+
+#ifdef __cplusplus
+extern "C" {
+#endif
+
+/* The bytes of an image. */
+#define TOWANCHOR_IMAGE_SIZE 64
+
+/* The number of an answer. Where several would apply, TOWANCHOR_NO_STATE comes first, and then the lowest. */
+#define TOWANCHOR_ACCEPTED 0       /* nothing was refused */
+#define TOWANCHOR_NO_SUCH_KIND 1   /* the kind of an event is above 5 */
+#define TOWANCHOR_OUT_OF_RANGE 2   /* an address above 3, a port above 2, a channel above 3 or a tally above 4 */
+#define TOWANCHOR_NOT_READABLE 3   /* a read was begun at the control address */
+#define TOWANCHOR_CYCLE_RUNS 4     /* a read or a write was begun while one runs */
+#define TOWANCHOR_NO_CYCLE_RUNS 5  /* a read was ended while none runs, or a write while none runs */
+#define TOWANCHOR_NO_STATE 8       /* the length is not TOWANCHOR_IMAGE_SIZE, or the image is of no state */
+
+/* Kinds of events, with the operands that each takes; those that a kind lacks are ignored. */
+#define TOWANCHOR_RESET 0          /* the reset pin; outside levels and tallies stay, and a running cycle is dropped */
+#define TOWANCHOR_BEGIN_READ 1     /* first: the address; the answer has the byte that is read */
+#define TOWANCHOR_END_READ 2       /* of the read that runs; its port's IBF falls now */
+#define TOWANCHOR_BEGIN_WRITE 3    /* first: the address, second: the byte, which acts when the write ends */
+#define TOWANCHOR_END_WRITE 4      /* of the write that runs */
+#define TOWANCHOR_OUTSIDE_LEVELS 5 /* first: the port, second: the levels that the outside now puts on its eight pins */
+
+/* Ports, which are addresses too, and the address that is no port. */
+#define TOWANCHOR_A 0              /* port A, of group A */
+#define TOWANCHOR_B 1              /* port B, of group B */
+#define TOWANCHOR_C 2              /* port C, whose pins serve the handshakes of the others */
+#define TOWANCHOR_CONTROL 3        /* for writes alone: mode words, and the setting of one pin of port C or of one enable */
+
+/* The pins of port C that handshakes use, as numbers of pins; see TOWANCHOR_PIN. STB and ACK come from outside, and act when they
+ * fall; the chip drives the others. STB, ACK and OBF are low when they say something, IBF and INTR are high. Which of them are in
+ * use depends on the mode word: the input pins of A in mode 1 input, its output pins in mode 1 output, all five in mode 2. */
+#define TOWANCHOR_INTR_A 3         /* port A asks the processor: a byte has come in, or the last one was taken */
+#define TOWANCHOR_STB_A 4          /* the outside has put a byte on port A */
+#define TOWANCHOR_IBF_A 5          /* that byte has not been fetched yet; it is high until the read ends */
+#define TOWANCHOR_ACK_A 6          /* the outside takes the byte of port A */
+#define TOWANCHOR_OBF_A 7          /* a byte waits in port A to be taken */
+#define TOWANCHOR_INTR_B 0         /* as INTR of A, for port B, which goes one way at a time: two pins serve for either way */
+#define TOWANCHOR_IBF_B 1          /* as IBF of A, where B is an input */
+#define TOWANCHOR_OBF_B 1          /* as OBF of A, where B is an output */
+#define TOWANCHOR_STB_B 2          /* as STB of A, where B is an input */
+#define TOWANCHOR_ACK_B 2          /* as ACK of A, where B is an output */
+
+/* A pin as a mask: the one bit of a byte of levels that is the pin's. */
+#define TOWANCHOR_PIN(pin) (1u << (pin))
+
+/* Channels: the four ways by which strobed bytes go. */
+#define TOWANCHOR_A_IN 0           /* into port A by STB: mode 1 input, and mode 2 */
+#define TOWANCHOR_A_OUT 1          /* out of port A by ACK: mode 1 output, and mode 2 */
+#define TOWANCHOR_B_IN 2           /* into port B by STB: mode 1 input */
+#define TOWANCHOR_B_OUT 3          /* out of port B by ACK: mode 1 output */
+
+/* Tallies: what became of the bytes of a channel since power-up. Each byte that was offered is in one of the other four, unless
+ * it waits. A tally at 65,535 goes on to 0. */
+#define TOWANCHOR_OFFERED 0        /* strobed in from outside, or written by the processor */
+#define TOWANCHOR_HANDED_OVER 1    /* read by the processor, or taken by the outside */
+#define TOWANCHOR_OVERWRITTEN 2    /* lost to the next byte, which came while this one waited */
+#define TOWANCHOR_SWALLOWED 3      /* lost to the end of a read that had begun before the byte came */
+#define TOWANCHOR_CLEARED 4        /* lost to a reset or a mode word */
+
+/* Taking an answer apart. */
+#define TOWANCHOR_NUMBER(answer) ((answer) & 0xFFu)           /* of every answer: 0, or why the call was refused */
+#define TOWANCHOR_BYTE(answer) (((answer) >> 8) & 0xFFu)      /* of towanchor_step: the byte that is read */
+#define TOWANCHOR_LEVELS(answer) (((answer) >> 8) & 0xFFu)    /* of towanchor_pins: the levels of the eight pins */
+#define TOWANCHOR_DRIVEN(answer) (((answer) >> 16) & 0xFFu)   /* of towanchor_pins: a one for each pin that the chip drives */
+#define TOWANCHOR_TALLY(answer) (((answer) >> 8) & 0xFFFFu)   /* of towanchor_tally: the count */
+
+/* Makes the image that of a chip just powered up: all ports inputs in mode 0, outside levels high, all tallies 0. What stood in
+ * it does not matter. Refuses nothing but a wrong length. */
+unsigned int towanchor_power_up(unsigned char *image, size_t length);
+
+/* Lets one event happen to the chip. Answers the number, and the byte (TOWANCHOR_BYTE) where the event is the beginning of a read
+ * and is accepted; else that byte is 0. */
+unsigned int towanchor_step(unsigned char *image, size_t length, unsigned char kind, unsigned char first, unsigned char second);
+
+/* Shows a port's eight pins: their levels (TOWANCHOR_LEVELS) and which of them the chip drives (TOWANCHOR_DRIVEN); a pin that it
+ * does not drive has the level that the outside puts on it. */
+unsigned int towanchor_pins(const unsigned char *image, size_t length, unsigned char port);
+
+/* Answers one tally of one channel (TOWANCHOR_TALLY). */
+unsigned int towanchor_tally(const unsigned char *image, size_t length, unsigned char channel, unsigned char tally);
+
+#ifdef __cplusplus
+}
+#endif
+
+#endif

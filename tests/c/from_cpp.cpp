@@ -1,0 +1,14 @@
+/* The functions have C's names in C++ too: a C++ program links them, and each accepts. */
+#include "towanchor.h"
+
+int main()
+{
+    unsigned char image[TOWANCHOR_IMAGE_SIZE];
+    unsigned int refused = 0;
+
+    refused |= TOWANCHOR_NUMBER(towanchor_power_up(image, sizeof image));
+    refused |= TOWANCHOR_NUMBER(towanchor_step(image, sizeof image, TOWANCHOR_RESET, 0, 0));
+    refused |= TOWANCHOR_NUMBER(towanchor_pins(image, sizeof image, TOWANCHOR_A));
+    refused |= TOWANCHOR_NUMBER(towanchor_tally(image, sizeof image, TOWANCHOR_A_IN, TOWANCHOR_OFFERED));
+    return refused == 0 ? 0 : 1;
+}

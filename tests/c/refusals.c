@@ -1,0 +1,100 @@
+/* Every number that a call can be refused with, and which comes first where two would apply; a refusal writes nothing. */
+#include "checks.h"
+#include "towanchor.h"
+
+#include <string.h>
+
+#define SIZE TOWANCHOR_IMAGE_SIZE
+
+static unsigned char image[SIZE];
+
+static void event(unsigned char kind, unsigned char first, unsigned char second, unsigned int number, const char *what)
+{
+    unsigned char before[SIZE];
+    unsigned int answer;
+
+    memcpy(before, image, SIZE);
+    answer = towanchor_step(image, SIZE, kind, first, second);
+    if (number == TOWANCHOR_ACCEPTED) {
+        check(TOWANCHOR_NUMBER(answer) == number, what, answer);
+    } else {
+        check(answer == number, what, answer);
+        check(memcmp(before, image, SIZE) == 0, "a refused event wrote", number);
+    }
+}
+
+/* The refusals that hold whether or not a cycle runs. */
+static void always(void)
+{
+    unsigned int value;
+
+    for (value = 6; value < 256; value++)
+        event((unsigned char)value, 9, 9, TOWANCHOR_NO_SUCH_KIND, "a kind above 5");
+    for (value = 4; value < 256; value++) {
+        event(TOWANCHOR_BEGIN_READ, (unsigned char)value, 0, TOWANCHOR_OUT_OF_RANGE, "a read at an address above 3");
+        event(TOWANCHOR_BEGIN_WRITE, (unsigned char)value, 0, TOWANCHOR_OUT_OF_RANGE, "a write at an address above 3");
+    }
+    for (value = 3; value < 256; value++)
+        event(TOWANCHOR_OUTSIDE_LEVELS, (unsigned char)value, 0, TOWANCHOR_OUT_OF_RANGE, "levels on a port above 2");
+    event(TOWANCHOR_BEGIN_READ, TOWANCHOR_CONTROL, 0, TOWANCHOR_NOT_READABLE, "a read of control");
+}
+
+/* The refusals while a cycle runs. */
+static void meanwhile(void)
+{
+    unsigned char address;
+
+    always();
+    for (address = TOWANCHOR_A; address <= TOWANCHOR_C; address++)
+        event(TOWANCHOR_BEGIN_READ, address, 0, TOWANCHOR_CYCLE_RUNS, "a read while a cycle runs");
+    for (address = TOWANCHOR_A; address <= TOWANCHOR_CONTROL; address++)
+        event(TOWANCHOR_BEGIN_WRITE, address, 0, TOWANCHOR_CYCLE_RUNS, "a write while a cycle runs");
+}
+
+/* A view or a tally is shown where its operands are in range, and else refused by number 2 alone. */
+static void shown(unsigned int answer, int in_range, const char *what, unsigned int value)
+{
+    if (in_range)
+        check(TOWANCHOR_NUMBER(answer) == TOWANCHOR_ACCEPTED, what, value);
+    else
+        check(answer == TOWANCHOR_OUT_OF_RANGE, what, value);
+}
+
+static void views(void)
+{
+    unsigned int value;
+
+    for (value = 0; value < 256; value++) {
+        unsigned char operand = (unsigned char)value;
+
+        shown(towanchor_pins(image, SIZE, operand), value <= TOWANCHOR_C, "the pins of a port", value);
+        shown(towanchor_tally(image, SIZE, operand, TOWANCHOR_CLEARED), value <= TOWANCHOR_B_OUT, "a tally of a channel", value);
+        shown(towanchor_tally(image, SIZE, TOWANCHOR_B_OUT, operand), value <= TOWANCHOR_CLEARED, "a channel's tally", value);
+    }
+}
+
+int main(void)
+{
+    check(towanchor_power_up(image, SIZE) == TOWANCHOR_ACCEPTED, "power-up", 0);
+    always();
+    event(TOWANCHOR_END_READ, 0, 0, TOWANCHOR_NO_CYCLE_RUNS, "the end of a read that was not begun");
+    event(TOWANCHOR_END_WRITE, 0, 0, TOWANCHOR_NO_CYCLE_RUNS, "the end of a write that was not begun");
+    views();
+
+    event(TOWANCHOR_BEGIN_READ, TOWANCHOR_A, 0, TOWANCHOR_ACCEPTED, "a read");
+    meanwhile();
+    event(TOWANCHOR_END_WRITE, 0, 0, TOWANCHOR_NO_CYCLE_RUNS, "the end of a write while a read runs");
+    event(TOWANCHOR_END_READ, 9, 9, TOWANCHOR_ACCEPTED, "the end of the read, operands ignored");
+
+    event(TOWANCHOR_BEGIN_WRITE, TOWANCHOR_CONTROL, 0x80, TOWANCHOR_ACCEPTED, "a write");
+    meanwhile();
+    event(TOWANCHOR_END_READ, 0, 0, TOWANCHOR_NO_CYCLE_RUNS, "the end of a read while a write runs");
+    event(TOWANCHOR_END_WRITE, 9, 9, TOWANCHOR_ACCEPTED, "the end of the write, operands ignored");
+
+    image[SIZE - 1] = 1;
+    event(TOWANCHOR_RESET, 0, 0, TOWANCHOR_NO_STATE, "the image of no state");
+    event(9, 9, 9, TOWANCHOR_NO_STATE, "the image of no state comes first");
+    image[SIZE - 1] = 0;
+    event(TOWANCHOR_RESET, 9, 9, TOWANCHOR_ACCEPTED, "a reset, operands ignored");
+    return checked();
+}

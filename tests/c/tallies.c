@@ -1,0 +1,144 @@
+/* Bytes of each channel are handed over, overwritten, swallowed and cleared, a different count of each, and the tallies have
+ * these counts; and a tally at 65,535 goes on to 0. */
+#include "checks.h"
+#include "towanchor.h"
+
+#define SIZE TOWANCHOR_IMAGE_SIZE
+
+/* The mode word that strobes a channel, its port, and its STB or ACK. */
+struct way {
+    unsigned char word, port, pin;
+};
+
+static const struct way ways[] = {
+    {0xB0, TOWANCHOR_A, TOWANCHOR_STB_A},
+    {0xA0, TOWANCHOR_A, TOWANCHOR_ACK_A},
+    {0x86, TOWANCHOR_B, TOWANCHOR_STB_B},
+    {0x84, TOWANCHOR_B, TOWANCHOR_ACK_B},
+};
+
+static unsigned char image[SIZE];
+
+static void event(unsigned char kind, unsigned char first, unsigned char second)
+{
+    unsigned int number = TOWANCHOR_NUMBER(towanchor_step(image, SIZE, kind, first, second));
+
+    if (number != TOWANCHOR_ACCEPTED)
+        check(0, "an event was refused", number);
+}
+
+static void write_byte(unsigned char address, unsigned char byte)
+{
+    event(TOWANCHOR_BEGIN_WRITE, address, byte);
+    event(TOWANCHOR_END_WRITE, 0, 0);
+}
+
+static void pulse(unsigned char pin)
+{
+    event(TOWANCHOR_OUTSIDE_LEVELS, TOWANCHOR_C, (unsigned char)~TOWANCHOR_PIN(pin));
+    event(TOWANCHOR_OUTSIDE_LEVELS, TOWANCHOR_C, 0xFF);
+}
+
+static int is_input(unsigned char channel)
+{
+    return channel == TOWANCHOR_A_IN || channel == TOWANCHOR_B_IN;
+}
+
+static void offer(unsigned char channel)
+{
+    if (is_input(channel))
+        pulse(ways[channel].pin);
+    else
+        write_byte(ways[channel].port, 0x55);
+}
+
+static void hand_over(unsigned char channel)
+{
+    if (is_input(channel)) {
+        event(TOWANCHOR_BEGIN_READ, ways[channel].port, 0);
+        event(TOWANCHOR_END_READ, 0, 0);
+    } else {
+        pulse(ways[channel].pin);
+    }
+}
+
+static void swallow(unsigned char channel)
+{
+    event(TOWANCHOR_BEGIN_READ, ways[channel].port, 0);
+    offer(channel);
+    event(TOWANCHOR_END_READ, 0, 0);
+}
+
+static unsigned int tally(unsigned char channel, unsigned char which)
+{
+    return TOWANCHOR_TALLY(towanchor_tally(image, SIZE, channel, which));
+}
+
+/* So many bytes of a channel as no other tally has: handed over, overwritten, swallowed, cleared. */
+static unsigned int share(unsigned char channel, unsigned char which)
+{
+    return which == TOWANCHOR_SWALLOWED && !is_input(channel) ? 0 : 5u * channel + which + 300u * which;
+}
+
+static void use(unsigned char channel)
+{
+    unsigned int each;
+
+    write_byte(TOWANCHOR_CONTROL, ways[channel].word);
+    for (each = 0; each < share(channel, TOWANCHOR_HANDED_OVER); each++) {
+        offer(channel);
+        hand_over(channel);
+    }
+    for (each = 0; each < share(channel, TOWANCHOR_SWALLOWED); each++)
+        swallow(channel);
+    for (each = 0; each < share(channel, TOWANCHOR_CLEARED); each++) {
+        offer(channel);
+        if (each % 2 == 0)
+            event(TOWANCHOR_RESET, 0, 0);
+        write_byte(TOWANCHOR_CONTROL, ways[channel].word);
+    }
+    /* The last of these is not overwritten: it waits, and the reset clears it. */
+    for (each = 0; each <= share(channel, TOWANCHOR_OVERWRITTEN); each++)
+        offer(channel);
+    event(TOWANCHOR_RESET, 0, 0);
+}
+
+static void compare(unsigned char channel)
+{
+    unsigned int handed_over = share(channel, TOWANCHOR_HANDED_OVER), overwritten = share(channel, TOWANCHOR_OVERWRITTEN);
+    unsigned int swallowed = share(channel, TOWANCHOR_SWALLOWED), cleared = share(channel, TOWANCHOR_CLEARED) + 1;
+
+    check(tally(channel, TOWANCHOR_OFFERED) == handed_over + overwritten + swallowed + cleared, "offered, of channel", channel);
+    check(tally(channel, TOWANCHOR_HANDED_OVER) == handed_over, "handed over, of channel", channel);
+    check(tally(channel, TOWANCHOR_OVERWRITTEN) == overwritten, "overwritten, of channel", channel);
+    check(tally(channel, TOWANCHOR_SWALLOWED) == swallowed, "swallowed, of channel", channel);
+    check(tally(channel, TOWANCHOR_CLEARED) == cleared, "cleared, of channel", channel);
+}
+
+static void go_round(void)
+{
+    unsigned long each;
+
+    towanchor_power_up(image, SIZE);
+    write_byte(TOWANCHOR_CONTROL, ways[TOWANCHOR_A_IN].word);
+    for (each = 0; each < 65535; each++)
+        offer(TOWANCHOR_A_IN);
+    check(tally(TOWANCHOR_A_IN, TOWANCHOR_OFFERED) == 65535, "65,535 offered", 0);
+    check(tally(TOWANCHOR_A_IN, TOWANCHOR_OVERWRITTEN) == 65534, "65,534 overwritten", 0);
+    offer(TOWANCHOR_A_IN);
+    check(tally(TOWANCHOR_A_IN, TOWANCHOR_OFFERED) == 0, "one more offered: 0", 0);
+    check(tally(TOWANCHOR_A_IN, TOWANCHOR_OVERWRITTEN) == 65535, "one more overwritten: 65,535", 0);
+}
+
+int main(void)
+{
+    unsigned char channel;
+
+    towanchor_power_up(image, SIZE);
+    for (channel = TOWANCHOR_A_IN; channel <= TOWANCHOR_B_OUT; channel++)
+        use(channel);
+    for (channel = TOWANCHOR_A_IN; channel <= TOWANCHOR_B_OUT; channel++)
+        compare(channel);
+    go_round();
+    return checked();
+}
