@@ -36,13 +36,15 @@ orNone none answer = cond none 2 answer
 abbrev pub powerUpAnswer : List ℕ → ℕ
 powerUpAnswer l = cond (eqb (length l) 64) 0 8
 
+-- What it writes: the chip at power-up.
 abbrev pub powerUpImage : List ℕ → List ℕ
 powerUpImage l = savedIn l powerUp
 
--- The step of the state that the image tells, with its number and its byte.
+-- The step of the state that the image tells.
 abbrev pub stepOn : List ℕ → ℕ → ℕ → ℕ → Stepped
 stepOn l k x d = stepOf (stateOf l) k x d
 
+-- Its number, and the byte of an accepted read.
 unfoldable pub stepAnswer : List ℕ → ℕ → ℕ → ℕ → ℕ
 stepAnswer l k x d = orBad l (packed (stepOn l k x d .number) (stepOn l k x d .byte) 0)
 
@@ -50,20 +52,23 @@ stepAnswer l k x d = orBad l (packed (stepOn l k x d .number) (stepOn l k x d .b
 unfoldable pub stepImage : List ℕ → ℕ → ℕ → ℕ → List ℕ
 stepImage l k x d = cond (isImage l && eqb (stepOn l k x d .number) 0) (imageOf (stepOn l k x d .chip)) l
 
--- The pin view of a port.
+-- The levels of a port's pins, and above them the mask of those that the chip drives.
 abbrev pub pinsGiven : Pins → ℕ
 pinsGiven p = packed 0 (p .levels) (p .driven)
 
+-- The pin view of port 0, 1 or 2.
 unfoldable pub pinsAnswer : List ℕ → ℕ → ℕ
 pinsAnswer l p = orBad l (orNone (ltb 2 p) (pinsGiven (pinsOf (stateOf l) p)))
 
--- The channels are numbered A in, A out, B in, B out, and the tallies of each in the order of their fates.
+-- The channels are numbered A in, A out, B in, B out: the first two are group A's,
 abbrev pub groupNumbered : ℕ → Group
 groupNumbered k = cond (ltb k 2) A B
 
+-- and those with an even number are inputs.
 abbrev pub sideNumbered : ℕ → Side
 sideNumbered k = cond (eqb (k % 2) 0) Input Output
 
+-- The tallies of a channel are numbered as the rules list them; no number above 4 is asked for.
 unfoldable pub counterNumbered : Tally → ℕ → ℕ
 counterNumbered t n =
     cond (eqb n 0) (t .offered)
@@ -72,6 +77,7 @@ counterNumbered t n =
     (cond (eqb n 3) (t .swallowed)
     (t .cleared))))
 
+-- Tally n of channel k, in two bytes.
 unfoldable pub tallyAnswer : List ℕ → ℕ → ℕ → ℕ
 tallyAnswer l k n =
     orBad l

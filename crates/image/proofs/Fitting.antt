@@ -1,7 +1,7 @@
 -- The bytes of a state are an image exactly where the state has one.
 -- Rests on ComesBack.
 use mathlib.Core.Path.{_≡_, _∙_, refl, ap}
-use mathlib.Core.Bool.{Bool, true, false, _&&_}
+use mathlib.Core.Bool.{Bool, true, false, _&&_, and-true}
 use lib.Dec.{ltb}
 use borrow.Author.Tests.{eq-eqb}
 use Rattle.bits.specs.Bit.{bitOf}
@@ -18,10 +18,6 @@ use Rattle.chip.specs.Handshakes.{strobed}
 use Rattle.image.specs.Layout.{fillByte, enablesByte, busByte, placeByte, writtenByte, imageOf}
 use Rattle.image.specs.Good.{named, kept, hasImage, cycleFits, enablesFit, fillFits, isImage}
 use Rattle.image.proofs.ComesBack.{enables-back}
-
-and-true : (b : Bool) → (b && true) ≡ b
-and-true true = refl
-and-true false = refl
 
 cycle-fits : (ph : Phase) → cycleFits (busByte ph) (placeByte ph) (writtenByte ph) ≡ named ph
 cycle-fits Idle = refl

@@ -1,4 +1,4 @@
-pub mod Places
+pub mod Behind
 pub mod Zeros
 pub mod Long
 pub mod ComesBack

@@ -34,6 +34,7 @@ kept strobed s Waiting = strobed
 kept strobed Input Fetching = strobed
 kept strobed Output Fetching = false
 
+-- They are asked of each of the four channels.
 abbrev pub keptAt : Core → Group → Side → Bool
 keptAt c g s = kept (strobed (c .word) g s) s (channelOf c g s .fill)
 

@@ -12,7 +12,7 @@ use Rattle.chip.specs.declared.Enables.{Enables}
 use Rattle.chip.specs.declared.Core.{Core}
 use Rattle.chip.specs.declared.Chip.{Chip}
 
--- Bytes 0 to 39: the five tallies of A in, A out, B in and B out, each as two bytes, the low one first.
+-- Bytes 0 to 39: the five tallies of each channel, each as two bytes, the low one first.
 abbrev pub tallyBytes : Tally → List ℕ
 tallyBytes t =
     t .offered % 256 ∷ t .offered / 256
@@ -21,6 +21,7 @@ tallyBytes t =
     ∷ t .swallowed % 256 ∷ t .swallowed / 256
     ∷ t .cleared % 256 ∷ t .cleared / 256 ∷ []
 
+-- The channels are A in, A out, B in and B out.
 abbrev pub allTallies : Core → List ℕ
 allTallies c =
     tallyBytes (c .a .input .tally) ++ tallyBytes (c .a .output .tally)
@@ -68,6 +69,6 @@ controlBytes c =
     ∷ writtenByte (c .phase) ∷ 0 ∷ 0 ∷ 0
     ∷ 0 ∷ 0 ∷ 0 ∷ 0 ∷ []
 
--- The whole.
+-- All 64.
 unfoldable pub imageOf : Chip → List ℕ
 imageOf c = allTallies (c .core) ++ portBytes (c .core) ++ controlBytes c

@@ -2,7 +2,7 @@
 use mathlib.Core.Bool.{cond}
 use mathlib.Core.List.{List}
 use Prim.Native.Nat.{ℕ, _+_, _*_}
-use lib.Dec.{eqb, ltb}
+use lib.Dec.{eqb}
 use lib.ListN.{getD}
 use Rattle.bits.specs.Bit.{bitOf}
 use Rattle.channel.specs.declared.Fill.{Fill}
@@ -32,19 +32,19 @@ tallyAt l i = record {
   cleared = wideAt l (i + 8);
 }
 
--- A channel's condition.
+-- A channel's condition: 0 empty, 1 waiting, 2 fetching.
 abbrev pub fillAs : ℕ → Fill
-fillAs b = cond (ltb b 2) (cond (eqb b 1) Waiting Empty) Fetching
+fillAs b = cond (eqb b 0) Empty (cond (eqb b 1) Waiting Fetching)
 
 -- Channel k: 0 is A in, 1 A out, 2 B in and 3 B out.
 abbrev pub channelAt : List ℕ → ℕ → Channel
 channelAt l k = record { fill = fillAs (byteAt l (48 + k)); latch = byteAt l (44 + k); tally = tallyAt l (10 * k) }
 
--- The enables.
+-- The enables, each from the pin on which a read of port C tells it.
 abbrev pub enablesAs : ℕ → Enables
 enablesAs b = record { input = bitOf b 4; output = bitOf b 6; b = bitOf b 2 }
 
--- The bus.
+-- The bus: 0 idle, 1 a read runs, 2 a write.
 abbrev pub phaseAs : ℕ → ℕ → ℕ → Phase
 phaseAs bus place byte = cond (eqb bus 0) Idle (cond (eqb bus 1) (Reading place) (Writing place byte))
 

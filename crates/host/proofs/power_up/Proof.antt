@@ -1,4 +1,6 @@
 -- `host::power_up` meets its contract, by the length.
+use native.Mathlib.Omega.{arith}
+use lib.ListN.{length}
 use borrow.Author.Needs.{needs}
 use borrow.Author.Tests.{eq-eqb, ne-eqb}
 use Rattle.image.specs.Slices.{savedIn}
@@ -8,11 +10,15 @@ use Rattle.host.proofs.power_up.Tie as tie
 pub power-up-spec : {M : Type 1} → statement M
 unfolding savedIn
 power-up-spec = tie.close (tie.spec
-    (λ c. let other = ne-eqb _ _ (c .if1 .taken) in (rw (other), rw (other)))
+    (λ c.
+    let l = c .before .before .args .image .now in
+    let other = ne-eqb (length l) 64 (λ e. omega (arith, e, c .if1 .taken)) in
+    (rw (other), rw (other)))
     (λ c κs. tt)
     (λ c κs. tt)
     (λ c. search needs)
     (λ c.
     let save = c .before .before in
-    let long = eq-eqb _ _ (save .before .before .before .if1 .left) in
+    let asked = save .before .before .before in
+    let long = eq-eqb (length (asked .before .before .args .image .now)) 64 (omega (arith, asked .if1 .left)) in
     (rw (long), rw (save .save .ensures, save .before .before .power-up .ensures))))

@@ -1,6 +1,7 @@
 -- `laid::put_four` meets its contract: two pairs, one behind the other.
+use mathlib.Core.List.{[], _∷_}
 use borrow.Author.Needs.{needs}
-use Rattle.image.proofs.Places.{two}
+use Rattle.image.proofs.Behind.{behind}
 use Rattle.image.proofs.laid.put_four.Statement.{statement}
 use Rattle.image.proofs.laid.put_four.Tie as tie
 
@@ -10,4 +11,5 @@ put-four-spec = tie.close (tie.spec
     (λ c.
     let second = c .before .before in
     let first = second .before .before .before .before in
-    rw (second .put-two2 .ensures, first .put-two .ensures, two (first .before .before .before .args .at))))
+    let a = first .before .before .before .args in
+    rw (second .put-two2 .ensures, first .put-two .ensures) (behind (a .image .now) (a .at) (a .w ∷ a .x ∷ []) (a .y ∷ a .z ∷ []))))
