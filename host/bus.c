@@ -26,8 +26,12 @@ static unsigned int view(const struct bus *bus, unsigned char port)
 
 void bus_power_up(struct bus *bus, pin_view its_view)
 {
+    /* On the store's old backplane idle lines are high, and scale and printer count on that: their STB and ACK are high before the
+     * first byte, and so is the line by which the scale says that it still sends. The card's default is low, so the levels are named. */
+    const unsigned char high = 0xFF;
+
     bus->view = its_view;
-    accepted(towanchor_power_up(bus->image, sizeof bus->image));
+    accepted(towanchor_power_up_with_levels(bus->image, sizeof bus->image, high, high, high));
 }
 
 unsigned char bus_begin_read(struct bus *bus, unsigned char address)

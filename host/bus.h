@@ -12,7 +12,7 @@ struct bus {
     pin_view view;
 };
 
-/* Powers the card up. */
+/* Powers the card up, with every line high. */
 void bus_power_up(struct bus *bus, pin_view view);
 
 /* The processor's side. A cycle takes time: between its beginning and its end the outside goes on. */

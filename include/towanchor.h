@@ -3,8 +3,12 @@
  *
  * An image is the whole state of one chip. The host owns it: it may lie at any address, be copied, saved, moved and restored
  * byte by byte, and there may be as many as the host likes, one for each chip. The host need not look inside. A new image is
- * made by towanchor_power_up; one that came from elsewhere, a file perhaps, is judged by every function that is given it, and
- * refused with TOWANCHOR_NO_STATE where it is the image of no state.
+ * made by towanchor_power_up or towanchor_power_up_with_levels; one that came from elsewhere, a file perhaps, is judged by every
+ * function that is given it, and refused with TOWANCHOR_NO_STATE where it is the image of no state.
+ *
+ * Saved machines: the outside levels are part of an image, so that a restored machine goes on under the levels that it was saved
+ * with; restoring is no power-up. A machine that was made for lines which idle high, as they did on the old backplane, names them
+ * when it is switched on anew: towanchor_power_up_with_levels(image, length, 0xFF, 0xFF, 0xFF).
  *
  * What a function answers, and what it writes into the image, depends on the image and the operands and on nothing else. No
  * function allocates, prints, keeps anything from one call to the next, or fails: each returns one number, to be taken apart by
@@ -86,9 +90,18 @@ extern "C" {
 #define TOWANCHOR_DRIVEN(answer) (((answer) >> 16) & 0xFFu)   /* of towanchor_pins: a one for each pin that the chip drives */
 #define TOWANCHOR_TALLY(answer) (((answer) >> 8) & 0xFFFFu)   /* of towanchor_tally: the count */
 
-/* Makes the image that of a chip just powered up: all ports inputs in mode 0, outside levels high, all tallies 0. What stood in
- * it does not matter. Refuses nothing but a wrong length. */
+/* Makes the image that of a chip just powered up: all ports inputs in mode 0, outside levels low, all tallies 0. What stood in it
+ * does not matter. Refuses nothing but a wrong length.
+ *
+ * Outside levels are low since the backplane pulls idle lines down; before this edition they were high. STB and ACK then start low,
+ * and only a fall counts: the outside has to raise such a line before it can use it. Until then its channel does not raise INTR, and
+ * in mode 2 port A is driven, as it is whenever ACK is low. A host that counts on high lines calls towanchor_power_up_with_levels. */
 unsigned int towanchor_power_up(unsigned char *image, size_t length);
+
+/* The same under outside levels that the host names for the eight pins of port A, of port B and of port C; each may be any byte. It is
+ * as if TOWANCHOR_OUTSIDE_LEVELS had come for each port after towanchor_power_up. */
+unsigned int towanchor_power_up_with_levels(unsigned char *image, size_t length, unsigned char levels_a, unsigned char levels_b,
+                                            unsigned char levels_c);
 
 /* Lets one event happen to the chip. Answers the number, and the byte (TOWANCHOR_BYTE) where the event is the beginning of a read
  * and is accepted; else that byte is 0. */

@@ -43,7 +43,7 @@ static void reach(unsigned char *image, const char *file, unsigned int which)
         lines++;
     rest = which * 37 % (lines + 1);
     script.next = 0;
-    towanchor_power_up(image, SIZE);
+    towanchor_power_up_with_levels(image, SIZE, 0xFF, 0xFF, 0xFF);
     while ((rest > 0 || !is_wanted(image, which)) && script_take(&script, &line)) {
         if (line.is_frame)
             towanchor_step(image, SIZE, line.kind, line.first, line.second);

@@ -1,5 +1,5 @@
 /* Every length from 0 to 96 but 64 is refused by number 8 by each function, and nothing is written; with 64, power-up makes the
- * one image of a chip just powered up of whatever stood there. */
+ * one image of a chip just powered up of whatever stood there, with levels and without. */
 #include "checks.h"
 #include "guarded.h"
 #include "towanchor.h"
@@ -12,6 +12,7 @@ static void refused(const unsigned char *image, unsigned int length)
     unsigned char *put = guarded_put(&guarded, image, TOWANCHOR_IMAGE_SIZE);
 
     check(towanchor_power_up(put, length) == TOWANCHOR_NO_STATE, "power-up of a length", length);
+    check(towanchor_power_up_with_levels(put, length, 1, 2, 3) == TOWANCHOR_NO_STATE, "power-up with levels of a length", length);
     check(towanchor_step(put, length, TOWANCHOR_RESET, 0, 0) == TOWANCHOR_NO_STATE, "a reset of a length", length);
     check(towanchor_step(put, length, 9, 9, 9) == TOWANCHOR_NO_STATE, "a bad event of a length", length);
     check(towanchor_pins(put, length, TOWANCHOR_A) == TOWANCHOR_NO_STATE, "the pins of a length", length);
@@ -38,6 +39,10 @@ int main(void)
         check(towanchor_power_up(put, sizeof image) == TOWANCHOR_ACCEPTED, "power-up over bytes", value);
         check(memcmp(put, image, sizeof image) == 0, "another image after power-up over bytes", value);
         check(guarded_kept_beyond(&guarded, sizeof image), "power-up wrote beyond the image over bytes", value);
+        memset(put, (int)value, sizeof scribbled);
+        check(towanchor_power_up_with_levels(put, sizeof image, 0, 0, 0) == TOWANCHOR_ACCEPTED, "power-up with levels over bytes", value);
+        check(memcmp(put, image, sizeof image) == 0, "another image after power-up with levels over bytes", value);
+        check(guarded_kept_beyond(&guarded, sizeof image), "power-up with levels wrote beyond the image over bytes", value);
     }
     return checked();
 }

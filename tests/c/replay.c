@@ -1,7 +1,7 @@
-/* replay stay|move ANSWERS TALLIES SCRIPT..: answers scripts by the C functions, each from power-up. The answers go to one file,
- * a line for each line as the program writes it, and the tallies at the end of each script to another, a line for each channel.
- * With 'move' the image is saved after every line, its place scribbled over, and the image restored at another address; and
- * another chip takes events between, so that nothing may be kept from one call to the next. */
+/* replay stay|move ANSWERS TALLIES SCRIPT..: answers scripts by the C functions, each from a power-up with every line high, as the
+ * program does. The answers go to one file, a line for each line as the program writes it, and the tallies at the end of each script
+ * to another, a line for each channel. With 'move' the image is saved after every line, its place scribbled over, and the image
+ * restored at another address; and another chip takes events between, so that nothing may be kept from one call to the next. */
 #include "script.h"
 #include "towanchor.h"
 
@@ -75,7 +75,7 @@ static void replay(const char *file, int moves, FILE *answers, FILE *tallies)
 
     script_load(&script, file);
     place.offset = 0;
-    towanchor_power_up(image(&place), TOWANCHOR_IMAGE_SIZE);
+    towanchor_power_up_with_levels(image(&place), TOWANCHOR_IMAGE_SIZE, 0xFF, 0xFF, 0xFF);
     towanchor_power_up(other, sizeof other);
     while (script_take(&script, &line)) {
         answer(&place, &line, answers);

@@ -2,46 +2,12 @@
  * these counts; and a tally at 65,535 goes on to 0. */
 #include "checks.h"
 #include "towanchor.h"
-
-#define SIZE TOWANCHOR_IMAGE_SIZE
-
-/* The mode word that strobes a channel, its port, and its STB or ACK. */
-struct way {
-    unsigned char word, port, pin;
-};
-
-static const struct way ways[] = {
-    {0xB0, TOWANCHOR_A, TOWANCHOR_STB_A},
-    {0xA0, TOWANCHOR_A, TOWANCHOR_ACK_A},
-    {0x86, TOWANCHOR_B, TOWANCHOR_STB_B},
-    {0x84, TOWANCHOR_B, TOWANCHOR_ACK_B},
-};
-
-static unsigned char image[SIZE];
-
-static void event(unsigned char kind, unsigned char first, unsigned char second)
-{
-    unsigned int number = TOWANCHOR_NUMBER(towanchor_step(image, SIZE, kind, first, second));
-
-    if (number != TOWANCHOR_ACCEPTED)
-        check(0, "an event was refused", number);
-}
-
-static void write_byte(unsigned char address, unsigned char byte)
-{
-    event(TOWANCHOR_BEGIN_WRITE, address, byte);
-    event(TOWANCHOR_END_WRITE, 0, 0);
-}
+#include "ways.h"
 
 static void pulse(unsigned char pin)
 {
     event(TOWANCHOR_OUTSIDE_LEVELS, TOWANCHOR_C, (unsigned char)~TOWANCHOR_PIN(pin));
     event(TOWANCHOR_OUTSIDE_LEVELS, TOWANCHOR_C, 0xFF);
-}
-
-static int is_input(unsigned char channel)
-{
-    return channel == TOWANCHOR_A_IN || channel == TOWANCHOR_B_IN;
 }
 
 static void offer(unsigned char channel)
@@ -67,11 +33,6 @@ static void swallow(unsigned char channel)
     event(TOWANCHOR_BEGIN_READ, ways[channel].port, 0);
     offer(channel);
     event(TOWANCHOR_END_READ, 0, 0);
-}
-
-static unsigned int tally(unsigned char channel, unsigned char which)
-{
-    return TOWANCHOR_TALLY(towanchor_tally(image, SIZE, channel, which));
 }
 
 /* So many bytes of a channel as no other tally has: handed over, overwritten, swallowed, cleared. */
@@ -119,7 +80,7 @@ static void go_round(void)
 {
     unsigned long each;
 
-    towanchor_power_up(image, SIZE);
+    towanchor_power_up_with_levels(image, TOWANCHOR_IMAGE_SIZE, 0xFF, 0xFF, 0xFF);
     write_byte(TOWANCHOR_CONTROL, ways[TOWANCHOR_A_IN].word);
     for (each = 0; each < 65535; each++)
         offer(TOWANCHOR_A_IN);
@@ -134,7 +95,7 @@ int main(void)
 {
     unsigned char channel;
 
-    towanchor_power_up(image, SIZE);
+    towanchor_power_up_with_levels(image, TOWANCHOR_IMAGE_SIZE, 0xFF, 0xFF, 0xFF);
     for (channel = TOWANCHOR_A_IN; channel <= TOWANCHOR_B_OUT; channel++)
         use(channel);
     for (channel = TOWANCHOR_A_IN; channel <= TOWANCHOR_B_OUT; channel++)

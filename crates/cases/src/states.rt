@@ -3,6 +3,7 @@ use channel::Channel;
 use channel::Fill;
 use chip::Chip;
 use chip::Core;
+use chip::Levels;
 use chip::Phase;
 use chip::Port;
 use step::Stepped;
@@ -24,8 +25,13 @@ fn put(chip: Chip) -> Stepped {
     }
 }
 
+// The cases are those of lines that idle high.
 pub(super) fn at_power_up() -> Stepped {
-    put(chip::power_up())
+    put(chip::power_up_with_levels(Levels {
+        a: 0xff,
+        b: 0xff,
+        c: 0xff,
+    }))
 }
 
 // The STB of port A falls and rises.

@@ -14,6 +14,7 @@ use Rattle.chip.specs.declared.Port.{Port}
 use Rattle.chip.specs.declared.Enables.{Enables}
 use Rattle.chip.specs.declared.Core.{Core}
 use Rattle.chip.specs.declared.Chip.{Chip}
+use Rattle.chip.specs.declared.Levels.{Levels}
 
 -- Nothing counted yet.
 abbrev pub noTally : Tally
@@ -31,18 +32,35 @@ noEnables = record { input = false; output = false; b = false }
 abbrev pub freshPort : ℕ → Port
 freshPort d = record { input = noByte; output = noByte; outside = d }
 
--- The chip as it is switched on: all ports inputs in mode 0, which is the word 9B, every line high, and nothing anywhere else.
-abbrev pub powerUp : Chip
-powerUp = record {
+-- Outside levels, by the bytes of ports A, B and C.
+abbrev pub levelsBy : ℕ → ℕ → ℕ → Levels
+levelsBy a b c = record { a = a; b = b; c = c }
+
+-- Every line low.
+abbrev pub allLow : Levels
+allLow = levelsBy 0 0 0
+
+-- Every line high.
+abbrev pub allHigh : Levels
+allHigh = levelsBy 0xff 0xff 0xff
+
+-- The chip as it is switched on under outside levels: all ports inputs in mode 0, which is the word 9B, those levels on their lines, and
+-- nothing anywhere else.
+abbrev pub powerUpWith : Levels → Chip
+powerUpWith l = record {
   phase = Idle;
   core = record {
     word = 0x9b;
-    a = freshPort 0xff;
-    b = freshPort 0xff;
-    c = record { latch = 0; outside = 0xff };
+    a = freshPort (l .a);
+    b = freshPort (l .b);
+    c = record { latch = 0; outside = l .c };
     inte = noEnables;
   };
 }
+
+-- Where no levels are named, the backplane has pulled every line down.
+abbrev pub powerUp : Chip
+powerUp = powerUpWith allLow
 
 -- The four channels are A in, A out, B in and B out: a port's group and a side.
 abbrev pub portOf : Core → Group → Port

@@ -1,6 +1,6 @@
 // The state of one 8255A, and what it is at power-up.
 ghost use mathlib.Core.Path.{_≡_};
-ghost use Rattle.chip.specs.State.{powerUp, freshPort};
+ghost use Rattle.chip.specs.State.{freshPort, powerUpWith, powerUp};
 
 pub mod channels;
 
@@ -49,6 +49,13 @@ pub struct Chip {
     pub core: Core,
 }
 
+// The levels that the outside puts on the pins of the three ports.
+pub struct Levels {
+    pub a: u8,
+    pub b: u8,
+    pub c: u8,
+}
+
 fn fresh_port(outside: u8) -> Port
     ensures { λ r. ⌜ r ≡ freshPort outside ⌝ }
 {
@@ -71,17 +78,17 @@ fn fresh_port(outside: u8) -> Port
     }
 }
 
-// The chip at power-up.
-pub fn power_up() -> Chip
-    ensures { λ r. ⌜ r ≡ powerUp ⌝ }
+// The chip at power-up, under the levels that the caller names.
+pub fn power_up_with_levels(levels: Levels) -> Chip
+    ensures { λ r. ⌜ r ≡ powerUpWith levels ⌝ }
 {
     let core = Core {
         word: 0x9b,
-        a: fresh_port(0xff),
-        b: fresh_port(0xff),
+        a: fresh_port(levels.a),
+        b: fresh_port(levels.b),
         c: Lines {
             latch: 0,
-            outside: 0xff,
+            outside: levels.c,
         },
         inte: Enables {
             input: false,
@@ -93,4 +100,11 @@ pub fn power_up() -> Chip
         phase: Phase::Idle,
         core,
     }
+}
+
+// The chip at power-up where no levels are named: the backplane pulls idle lines down.
+pub fn power_up() -> Chip
+    ensures { λ r. ⌜ r ≡ powerUp ⌝ }
+{
+    power_up_with_levels(Levels { a: 0, b: 0, c: 0 })
 }

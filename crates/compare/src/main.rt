@@ -24,4 +24,7 @@ fn main() {
     let strange = runs::from_arbitrary_states();
     print::word(b"from arbitrary states");
     print::filled(&room[..length], &strange);
+    let levelled = runs::from_other_levels();
+    print::word(b"from power-up under other levels");
+    print::filled(&room[..length], &levelled);
 }

@@ -1,6 +1,6 @@
 // The functions that a host in C links: those of the crate host under names of their own. include/towanchor.h declares them.
 ghost use mathlib.Core.Path.{_≡_};
-ghost use Rattle.host.specs.Calls.{powerUpAnswer, powerUpImage, stepAnswer, stepImage, pinsAnswer, tallyAnswer};
+ghost use Rattle.host.specs.Calls.{powerUpAnswer, powerUpImage, powerUpImageWith, stepAnswer, stepImage, pinsAnswer, tallyAnswer};
 
 #[no_mangle]
 pub extern "C" fn towanchor_power_up(image: &mut [u8]) -> u32
@@ -8,6 +8,14 @@ pub extern "C" fn towanchor_power_up(image: &mut [u8]) -> u32
     ensures { λ _. ⌜ now (image .exit) ≡ powerUpImage (now (image .entry)) ⌝ }
 {
     host::power_up(image)
+}
+
+#[no_mangle]
+pub extern "C" fn towanchor_power_up_with_levels(image: &mut [u8], a: u8, b: u8, c: u8) -> u32
+    ensures { λ r. ⌜ r ≡ powerUpAnswer (now (image .entry)) ⌝ }
+    ensures { λ _. ⌜ now (image .exit) ≡ powerUpImageWith (now (image .entry)) a b c ⌝ }
+{
+    host::power_up_with_levels(image, a, b, c)
 }
 
 #[no_mangle]

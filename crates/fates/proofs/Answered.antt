@@ -9,7 +9,7 @@ use Rattle.roles.specs.Role.{usesOf, freeRole, roleOf}
 use Rattle.channel.specs.declared.Side.the-variants.{Input, Output}
 use Rattle.channel.specs.Channel.{flagOf}
 use Rattle.channel.specs.Moves.{afterOffer, afterHandOver, afterEndRead, afterClear}
-use Rattle.chip.specs.State.{powerUp}
+use Rattle.chip.specs.State.{allHigh, powerUpWith}
 use Rattle.status.specs.Status.{requestOf, intrOf}
 use Rattle.settings.specs.Renewed.{clearedPort, renewed}
 use Rattle.settings.specs.Commanded.{pinSet, commanded}
@@ -25,16 +25,16 @@ use Rattle.fates.specs.Promise.{Shows, run, tallies}
 use Rattle.fates.specs.Examples.{lostBale, inAndWritten, baleTally, beforeAck}
 
 -- The lost digit is counted as swallowed.
-pub bale-counted : tallies A Input powerUp lostBale ≡ baleTally
+pub bale-counted : tallies A Input (powerUpWith allHigh) lostBale ≡ baleTally
 unfolding bitOf valueOf withBit modeOf inputOf upperInput lowerInput strobedInput strobedOutput outputOf controlOf usesOf freeRole roleOf flagOf afterOffer afterHandOver afterEndRead afterClear requestOf intrOf clearedPort renewed pinSet commanded begunRead endedRead storedBy latchWritten written fallen edged levelledLines levelled readPort readLines readOf drivesPort pinsOfPort pinsOfLines pinsOf numberOf stepOf
 bale-counted = refl
 
 -- The byte written in mode 2 does not show before ACK falls.
-pub not-before : pinsOf (run powerUp inAndWritten) 0 ≡ beforeAck
+pub not-before : pinsOf (run (powerUpWith allHigh) inAndWritten) 0 ≡ beforeAck
 unfolding bitOf valueOf withBit modeOf inputOf upperInput lowerInput strobedInput strobedOutput outputOf controlOf usesOf freeRole roleOf flagOf afterOffer afterHandOver afterEndRead afterClear requestOf intrOf clearedPort renewed pinSet commanded begunRead endedRead storedBy latchWritten written fallen edged levelledLines levelled readPort readLines readOf drivesPort pinsOfPort pinsOfLines pinsOf numberOf stepOf
 not-before = refl
 
 -- It shows as ACK falls.
-pub ack-shows : Shows A Output (run powerUp inAndWritten) (event 5 2 0xbf) 0x55
+pub ack-shows : Shows A Output (run (powerUpWith allHigh) inAndWritten) (event 5 2 0xbf) 0x55
 unfolding bitOf valueOf withBit modeOf inputOf upperInput lowerInput strobedInput strobedOutput outputOf controlOf usesOf freeRole roleOf flagOf afterOffer afterHandOver afterEndRead afterClear requestOf intrOf clearedPort renewed pinSet commanded begunRead endedRead storedBy latchWritten written fallen edged levelledLines levelled readPort readLines readOf drivesPort pinsOfPort pinsOfLines pinsOf numberOf stepOf
 ack-shows = (refl, refl)

@@ -1,4 +1,4 @@
--- Demand 3: the promises of specs/Promise.antt and specs/Discipline.antt, from any chip and from power-up.
+-- Demand 3: the promises of specs/Promise.antt and specs/Discipline.antt, from any chip and from every power-up.
 -- Rests on Ordered, Counted, SameByte, ReadsRun and Discipline.
 use mathlib.Core.Path.{_≡_, refl}
 use mathlib.Core.Bool.{Bool, true, false}
@@ -12,7 +12,8 @@ use Rattle.channel.specs.declared.Side.{Side}
 use Rattle.channel.specs.declared.Side.the-variants.{Input, Output}
 use Rattle.channel.specs.Channel.{isWaiting}
 use Rattle.chip.specs.declared.Chip.{Chip}
-use Rattle.chip.specs.State.{noTally, powerUp, channelOf, tallyOf}
+use Rattle.chip.specs.declared.Levels.{Levels}
+use Rattle.chip.specs.State.{noTally, powerUpWith, channelOf, tallyOf}
 use Rattle.laws.specs.History.{Event}
 use Rattle.fates.specs.Around.{atPowerUp}
 use Rattle.fates.specs.Deeds.{strobes, deeds}
@@ -52,18 +53,18 @@ fates-from g s c small es =
 none-counted : SixteenBits noTally
 none-counted = record { offered = omega arith; handed = omega arith; overwritten = omega arith; swallowed = omega arith; cleared = omega arith }
 
--- From power-up, where no byte waits and nothing has been counted.
-pub fates : (g : Group) (s : Side) (es : List Event) → Fates g s powerUp es noTally (bytesOf g s es) (bytesOf g s es)
-fates A Input es = fates-from A Input powerUp none-counted es
-fates A Output es = fates-from A Output powerUp none-counted es
-fates B Input es = fates-from B Input powerUp none-counted es
-fates B Output es = fates-from B Output powerUp none-counted es
+-- From power-up, whatever the levels: no byte waits there and nothing has been counted.
+pub fates : (g : Group) (s : Side) (l : Levels) (es : List Event) → Fates g s (powerUpWith l) es noTally (bytesOf g s l es) (bytesOf g s l es)
+fates A Input l es = fates-from A Input (powerUpWith l) none-counted es
+fates A Output l es = fates-from A Output (powerUpWith l) none-counted es
+fates B Input l es = fates-from B Input (powerUpWith l) none-counted es
+fates B Output l es = fates-from B Output (powerUpWith l) none-counted es
 
 -- No read runs at power-up.
-pub no-read : (g : Group) → HasFound g powerUp
-no-read g runs = absurd (refused (strobes 0x9b g Input) runs)
+pub no-read : (g : Group) (l : Levels) → HasFound g (powerUpWith l)
+no-read g l runs = absurd (refused (strobes 0x9b g Input) runs)
 
 -- The discipline, from power-up.
-pub disciplined : (g : Group) (es : List Event) → Disciplined g atPowerUp powerUp es → NoneLost (bytesOf g Input es)
-disciplined A es kept = disciplined-from A powerUp (no-read A) es kept
-disciplined B es kept = disciplined-from B powerUp (no-read B) es kept
+pub disciplined : (g : Group) (l : Levels) (es : List Event) → Disciplined g (atPowerUp l) (powerUpWith l) es → NoneLost (bytesOf g Input l es)
+disciplined A l es kept = disciplined-from A (powerUpWith l) (no-read A l) es kept
+disciplined B l es kept = disciplined-from B (powerUpWith l) (no-read B l) es kept

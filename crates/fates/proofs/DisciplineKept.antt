@@ -10,7 +10,7 @@ use Rattle.control.specs.Word.{controlOf}
 use Rattle.roles.specs.Role.{usesOf, freeRole, roleOf}
 use Rattle.channel.specs.Channel.{flagOf}
 use Rattle.channel.specs.Moves.{afterOffer, afterHandOver, afterEndRead, afterClear}
-use Rattle.chip.specs.State.{powerUp}
+use Rattle.chip.specs.State.{allHigh, powerUpWith}
 use Rattle.status.specs.Status.{requestOf, intrOf}
 use Rattle.settings.specs.Renewed.{clearedPort, renewed}
 use Rattle.settings.specs.Commanded.{pinSet, commanded}
@@ -25,11 +25,11 @@ use Rattle.fates.specs.Around.{atPowerUp}
 use Rattle.fates.specs.Examples.{lostBale, twoDigits}
 use Rattle.fates.specs.Discipline.{Disciplined}
 
-pub two-digits-disciplined : Disciplined A atPowerUp powerUp twoDigits
+pub two-digits-disciplined : Disciplined A (atPowerUp allHigh) (powerUpWith allHigh) twoDigits
 unfolding bitOf valueOf withBit modeOf inputOf upperInput lowerInput strobedInput strobedOutput outputOf controlOf usesOf freeRole roleOf flagOf afterOffer afterHandOver afterEndRead afterClear requestOf intrOf clearedPort renewed pinSet commanded begunRead endedRead storedBy latchWritten written fallen edged levelledLines levelled readPort readLines readOf drivesPort pinsOfPort pinsOfLines pinsOf numberOf stepOf
 two-digits-disciplined = (tt, (tt, (tt, (refl, (tt, (refl, (tt, (tt, (refl, (tt, (refl, (tt, tt))))))))))))
 
 -- The second digit of the lost bale comes while IBF is high.
-pub lost-bale-undisciplined : ¬ Disciplined A atPowerUp powerUp lostBale
+pub lost-bale-undisciplined : ¬ Disciplined A (atPowerUp allHigh) (powerUpWith allHigh) lostBale
 unfolding bitOf valueOf withBit modeOf inputOf upperInput lowerInput strobedInput strobedOutput outputOf controlOf usesOf freeRole roleOf flagOf afterOffer afterHandOver afterEndRead afterClear requestOf intrOf clearedPort renewed pinSet commanded begunRead endedRead storedBy latchWritten written fallen edged levelledLines levelled readPort readLines readOf drivesPort pinsOfPort pinsOfLines pinsOf numberOf stepOf
 lost-bale-undisciplined kept = subst T (kept .1 .1 .1 .1 .1 .1 .1 .0) tt

@@ -13,6 +13,7 @@ pub mod SameByte
 pub mod ReadsRun
 pub mod Discipline
 pub mod Demand
+pub mod OnlyFalls
 pub mod ScriptRun
 pub mod Examples
 pub mod Answered

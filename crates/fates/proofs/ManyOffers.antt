@@ -8,7 +8,7 @@ use Rattle.bits.specs.Bit.{bitOf}
 use Rattle.control.specs.declared.Group.the-variants.{A}
 use Rattle.channel.specs.declared.Side.the-variants.{Input}
 use Rattle.chip.specs.declared.Phase.the-variants.{Idle}
-use Rattle.chip.specs.State.{powerUp, tallyOf}
+use Rattle.chip.specs.State.{allHigh, powerUpWith, tallyOf}
 use Rattle.laws.specs.History.{strobe}
 use Rattle.fates.specs.Around.{Around}
 use Rattle.fates.specs.Deeds.{deeds}
@@ -26,9 +26,9 @@ unfolding bitOf
 offers-of zero v k x = refl
 offers-of (suc n) v k x = ap suc (offers-of n v (suc (suc (suc k))) v)
 
-pub many-offers : (n v : ℕ) → tallyOf (run powerUp (strobedTimes n v)) A Input .offered ≡ n % 65536
+pub many-offers : (n v : ℕ) → tallyOf (run (powerUpWith allHigh) (strobedTimes n v)) A Input .offered ≡ n % 65536
 unfolding bitOf
-many-offers n v = fates A Input (strobedTimes n v) .tallyOffered ∙ ap (λ k. k % 65536) (zero-add _ ∙ offers-of n v 3 0xff)
+many-offers n v = fates A Input allHigh (strobedTimes n v) .tallyOffered ∙ ap (λ k. k % 65536) (zero-add _ ∙ offers-of n v 3 0xff)
 
-pub seventy-thousand : tallyOf (run powerUp (strobedTimes 70000 0x41)) A Input .offered ≡ 4464
+pub seventy-thousand : tallyOf (run (powerUpWith allHigh) (strobedTimes 70000 0x41)) A Input .offered ≡ 4464
 seventy-thousand = many-offers 70000 0x41

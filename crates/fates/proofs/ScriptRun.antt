@@ -5,7 +5,7 @@ use mathlib.Core.List.{List, [], _∷_, _++_, map}
 use Prim.Native.Nat.{ℕ}
 use native.Mathlib.Omega.{arith}
 use Rattle.chip.specs.declared.Chip.{Chip}
-use Rattle.chip.specs.State.{powerUp}
+use Rattle.chip.specs.State.{allHigh, powerUpWith}
 use Rattle.step.specs.Numbers.{numberOf}
 use Rattle.step.proofs.Outcome.{step-refuses}
 use Rattle.frames.specs.declared.Frame.{Frame}
@@ -32,7 +32,7 @@ answers-are c (l ∷ ls) =
 
 pub run-kept : (text : List ℕ) → RunKept text
 run-kept text = record {
-  answers = answers-are powerUp (linesOf text);
-  fates = λ g s. fates g s (historyOf text);
-  noneLost = λ g. disciplined g (historyOf text);
+  answers = answers-are (powerUpWith allHigh) (linesOf text);
+  fates = λ g s. fates g s allHigh (historyOf text);
+  noneLost = λ g. disciplined g allHigh (historyOf text);
 }

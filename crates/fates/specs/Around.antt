@@ -5,6 +5,7 @@ use lib.Dec.{eqb}
 use Rattle.bits.specs.Bit.{bitOf}
 use Rattle.chip.specs.declared.Phase.{Phase}
 use Rattle.chip.specs.declared.Phase.the-variants.{Idle, Reading, Writing}
+use Rattle.chip.specs.declared.Levels.{Levels}
 use Rattle.laws.specs.History.{Event}
 use Rattle.fates.specs.Kinds.{Named, reset, readEnded, writeEnded, unknown, readBegun, writeBegun, newLevels, named, accepts}
 
@@ -16,9 +17,9 @@ pub record Around : Type 0 where
   pub levelsB : ℕ
   pub levelsC : ℕ
 
--- At power-up the bus is idle, the mode word is 9B and every line is high.
-abbrev pub atPowerUp : Around
-atPowerUp = record { phase = Idle; word = 0x9b; levelsA = 0xff; levelsB = 0xff; levelsC = 0xff }
+-- At power-up the bus is idle, the mode word is 9B, and the lines are as they were named.
+abbrev pub atPowerUp : Levels → Around
+atPowerUp l = record { phase = Idle; word = 0x9b; levelsA = l .a; levelsB = l .b; levelsC = l .c }
 
 -- The write that runs is of a mode word: to control, with bit 7 set ("Mode words").
 abbrev pub ofModeWord : Phase → Bool

@@ -7,6 +7,7 @@ use lib.Dec.{eqb}
 use Rattle.bits.specs.Bit.{num}
 use Rattle.control.specs.declared.Group.{Group}
 use Rattle.channel.specs.declared.Side.{Side}
+use Rattle.chip.specs.declared.Levels.{Levels}
 use Rattle.laws.specs.History.{Event}
 use Rattle.fates.specs.Around.{atPowerUp}
 use Rattle.fates.specs.Deeds.{Deed, offered, taken, ended, clearedAway, nothing, deeds}
@@ -61,9 +62,9 @@ bytes n (ended ∷ later) = bytes (suc n) later
 bytes n (clearedAway ∷ later) = bytes (suc n) later
 bytes n (nothing ∷ later) = bytes (suc n) later
 
--- The bytes offered to a channel in a history from power-up.
-abbrev pub bytesOf : Group → Side → List Event → List Byte
-bytesOf g s es = bytes 1 (deeds g s atPowerUp es)
+-- The bytes offered to a channel in a history from a power-up under these levels.
+abbrev pub bytesOf : Group → Side → Levels → List Event → List Byte
+bytesOf g s l es = bytes 1 (deeds g s (atPowerUp l) es)
 
 -- Fates are told apart by their order above.
 abbrev pub rank : Fate → ℕ

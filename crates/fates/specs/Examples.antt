@@ -6,25 +6,28 @@ use Rattle.control.specs.declared.Group.the-variants.{A, B}
 use Rattle.channel.specs.declared.Side.{Side}
 use Rattle.channel.specs.declared.Side.the-variants.{Input, Output}
 use Rattle.channel.specs.declared.Tally.{Tally}
+use Rattle.chip.specs.declared.Levels.{Levels}
+use Rattle.chip.specs.State.{allLow, allHigh}
 use Rattle.ports.specs.declared.Pins.{Pins}
 use Rattle.laws.specs.History.{Event, event, write, levels, beginRead, endRead, strobe}
 use Rattle.laws.specs.Marked.{P13}
 use Rattle.fates.specs.Bytes.{Fate, handedOver, overwritten, swallowed, cleared, waiting, Byte, offeredAt, decidedAt, bytesOf}
 
--- A history, one of the four channels, and the bytes that it is said to have had.
+-- The levels at power-up, a history, one of the four channels, and the bytes that it is said to have had.
 pub record Example : Type 0 where
+  pub start : Levels
   pub history : List Event
   pub group : Group
   pub side : Side
   pub said : List Byte
 
 -- It, in that order.
-abbrev pub example : List Event → Group → Side → List Byte → Example
-example es g s bs = record { history = es; group = g; side = s; said = bs }
+abbrev pub example : Levels → List Event → Group → Side → List Byte → Example
+example l es g s bs = record { start = l; history = es; group = g; side = s; said = bs }
 
 -- What the definitions make of it.
 abbrev pub bytesIn : Example → List Byte
-bytesIn x = bytesOf (x .group) (x .side) (x .history)
+bytesIn x = bytesOf (x .group) (x .side) (x .start) (x .history)
 
 -- The byte v, offered at place n and decided at place m.
 infixl 70 _at_is_at_
@@ -64,19 +67,25 @@ plain = write 3 0x9b ++ strobe 0x41 ++ beginRead 0 ++ endRead
 abbrev pub notForIt : List Event
 notForIt = write 3 0x96 ++ levels 1 0x41 ++ levels 2 0xfb ++ beginRead 0 ++ beginRead 1 ++ endRead ++ beginRead 3 ++ (event 9 1 0 ∷ [])
 
--- Each of the five fates, each side, both groups, mode 2, and a port without a handshake, which has no bytes.
+-- A scale on a backplane that pulls its lines down: STB is low from the start, and stays so at the fourth event. The digit comes in when
+-- STB, once raised, falls.
+abbrev pub raisedFirst : List Event
+raisedFirst = write 3 0xb0 ++ levels 0 0x41 ++ levels 2 0xef ++ levels 2 0xff ++ levels 2 0xef ++ beginRead 0
+
+-- Each of the five fates, each side, both groups, mode 2, a port without a handshake, which has no bytes, and lines that start low.
 abbrev pub examples : List Example
 examples =
-    example lostBale A Input (0x41 at 4 is handedOver at 6 ∷ 0x42 at 8 is swallowed at 10 ∷ [])
-    ∷ example twoDigits A Input (0x41 at 4 is handedOver at 6 ∷ 0x42 at 9 is handedOver at 11 ∷ [])
-    ∷ example P13 A Input (0x41 at 4 is overwritten at 7 ∷ 0x42 at 7 is waiting at 9 ∷ [])
-    ∷ example (P13 ++ beginRead 0) A Input (0x41 at 4 is overwritten at 7 ∷ 0x42 at 7 is handedOver at 9 ∷ [])
-    ∷ example bothWays A Input (0x41 at 4 is handedOver at 6 ∷ [])
-    ∷ example bothWays A Output (0x55 at 9 is handedOver at 10 ∷ [])
-    ∷ example sameWordAgain A Input (0x41 at 4 is cleared at 7 ∷ [])
-    ∷ example printer B Output (0x33 at 4 is overwritten at 6 ∷ 0x34 at 6 is handedOver at 7 ∷ 0x35 at 9 is cleared at 10 ∷ [])
-    ∷ example plain A Input []
-    ∷ example notForIt B Input (0x41 at 4 is waiting at 10 ∷ [])
+    example allHigh lostBale A Input (0x41 at 4 is handedOver at 6 ∷ 0x42 at 8 is swallowed at 10 ∷ [])
+    ∷ example allHigh twoDigits A Input (0x41 at 4 is handedOver at 6 ∷ 0x42 at 9 is handedOver at 11 ∷ [])
+    ∷ example allHigh P13 A Input (0x41 at 4 is overwritten at 7 ∷ 0x42 at 7 is waiting at 9 ∷ [])
+    ∷ example allHigh (P13 ++ beginRead 0) A Input (0x41 at 4 is overwritten at 7 ∷ 0x42 at 7 is handedOver at 9 ∷ [])
+    ∷ example allHigh bothWays A Input (0x41 at 4 is handedOver at 6 ∷ [])
+    ∷ example allHigh bothWays A Output (0x55 at 9 is handedOver at 10 ∷ [])
+    ∷ example allHigh sameWordAgain A Input (0x41 at 4 is cleared at 7 ∷ [])
+    ∷ example allHigh printer B Output (0x33 at 4 is overwritten at 6 ∷ 0x34 at 6 is handedOver at 7 ∷ 0x35 at 9 is cleared at 10 ∷ [])
+    ∷ example allHigh plain A Input []
+    ∷ example allHigh notForIt B Input (0x41 at 4 is waiting at 10 ∷ [])
+    ∷ example allLow raisedFirst A Input (0x41 at 6 is handedOver at 7 ∷ [])
     ∷ []
 
 -- The same events n times over.

@@ -2,6 +2,7 @@ pub mod Kinds
 pub mod Around
 pub mod Deeds
 pub mod Bytes
+pub mod Raised
 pub mod Promise
 pub mod Discipline
 pub mod ScriptRun

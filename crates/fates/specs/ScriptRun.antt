@@ -6,7 +6,7 @@ use Rattle.control.specs.declared.Group.{Group}
 use Rattle.channel.specs.declared.Side.{Side}
 use Rattle.channel.specs.declared.Side.the-variants.{Input}
 use Rattle.chip.specs.declared.Chip.{Chip}
-use Rattle.chip.specs.State.{noTally, powerUp}
+use Rattle.chip.specs.State.{noTally, allHigh, powerUpWith}
 use Rattle.frames.specs.declared.Frame.{Frame}
 use Rattle.frames.specs.declared.Frame.the-variants.{Event as Frame·Event, NoFrame}
 use Rattle.script.specs.Lines.{Line, linesOf}
@@ -31,10 +31,12 @@ abbrev pub answersTo : Chip → List Event → List ℕ
 answersTo c [] = []
 answersTo c (e ∷ es) = lineText (shownAfter (stepped c e)) ++ answersTo (stepped c e .chip) es
 
--- What is promised of a text: its answers are those of its history from power-up; every byte of that history has its fate on each of
--- the four channels; and where scale and program mind IBF no input byte is lost.
+-- What is promised of a text: its answers are those of its history from a power-up with every line high; every byte of that history has
+-- its fate on each of the four channels; and where scale and program mind IBF no input byte is lost.
 pub record RunKept (text : List ℕ) : Type 0 where
-  pub answers : answersOf text ≡ answersTo powerUp (historyOf text)
+  pub answers : answersOf text ≡ answersTo (powerUpWith allHigh) (historyOf text)
   pub fates : (g : Group) (s : Side)
-      → Fates g s powerUp (historyOf text) noTally (bytesOf g s (historyOf text)) (bytesOf g s (historyOf text))
-  pub noneLost : (g : Group) → Disciplined g atPowerUp powerUp (historyOf text) → NoneLost (bytesOf g Input (historyOf text))
+      → Fates g s (powerUpWith allHigh) (historyOf text) noTally (bytesOf g s allHigh (historyOf text)) (bytesOf g s allHigh (historyOf text))
+  pub noneLost : (g : Group)
+      → Disciplined g (atPowerUp allHigh) (powerUpWith allHigh) (historyOf text)
+      → NoneLost (bytesOf g Input allHigh (historyOf text))

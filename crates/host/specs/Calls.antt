@@ -10,7 +10,7 @@ use Rattle.control.specs.declared.Group.the-variants.{A, B}
 use Rattle.channel.specs.declared.Side.{Side}
 use Rattle.channel.specs.declared.Side.the-variants.{Input, Output}
 use Rattle.channel.specs.declared.Tally.{Tally}
-use Rattle.chip.specs.State.{powerUp, tallyOf}
+use Rattle.chip.specs.State.{levelsBy, powerUpWith, powerUp, tallyOf}
 use Rattle.ports.specs.declared.Pins.{Pins}
 use Rattle.ports.specs.Pins.{pinsOf}
 use Rattle.step.specs.declared.Stepped.{Stepped}
@@ -36,9 +36,13 @@ orNone none answer = cond none 2 answer
 abbrev pub powerUpAnswer : List ℕ → ℕ
 powerUpAnswer l = cond (eqb (length l) 64) 0 8
 
--- What it writes: the chip at power-up.
+-- What it writes where no levels are named,
 abbrev pub powerUpImage : List ℕ → List ℕ
 powerUpImage l = savedIn l powerUp
+
+-- and where those of ports A, B and C are.
+abbrev pub powerUpImageWith : List ℕ → ℕ → ℕ → ℕ → List ℕ
+powerUpImageWith l a b c = savedIn l (powerUpWith (levelsBy a b c))
 
 -- The step of the state that the image tells.
 abbrev pub stepOn : List ℕ → ℕ → ℕ → ℕ → Stepped

@@ -2,9 +2,12 @@
 // refusal in its lowest byte, and what is given above it.
 ghost use mathlib.Core.Path.{_≡_};
 ghost use Prim.Native.Nat.{_*_};
-ghost use Rattle.host.specs.Calls.{packed, powerUpAnswer, powerUpImage, stepAnswer, stepImage, pinsGiven, pinsAnswer, groupNumbered, sideNumbered, counterNumbered, tallyAnswer};
+ghost use Rattle.image.specs.Slices.{savedIn};
+ghost use Rattle.host.specs.Calls.{packed, powerUpAnswer, powerUpImage, powerUpImageWith, stepAnswer, stepImage, pinsGiven, pinsAnswer, groupNumbered, sideNumbered, counterNumbered, tallyAnswer};
 use channel::Side;
 use channel::Tally;
+use chip::Chip;
+use chip::Levels;
 use control::Group;
 use ports::Pins;
 
@@ -26,17 +29,35 @@ fn packed(number: u8, low: u8, high: u8) -> u32
     (number as u32) + 256 * (low as u32) + 65536 * (high as u32)
 }
 
-// The chip at power-up, whatever stood there.
-pub fn power_up(image: &mut [u8]) -> u32
+// A new image, whatever stood there.
+fn start(image: &mut [u8], chip: Chip) -> u32
     ensures { λ r. ⌜ r ≡ powerUpAnswer (now (image .entry)) ⌝ }
-    ensures { λ _. ⌜ now (image .exit) ≡ powerUpImage (now (image .entry)) ⌝ }
+    ensures { λ _. ⌜ now (image .exit) ≡ savedIn (now (image .entry)) chip ⌝ }
 {
     if image.len() != LENGTH {
         return BAD_IMAGE;
     }
-    let chip = chip::power_up();
     image::save(image, chip);
     0
+}
+
+// The chip at power-up, under the default levels.
+pub fn power_up(image: &mut [u8]) -> u32
+    ensures { λ r. ⌜ r ≡ powerUpAnswer (now (image .entry)) ⌝ }
+    ensures { λ _. ⌜ now (image .exit) ≡ powerUpImage (now (image .entry)) ⌝ }
+{
+    let chip = chip::power_up();
+    start(image, chip)
+}
+
+// The chip at power-up, under levels that the host names for ports A, B and C.
+pub fn power_up_with_levels(image: &mut [u8], a: u8, b: u8, c: u8) -> u32
+    ensures { λ r. ⌜ r ≡ powerUpAnswer (now (image .entry)) ⌝ }
+    ensures { λ _. ⌜ now (image .exit) ≡ powerUpImageWith (now (image .entry)) a b c ⌝ }
+{
+    let levels = Levels { a, b, c };
+    let chip = chip::power_up_with_levels(levels);
+    start(image, chip)
 }
 
 // One event, with its number and the byte of an accepted read.

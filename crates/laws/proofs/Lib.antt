@@ -5,6 +5,8 @@ pub mod FlagAfter
 pub mod InputFlag
 pub mod OutputFlag
 pub mod ModeWords
+pub mod Falls
+pub mod PowerUp
 pub mod OwnPort
 pub mod ModeZero
 pub mod ModeTwo

@@ -1,9 +1,10 @@
--- The marked cases P1 to P13, as one table: a history from power-up, what is asked after it, and the results ("Marked cases").
+-- The marked cases P1 to P13, as one table: a history from a power-up with every line high, what is asked after it, and the
+-- results ("Marked cases").
 use mathlib.Core.List.{List, [], _∷_, _++_}
 use Prim.Native.Nat.{ℕ}
 use Rattle.control.specs.declared.Group.the-variants.{A}
 use Rattle.channel.specs.declared.Side.the-variants.{Input}
-use Rattle.chip.specs.State.{powerUp, tallyOf}
+use Rattle.chip.specs.State.{allHigh, powerUpWith, tallyOf}
 use Rattle.ports.specs.Reads.{readOf}
 use Rattle.ports.specs.Pins.{pinsOf}
 use Rattle.step.specs.declared.Stepped.{Stepped}
@@ -20,6 +21,7 @@ pub data Asked : Type 0 where
   pins driven : ℕ → Asked
   readC byte offered overwritten : Asked
 
+-- What is answered.
 abbrev pub answer : Stepped → Asked → ℕ
 answer s (pins p) = pinsOf (s .chip) p .levels
 answer s (driven p) = pinsOf (s .chip) p .driven
@@ -28,22 +30,27 @@ answer s byte = s .byte
 answer s offered = tallyOf (s .chip) A Input .offered
 answer s overwritten = tallyOf (s .chip) A Input .overwritten
 
+-- A case: a history, what is asked after it, and what the rules say that the results are.
 pub record Case : Type 0 where
   pub history : List Event
   pub asked : List Asked
   pub results : List ℕ
 
+-- The answers to several questions, in their order.
 abbrev pub answers : Stepped → List Asked → List ℕ
 answers s [] = []
 answers s (q ∷ later) = answer s q ∷ answers s later
 
+-- What the model gives: each case begins at a power-up with every line high.
 abbrev pub given : Case → List ℕ
-given c = answers (after (accepted powerUp 0) (c .history)) (c .asked)
+given c = answers (after (accepted (powerUpWith allHigh) 0) (c .history)) (c .asked)
 
+-- A case, written in one line.
 infixl 60 _asks_gives_
 abbrev pub _asks_gives_ : List Event → List Asked → List ℕ → Case
 h asks q gives r = record { history = h; asked = q; results = r }
 
+-- The histories on which others build, by their numbers in the rules.
 abbrev pub P2 : List Event
 P2 = write 3 0xb0
 
@@ -68,6 +75,7 @@ P9 = P8 ++ write 0 0x55
 abbrev pub P13 : List Event
 P13 = write 3 0xb0 ++ strobe 0x41 ++ strobe 0x42
 
+-- All of them, in the order of the rules.
 abbrev pub cases : List Case
 cases =
     ([] asks (pins 0 ∷ pins 1 ∷ pins 2 ∷ driven 0 ∷ driven 1 ∷ driven 2 ∷ []) gives (0xff ∷ 0xff ∷ 0xff ∷ 0 ∷ 0 ∷ 0 ∷ []))

@@ -1,16 +1,19 @@
--- Demand 3 from a chip that a host restores from an image.
+-- Demand 3 from a chip that a host restores from an image; and what the host holds after a power-up.
 -- Rests on Stays, on image's ComesBack, OneImage and SameBytes, on host's HostStep, and on fates' Demand, Discipline and Followed.
 use mathlib.Core.Path.{_≡_, refl, sym, subst}
 use mathlib.Core.Bool.{true}
 use mathlib.Core.List.{List, [], _∷_}
 use Prim.Native.Nat.{ℕ, _+_, _*_, _<_}
 use native.Mathlib.Omega.{arith}
+use lib.ListN.{length}
+use borrow.Author.Tests.{eq-eqb}
 use Rattle.control.specs.declared.Group.{Group}
 use Rattle.control.specs.declared.Group.the-variants.{A, B}
 use Rattle.channel.specs.declared.Side.{Side}
 use Rattle.channel.specs.declared.Side.the-variants.{Input, Output}
 use Rattle.chip.specs.declared.Chip.{Chip}
-use Rattle.chip.specs.State.{powerUp, tallyOf}
+use Rattle.chip.specs.declared.Levels.{Levels}
+use Rattle.chip.specs.State.{powerUpWith, tallyOf}
 use Rattle.laws.specs.History.{Event}
 use Rattle.fates.specs.Promise.{run, aroundOf, SixteenBits}
 use Rattle.fates.specs.Discipline.{HasFound, Disciplined}
@@ -21,13 +24,14 @@ use Rattle.fates.proofs.Demand.{fates-from, no-read}
 use Rattle.image.specs.Layout.{imageOf}
 use Rattle.image.specs.Restored.{byteAt, tallyAt, stateOf}
 use Rattle.image.specs.Good.{hasImage, isImage, Bytes}
+use Rattle.image.specs.Slices.{savedIn}
 use Rattle.host.specs.Calls.{stepImage}
 use Rattle.image.proofs.ComesBack.{comes-back}
 use Rattle.image.proofs.SameBytes.{small}
 use Rattle.image.proofs.OneImage.{has-image, tells-such}
 use Rattle.host.proofs.HostStep.{by-number}
-use Rattle.restored.specs.Host.{hostRun, Restored, StillNoneLost}
-use Rattle.restored.proofs.Stays.{image-stays}
+use Rattle.restored.specs.Host.{hostRun, Restored, PoweredUp, StillNoneLost}
+use Rattle.restored.proofs.Stays.{image-stays, power-up-has}
 
 -- The host holds the image of a chip that has one.
 record Holds (l : List ℕ) (c : Chip) : Type 0 where
@@ -78,6 +82,19 @@ restored l bytes good es =
     let at-end = holds-run l (stateOf l) es (record { image = good; state = refl; has = tells-such l bytes good }) in
     record { image = at-end .image; state = at-end .state; fates = λ g s. fates-from g s (stateOf l) (sixteen-bits l bytes g s) es }
 
+-- In 64 bytes a chip's image takes the place of all that stood there.
+written-over : (l : List ℕ) (c : Chip) → length l ≡ 64 → savedIn l c ≡ imageOf c
+unfolding savedIn
+written-over l c long = rw (eq-eqb (length l) 64 long)
+
+-- From every power-up, in 64 bytes that held anything.
+pub powered-up : (l : List ℕ) (v : Levels) (es : List Event) → length l ≡ 64 → PoweredUp l v es
+powered-up l v es long =
+    let c = powerUpWith v in
+    let new : Holds (imageOf c) c = record { image = has-image c (power-up-has v); state = comes-back c; has = power-up-has v } in
+    let at-end = holds-run (savedIn l c) c es (subst (λ (b : List ℕ). Holds b c) (sym (written-over l c long)) new) in
+    record { image = at-end .image; state = at-end .state }
+
 -- In a run that keeps to the discipline, a read of the strobed port has always found a byte.
 has-found : (g : Group) (c : Chip) (es : List Event) → HasFound g c → Disciplined g (aroundOf c) c es → HasFound g (run c es)
 has-found g c [] found kept = found
@@ -85,8 +102,8 @@ has-found g c (e ∷ es) found kept =
     has-found g (after c e) es (found-next g c e found (kept .0)) (rw (around-next c e) (kept .1))
 
 -- From an image saved in such a run.
-pub still-none-lost : (g : Group) (before es : List Event) → StillNoneLost g before es
-still-none-lost g before es kept-before kept =
-    let c = run powerUp before in
+pub still-none-lost : (g : Group) (l : Levels) (before es : List Event) → StillNoneLost g l before es
+still-none-lost g l before es kept-before kept =
+    let c = run (powerUpWith l) before in
     disciplined-from g (stateOf (imageOf c))
-    (subst (HasFound g) (sym (comes-back c)) (has-found g powerUp before (no-read g) kept-before)) es kept
+    (subst (HasFound g) (sym (comes-back c)) (has-found g (powerUpWith l) before (no-read g l) kept-before)) es kept

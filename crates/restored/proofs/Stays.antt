@@ -1,4 +1,4 @@
--- The step takes states with an image to states with an image, and so does every history; the chip at power-up has one.
+-- The step takes states with an image to states with an image, and so does every history; the chip at every power-up has one.
 -- Rests on Conditions, and on fates' Story, Tables, Surroundings, SameByte and Followed.
 use mathlib.Core.Path.{_≡_, refl, sym, subst}
 use mathlib.Core.Bool.{Bool, true, false, cond, _&&_, and-eq-true-iff}
@@ -14,12 +14,13 @@ use Rattle.channel.specs.declared.Fill.the-variants.{Empty, Waiting, Fetching}
 use Rattle.chip.specs.declared.Phase.{Phase}
 use Rattle.chip.specs.declared.Phase.the-variants.{Idle, Reading, Writing}
 use Rattle.chip.specs.declared.Chip.{Chip}
-use Rattle.chip.specs.State.{powerUp}
+use Rattle.chip.specs.declared.Levels.{Levels}
+use Rattle.chip.specs.State.{powerUpWith}
 use Rattle.laws.specs.History.{Event}
 use Rattle.fates.specs.Kinds.{Named, reset, readEnded, writeEnded, unknown, readBegun, writeBegun, newLevels, free, accepts}
 use Rattle.fates.specs.Kinds.{named as byName}
 use Rattle.fates.specs.Around.{Around, ofModeWord, brought, phaseAfter, wordAfter, aroundAfter, aroundNext}
-use Rattle.fates.specs.Deeds.{Deed, offered, taken, ended, clearedAway, nothing, strobes, when, ownDeed, clears, deedOf, deed}
+use Rattle.fates.specs.Deeds.{Deed, offered, taken, ended, clearedAway, nothing, strobes, when, ownDeed, clears, deedOf}
 use Rattle.fates.specs.Promise.{run, aroundOf}
 use Rattle.fates.proofs.Story.{fillAfter}
 use Rattle.fates.proofs.Tables.{strobes-same}
@@ -124,9 +125,9 @@ pub history-stays : (c : Chip) (es : List Event) → hasImage c ≡ true → has
 history-stays c [] has = has
 history-stays c (e ∷ es) has = history-stays (after c e) es (image-stays c e has)
 
-power-up-has : hasImage powerUp ≡ true
+pub power-up-has : (l : Levels) → hasImage (powerUpWith l) ≡ true
 unfolding hasImage bitOf
-power-up-has = refl
+power-up-has l = refl
 
-pub reached : (es : List Event) → hasImage (run powerUp es) ≡ true
-reached es = history-stays powerUp es power-up-has
+pub reached : (l : Levels) (es : List Event) → hasImage (run (powerUpWith l) es) ≡ true
+reached l es = history-stays (powerUpWith l) es (power-up-has l)

@@ -1,4 +1,4 @@
--- A host that keeps a chip as an image, and what is promised of a chip that it restores.
+-- A host that keeps a chip as an image, and what is promised of a chip that it restores or powers up.
 use mathlib.Core.Path.{_≡_}
 use mathlib.Core.Bool.{true}
 use mathlib.Core.List.{List, [], _∷_, _++_}
@@ -6,7 +6,8 @@ use Prim.Native.Nat.{ℕ}
 use Rattle.control.specs.declared.Group.{Group}
 use Rattle.channel.specs.declared.Side.{Side}
 use Rattle.channel.specs.declared.Side.the-variants.{Input}
-use Rattle.chip.specs.State.{powerUp, tallyOf}
+use Rattle.chip.specs.declared.Levels.{Levels}
+use Rattle.chip.specs.State.{powerUpWith, tallyOf}
 use Rattle.laws.specs.History.{Event}
 use Rattle.fates.specs.Around.{atPowerUp}
 use Rattle.fates.specs.Promise.{run, aroundOf, newBytes, oldByte, Fates}
@@ -14,7 +15,7 @@ use Rattle.fates.specs.Discipline.{Disciplined, NoneLost}
 use Rattle.image.specs.Layout.{imageOf}
 use Rattle.image.specs.Restored.{stateOf}
 use Rattle.image.specs.Good.{isImage}
-use Rattle.host.specs.Calls.{stepImage}
+use Rattle.host.specs.Calls.{powerUpImageWith, stepImage}
 
 -- The bytes that the host holds after the events of a history, each of which it passed to the call.
 abbrev pub hostRun : List ℕ → List Event → List ℕ
@@ -29,9 +30,16 @@ pub record Restored (l : List ℕ) (es : List Event) : Type 0 where
   pub fates : (g : Group) (s : Side)
       → Fates g s (stateOf l) es (tallyOf (stateOf l) g s) (newBytes g s (stateOf l) es) (oldByte g s (stateOf l) es ++ newBytes g s (stateOf l) es)
 
+-- What is promised of a host that powers its chip up, under any levels, in 64 bytes that held anything, and passes it any events: it
+-- always holds an image, that of the chip after these events, from that power-up.
+pub record PoweredUp (l : List ℕ) (v : Levels) (es : List Event) : Type 0 where
+  pub image : isImage (hostRun (powerUpImageWith l (v .a) (v .b) (v .c)) es) ≡ true
+  pub state : stateOf (hostRun (powerUpImageWith l (v .a) (v .b) (v .c)) es) ≡ run (powerUpWith v) es
+
 -- Demand 3's last sentence for an image that was saved from a run which kept to the discipline: where what follows keeps to it too, no
 -- input byte is overwritten or swallowed, the one that waited in the image among them.
-abbrev pub StillNoneLost : Group → List Event → List Event → Type 0
-StillNoneLost g before es =
-    let c = stateOf (imageOf (run powerUp before)) in
-    Disciplined g atPowerUp powerUp before → Disciplined g (aroundOf c) c es → NoneLost (oldByte g Input c es ++ newBytes g Input c es)
+abbrev pub StillNoneLost : Group → Levels → List Event → List Event → Type 0
+StillNoneLost g l before es =
+    let c = stateOf (imageOf (run (powerUpWith l) before)) in
+    Disciplined g (atPowerUp l) (powerUpWith l) before → Disciplined g (aroundOf c) c es
+    → NoneLost (oldByte g Input c es ++ newBytes g Input c es)

@@ -8,11 +8,10 @@ use native.Mathlib.Omega.{arith}
 use lib.ListN.{length, take, drop, length-drop, take-append-drop}
 use borrow.Rule.Slice.PartAt.{part-to-end}
 use Rattle.chip.specs.declared.Chip.{Chip}
-use Rattle.chip.specs.State.{powerUp}
 use Rattle.step.specs.declared.Stepped.{Stepped}
 use Rattle.script.specs.declared.Shown.{Shown}
 use Rattle.script.specs.Lines.{Line, linesOf}
-use Rattle.script.specs.Answers.{atLine, shownAfter, lineText, answersFrom}
+use Rattle.script.specs.Answers.{atLine, shownAfter, lineText, answersFrom, chipAtStart}
 use Rattle.script.specs.Run.{lineCount, filled}
 use Rattle.script.proofs.Filling.{back, back-front, back-behind, back-length}
 
@@ -43,7 +42,7 @@ pub record UnderWay (text first out : List ℕ) (ls : List Line) (c : Chip) (at 
   pub room : at + 11 * length ls ≤ length out
   pub comes : toCome c ls at out ≡ filled text first
 
-pub starts : (text out : List ℕ) → 11 * lineCount text ≤ length out → UnderWay text out out (linesOf text) powerUp 0
+pub starts : (text out : List ℕ) → 11 * lineCount text ≤ length out → UnderWay text out out (linesOf text) chipAtStart 0
 starts text out room = record {
   long = refl;
   room = omega (arith, room);

@@ -10,9 +10,8 @@ use lib.Dec.{eqb}
 use lib.ListN.{length, take, length-append}
 use lib.Seq.{take-at}
 use Rattle.chip.specs.declared.Chip.{Chip}
-use Rattle.chip.specs.State.{powerUp}
 use Rattle.script.specs.Lines.{lf, Line, ended, beforeLines, linesOf}
-use Rattle.script.specs.Answers.{atLine, shownAfter, lineText, answersFrom, answersOf}
+use Rattle.script.specs.Answers.{atLine, shownAfter, lineText, answersFrom, chipAtStart, answersOf}
 use Rattle.script.specs.Run.{lineCount}
 use Rattle.script.proofs.FirstLine.{a-line}
 use Rattle.script.proofs.Answering.{line-length}
@@ -26,7 +25,7 @@ eleven-each c (l ∷ ls) =
     ∙ rw (line-length (shownAfter (atLine c l)), eleven-each (atLine c l .chip) ls) (omega arith)
 
 pub eleven-bytes : (text : List ℕ) → length (answersOf text) ≡ 11 * lineCount text
-eleven-bytes text = eleven-each powerUp (linesOf text)
+eleven-bytes text = eleven-each chipAtStart (linesOf text)
 
 -- The chip that some lines leave.
 abbrev pub chipAfter : Chip → List Line → Chip
@@ -62,12 +61,12 @@ lines-append (b ∷ text) later = go (eqb b lf) (lines-append text later) (a-lin
 -- So it is answered as by itself, and what follows by the chip that it leaves.
 pub piecewise : (text later : List ℕ)
     → answersOf (text ++ lf ∷ later)
-    ≡ answersOf (text ++ lf ∷ []) ++ answersFrom (chipAfter powerUp (linesOf (text ++ lf ∷ []))) (linesOf later)
-piecewise text later = rw (lines-append text later) (answers-append powerUp (linesOf (text ++ lf ∷ [])) (linesOf later))
+    ≡ answersOf (text ++ lf ∷ []) ++ answersFrom (chipAfter chipAtStart (linesOf (text ++ lf ∷ []))) (linesOf later)
+piecewise text later = rw (lines-append text later) (answers-append chipAtStart (linesOf (text ++ lf ∷ [])) (linesOf later))
 
 pub prefixes-agree : (text later : List ℕ)
     → take (11 * lineCount (text ++ lf ∷ [])) (answersOf (text ++ lf ∷ later)) ≡ answersOf (text ++ lf ∷ [])
 prefixes-agree text later =
     rw (piecewise text later)
-    (take-at (answersOf (text ++ lf ∷ [])) (answersFrom (chipAfter powerUp (linesOf (text ++ lf ∷ []))) (linesOf later))
+    (take-at (answersOf (text ++ lf ∷ [])) (answersFrom (chipAfter chipAtStart (linesOf (text ++ lf ∷ []))) (linesOf later))
     (11 * lineCount (text ++ lf ∷ [])) (eleven-bytes (text ++ lf ∷ [])))

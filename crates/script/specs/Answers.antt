@@ -1,8 +1,8 @@
--- What a script is answered, line by line, by a chip at power-up ("Script and program").
+-- What a script is answered, line by line, by a chip just powered up ("Script and program").
 use mathlib.Core.List.{List, [], _∷_, _++_}
 use Prim.Native.Nat.{ℕ}
 use Rattle.chip.specs.declared.Chip.{Chip}
-use Rattle.chip.specs.State.{powerUp}
+use Rattle.chip.specs.State.{allHigh, powerUpWith}
 use Rattle.ports.specs.Pins.{pinsOf}
 use Rattle.step.specs.declared.Stepped.{Stepped}
 use Rattle.step.specs.Step.{refused, stepOf}
@@ -46,6 +46,10 @@ unfoldable pub answersFrom : Chip → List Line → List ℕ
 answersFrom c [] = []
 answersFrom c (l ∷ ls) = lineText (shownAfter (atLine c l)) ++ answersFrom (atLine c l .chip) ls
 
+-- A script meets a chip that was powered up with every line high.
+abbrev pub chipAtStart : Chip
+chipAtStart = powerUpWith allHigh
+
 -- The answers to a text.
 abbrev pub answersOf : List ℕ → List ℕ
-answersOf text = answersFrom powerUp (linesOf text)
+answersOf text = answersFrom chipAtStart (linesOf text)

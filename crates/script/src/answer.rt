@@ -1,10 +1,22 @@
-// What a line is answered: what the chip makes of it, and what is shown of that.
+// The chip that a script meets, what it makes of a line, and what is shown of that.
 ghost use mathlib.Core.Path.{_≡_};
-ghost use Rattle.script.specs.Answers.{acted, shownAfter};
+ghost use Rattle.script.specs.Answers.{chipAtStart, acted, shownAfter};
 use super::Shown;
 use chip::Chip;
+use chip::Levels;
 use frames::Frame;
 use step::Stepped;
+
+// The chip that a script meets. Scripts were written for lines that idle high, so the run names these levels.
+pub(super) fn chip_at_start() -> Chip
+    ensures { λ r. ⌜ r ≡ chipAtStart ⌝ }
+{
+    chip::power_up_with_levels(Levels {
+        a: 0xff,
+        b: 0xff,
+        c: 0xff,
+    })
+}
 
 // A frame is an event; what is no frame has the number 1, and leaves the chip as it was.
 pub(super) fn act(chip: Chip, frame: Frame) -> Stepped

@@ -1,4 +1,4 @@
-// The run of a script: a text of frames, one to a line, answered line by line by a chip that starts at power-up.
+// The run of a script: a text of frames, one to a line, answered line by line by a chip just powered up.
 ghost use mathlib.Core.Path.{_≡_};
 ghost use Prim.Native.Nat.{_*_, _≤_};
 ghost use lib.ListN.{length};
@@ -39,7 +39,7 @@ fn answer_all(text: &[u8], out: &mut [u8])
     ensures { λ _. ⌜ now (out .exit) ≡ filled (now (text .entry)) (now (out .entry)) ⌝ }
 {
     let mut rest = text;
-    let mut chip = chip::power_up();
+    let mut chip = answer::chip_at_start();
     let mut at = 0;
     while rest.len() > 0 {
         let length = lines::first(rest);

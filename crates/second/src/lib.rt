@@ -33,21 +33,26 @@ pub struct Answer {
     pub byte: u8,
 }
 
-pub fn power_up() -> Machine {
+pub fn power_up_with_levels(a: u8, b: u8, c: u8) -> Machine {
     Machine {
         phase: bus::IDLE,
         place: 0,
         data: 0,
         word: bus::POWER_UP_WORD,
-        outside_a: 255,
-        outside_b: 255,
-        outside_c: 255,
+        outside_a: a,
+        outside_b: b,
+        outside_c: c,
         latch: [0, 0, 0, 0],
         latch_c: 0,
         enable: 0,
         fill: [0, 0, 0, 0],
         tally: [0u16; 20],
     }
+}
+
+// Idle lines are pulled down.
+pub fn power_up() -> Machine {
+    power_up_with_levels(0, 0, 0)
 }
 
 // One event. Operands that the kind lacks are not looked at. A begun read is the only event that answers a byte, and the byte is that

@@ -1,24 +1,13 @@
--- `host::power_up` meets its contract, by the length.
-use native.Mathlib.Omega.{arith}
-use lib.ListN.{length}
+-- `host::power_up` meets its contract, by that of the chip's power-up.
 use borrow.Author.Needs.{needs}
-use borrow.Author.Tests.{eq-eqb, ne-eqb}
-use Rattle.image.specs.Slices.{savedIn}
 use Rattle.host.proofs.power_up.Statement.{statement}
 use Rattle.host.proofs.power_up.Tie as tie
 
 pub power-up-spec : {M : Type 1} → statement M
-unfolding savedIn
 power-up-spec = tie.close (tie.spec
-    (λ c.
-    let l = c .before .before .args .image .now in
-    let other = ne-eqb (length l) 64 (λ e. omega (arith, e, c .if1 .taken)) in
-    (rw (other), rw (other)))
     (λ c κs. tt)
     (λ c κs. tt)
     (λ c. search needs)
     (λ c.
-    let save = c .before .before in
-    let asked = save .before .before .before in
-    let long = eq-eqb (length (asked .before .before .args .image .now)) 64 (omega (arith, asked .if1 .left)) in
-    (rw (long), rw (save .save .ensures, save .before .before .power-up .ensures))))
+    let call = c .before .before in
+    (rw (call .start .ensures .0), rw (call .start .ensures .1, call .before .before .power-up .ensures))))

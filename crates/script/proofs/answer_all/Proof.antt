@@ -23,7 +23,7 @@ abbrev μ-loop : tie.MeasureT-loop
 μ-loop text out₀ rest₀ chip₀ at₀ out rest chip at = length rest
 
 loop-holds : tie.Need-loop-holds Inv-loop μ-loop
-loop-holds c = rw (c .power-up .ensures) (starts _ _ (search needs))
+loop-holds c = rw (c .chip-at-start .ensures) (starts _ _ (search needs))
 
 sub-write : tie.Need-sub-write Inv-loop μ-loop
 sub-write c = omega (arith, c .before .before .before .before .loop .inv .room)

@@ -6,10 +6,10 @@ use Rattle.compare.proofs.runs.all.Statement.{statement}
 use Rattle.compare.proofs.runs.all.Tie as tie
 
 abbrev Inv-loop : tie.InvT-loop
-Inv-loop arbitrary first histories counts₀ seed₀ counter₀ counts seed counter = counter ≤ histories
+Inv-loop start first histories counts₀ seed₀ counter₀ counts seed counter = counter ≤ histories
 
 abbrev μ-loop : tie.MeasureT-loop
-μ-loop arbitrary first histories counts₀ seed₀ counter₀ counts seed counter = histories - counter
+μ-loop start first histories counts₀ seed₀ counter₀ counts seed counter = histories - counter
 
 pub all-spec : {M : Type 1} → statement M
 all-spec = tie.close (tie.spec Inv-loop μ-loop (λ c. search needs) (λ c κs. tt) (λ c. search needs) (λ c. search needs) (λ c. search needs) (λ c. search needs))

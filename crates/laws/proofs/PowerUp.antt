@@ -1,0 +1,76 @@
+-- The chip at power-up, under any outside levels: what it shows, and how the lines of its handshakes start ("State").
+-- Rests on ChannelPins and ModeWords.
+use mathlib.Core.Path.{_≡_, _∙_, refl, ap, sym, subst}
+use mathlib.Core.Bool.{true}
+use mathlib.Core.List.{_++_}
+use Prim.Native.Nat.{ℕ, _<_}
+use Rattle.bits.specs.Bit.{bitOf, valueOf}
+use Rattle.control.specs.declared.Group.{Group}
+use Rattle.control.specs.declared.Group.the-variants.{A, B}
+use Rattle.control.specs.Mode.{modeOf, inputOf, upperInput, lowerInput, strobedInput, strobedOutput, outputOf}
+use Rattle.roles.specs.Role.{usesOf, freeRole, roleOf}
+use Rattle.channel.specs.declared.Side.{Side}
+use Rattle.channel.specs.declared.Side.the-variants.{Input, Output}
+use Rattle.chip.specs.declared.Phase.the-variants.{Writing}
+use Rattle.chip.specs.declared.Chip.{Chip}
+use Rattle.chip.specs.declared.Levels.{Levels}
+use Rattle.chip.specs.State.{noTally, noByte, powerUpWith, channelOf}
+use Rattle.chip.specs.Handshakes.{strobed, lineOf}
+use Rattle.levels.specs.Levels.{edged, levelledLines, levelled}
+use Rattle.ports.specs.Pins.{levelAs, drivesPort, pinsOfPort, pinsOfLines, pinsOf}
+use Rattle.step.specs.Numbers.{numberOf}
+use Rattle.step.specs.Step.{accepted, stepOf}
+use Rattle.laws.specs.Seen.{pin}
+use Rattle.laws.specs.History.{levels, write}
+use Rattle.laws.specs.Marked.{after}
+use Rattle.laws.proofs.ChannelPins.{pin-by-role, line-pin}
+use Rattle.laws.proofs.ModeWords.{Anew, mode-word-renews, reset-roles}
+
+-- Each port shows the levels that were named for it, and nothing is driven.
+pub record AsNamed (l : Levels) (c : Chip) : Type 0 where
+  pub a : pinsOf c 0 ≡ record { levels = l .a; driven = 0 }
+  pub b : pinsOf c 1 ≡ record { levels = l .b; driven = 0 }
+  pub lines : (n : ℕ) → n < 8 → pin c n ≡ bitOf (l .c) n
+  pub linesDriven : pinsOf c 2 .driven ≡ 0
+
+pub power-up-shows : (l : Levels) → AsNamed l (powerUpWith l)
+unfolding pinsOf pinsOfPort pinsOfLines drivesPort outputOf modeOf inputOf roleOf usesOf freeRole upperInput lowerInput bitOf valueOf
+power-up-shows l = record {
+  a = refl;
+  b = refl;
+  lines = λ n small. pin-by-role (powerUpWith l) n small ∙ ap (levelAs (powerUpWith l) n) (reset-roles n small);
+  linesDriven = refl;
+}
+
+-- To name levels is to put them on the ports right after a power-up under any others: in mode 0 none of them is an edge.
+pub named-is-put : (k l : Levels)
+    → after (accepted (powerUpWith k) 0) (levels 0 (l .a) ++ levels 1 (l .b) ++ levels 2 (l .c)) .chip ≡ powerUpWith l
+unfolding stepOf numberOf levelled levelledLines edged strobedInput strobedOutput modeOf inputOf bitOf
+named-is-put k l = refl
+
+-- A mode word finds the lines as they were named, and takes no level for a fall: no channel has had a byte.
+pub record Starts (l : Levels) (w : ℕ) (c : Chip) : Type 0 where
+  pub line : (g : Group) (s : Side) → strobed w g s ≡ true → pin c (lineOf g s) ≡ bitOf (l .c) (lineOf g s)
+  pub none : (g : Group) (s : Side) → channelOf (c .core) g s ≡ noByte
+
+no-byte-yet : (l : Levels) (g : Group) (s : Side) → channelOf (powerUpWith l .core) g s ≡ noByte
+no-byte-yet l A Input = refl
+no-byte-yet l A Output = refl
+no-byte-yet l B Input = refl
+no-byte-yet l B Output = refl
+
+starts-anew : (l : Levels) (w : ℕ) (c : Chip) → Anew (powerUpWith l .core) w (c .core) → Starts l w c
+starts-anew l w c anew = record {
+  line = λ g s on.
+      line-pin c g s (subst (λ (v : ℕ). strobed v g s ≡ true) (sym (anew .word)) on)
+      ∙ ap (λ (d : ℕ). bitOf d (lineOf g s)) (anew .linesLevels);
+  none = λ g s.
+      let tally : channelOf (c .core) g s .tally ≡ noTally = anew .tallies g s ∙ rw (no-byte-yet l g s) in
+      λ i. record { fill = anew .empty g s i; latch = anew .latches g s i; tally = tally i };
+}
+
+pub starts : (l : Levels) (w : ℕ) → bitOf w 7 ≡ true → Starts l w (after (accepted (powerUpWith l) 0) (write 3 w) .chip)
+unfolding stepOf numberOf
+starts l w set =
+    let writing : Chip = record { phase = Writing 3 w; core = powerUpWith l .core } in
+    starts-anew l w (stepOf writing 4 0 0 .chip) (mode-word-renews writing w 0 0 refl set .core)
