@@ -1,4 +1,5 @@
 pub mod Behind
+pub mod Bounds
 pub mod Zeros
 pub mod Long
 pub mod ComesBack

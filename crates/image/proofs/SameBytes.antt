@@ -1,14 +1,14 @@
 -- An image is the image of the state that it tells, byte for byte.
 -- Rests on Long, and on bits' Tabled.
-use mathlib.Core.Path.{_≡_, _∙_, refl, ap, sym, subst}
-use mathlib.Core.Bool.{Bool, true, false, not, _&&_, and-eq-true-iff}
+use mathlib.Core.Path.{_≡_, _∙_, refl, sym, subst}
+use mathlib.Core.Bool.{Bool, true, false, _&&_, and-eq-true-iff}
 use mathlib.Core.List.{List, [], _∷_, _++_}
 use Prim.Native.Nat.{ℕ, zero, suc, _+_, _*_, _/_, _%_, _<_}
 use native.Mathlib.Omega.{arith}
 use lib.Dec.{T, eqb, ltb}
 use lib.ListN.{length}
 use lib.Seq.{ext-getD}
-use borrow.Author.Tests.{eqb-true, lt-ltb, ne-eqb}
+use borrow.Author.Tests.{eqb-true, ltb-true, ne-eqb}
 use Rattle.bits.specs.Bit.{bitOf}
 use Rattle.bits.specs.Table.{from}
 use Rattle.bits.proofs.Tabled.{table-at}
@@ -50,17 +50,14 @@ module _ (f : ℕ → ℕ) (below : (i : ℕ) → f i < 256) where
   same-pairs i zero = refl
   same-pairs i (suc n) = λ j. low (f i) (f (suc i)) (below i) j ∷ high (f i) (f (suc i)) (below i) j ∷ same-pairs (suc (suc i)) n j
 
-too-big : (m b : ℕ) → m < b → not (ltb m b) ≡ true → ⊥
-too-big m b h fits = subst T (sym (ap not (sym (lt-ltb m b h)) ∙ fits)) tt
-
 same-fill : (on : Bool) (s : Side) (b : ℕ) → fillFits on s b ≡ true → fillByte (fillAs b) ≡ b
 same-fill on s zero fits = refl
 same-fill on s (suc zero) fits = refl
 same-fill on s (suc (suc zero)) fits = refl
-same-fill true Input (suc (suc (suc b))) fits = absurd (too-big 2 (suc (suc (suc b))) (omega arith) fits)
-same-fill false Input (suc (suc (suc b))) fits = absurd (too-big 0 (suc (suc (suc b))) (omega arith) fits)
-same-fill true Output (suc (suc (suc b))) fits = absurd (too-big 1 (suc (suc (suc b))) (omega arith) fits)
-same-fill false Output (suc (suc (suc b))) fits = absurd (too-big 0 (suc (suc (suc b))) (omega arith) fits)
+same-fill true Input (suc (suc (suc b))) fits = absurd (omega (arith, ltb-true (suc (suc (suc b))) 3 fits))
+same-fill true Output (suc (suc (suc b))) fits = absurd (omega (arith, ltb-true (suc (suc (suc b))) 2 fits))
+same-fill false Input (suc (suc (suc b))) fits = absurd (omega (arith, ltb-true (suc (suc (suc b))) 1 fits))
+same-fill false Output (suc (suc (suc b))) fits = absurd (omega (arith, ltb-true (suc (suc (suc b))) 1 fits))
 
 -- The three bytes of the bus.
 abbrev busAgain : ℕ → ℕ → ℕ → List ℕ

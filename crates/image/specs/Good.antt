@@ -1,5 +1,5 @@
 -- Which states have an image, and which bytes are one.
-use mathlib.Core.Bool.{Bool, true, false, cond, not, _&&_}
+use mathlib.Core.Bool.{Bool, true, false, cond, _&&_}
 use mathlib.Core.List.{List, [], _∷_}
 use Prim.Native.Nat.{ℕ, _<_}
 use lib.Dec.{eqb, ltb}
@@ -56,10 +56,15 @@ cycleFits bus place byte =
 abbrev pub enablesFit : ℕ → Bool
 enablesFit b = eqb (enablesByte (enablesAs b)) b
 
--- A channel's condition is no more than 0, or where the word strobes it than 1, and of an input than 2.
+-- How many conditions a channel can be in, of empty, waiting and fetching: all of them where it is an input that the mode word strobes, the
+-- first two where it is such an output, and otherwise the first alone.
+abbrev pub conditions : Bool → Side → ℕ
+conditions strobed Input = cond strobed 3 1
+conditions strobed Output = cond strobed 2 1
+
+-- They are numbered from 0.
 abbrev pub fillFits : Bool → Side → ℕ → Bool
-fillFits strobed Input b = not (ltb (cond strobed 2 0) b)
-fillFits strobed Output b = not (ltb (cond strobed 1 0) b)
+fillFits strobed s b = ltb b (conditions strobed s)
 
 -- All of them are 0.
 abbrev pub allZero : List ℕ → Bool

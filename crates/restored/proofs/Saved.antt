@@ -1,12 +1,11 @@
 -- Demand 3 from a chip that a host restores from an image; and what the host holds after a power-up.
--- Rests on Stays, on image's ComesBack, OneImage and SameBytes, on host's HostStep, and on fates' Demand, Discipline and Followed.
+-- Rests on Stays, on image's Long, ComesBack, OneImage and SameBytes, on host's HostStep, and on fates' Demand, Discipline and Followed.
 use mathlib.Core.Path.{_≡_, refl, sym, subst}
 use mathlib.Core.Bool.{true}
 use mathlib.Core.List.{List, [], _∷_}
 use Prim.Native.Nat.{ℕ, _+_, _*_, _<_}
 use native.Mathlib.Omega.{arith}
 use lib.ListN.{length}
-use borrow.Author.Tests.{eq-eqb}
 use Rattle.control.specs.declared.Group.{Group}
 use Rattle.control.specs.declared.Group.the-variants.{A, B}
 use Rattle.channel.specs.declared.Side.{Side}
@@ -26,6 +25,7 @@ use Rattle.image.specs.Restored.{byteAt, tallyAt, stateOf}
 use Rattle.image.specs.Good.{hasImage, isImage, Bytes}
 use Rattle.image.specs.Slices.{savedIn}
 use Rattle.host.specs.Calls.{stepImage}
+use Rattle.image.proofs.Long.{written-over}
 use Rattle.image.proofs.ComesBack.{comes-back}
 use Rattle.image.proofs.SameBytes.{small}
 use Rattle.image.proofs.OneImage.{has-image, tells-such}
@@ -81,11 +81,6 @@ pub restored : (l : List ℕ) → Bytes l → isImage l ≡ true → (es : List 
 restored l bytes good es =
     let at-end = holds-run l (stateOf l) es (record { image = good; state = refl; has = tells-such l bytes good }) in
     record { image = at-end .image; state = at-end .state; fates = λ g s. fates-from g s (stateOf l) (sixteen-bits l bytes g s) es }
-
--- In 64 bytes a chip's image takes the place of all that stood there.
-written-over : (l : List ℕ) (c : Chip) → length l ≡ 64 → savedIn l c ≡ imageOf c
-unfolding savedIn
-written-over l c long = rw (eq-eqb (length l) 64 long)
 
 -- From every power-up, in 64 bytes that held anything.
 pub powered-up : (l : List ℕ) (v : Levels) (es : List Event) → length l ≡ 64 → PoweredUp l v es
