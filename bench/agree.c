@@ -160,6 +160,15 @@ static int refused_as(const unsigned char *image, int refused)
     return 0;
 }
 
+/* Any kind but a reset, with as many ends as beginnings, or now and then any byte at all. */
+static unsigned char mostly_a_kind(void)
+{
+    static const unsigned char kinds[] = { TOWANCHOR_BEGIN_READ, TOWANCHOR_END_CYCLE, TOWANCHOR_BEGIN_WRITE, TOWANCHOR_END_CYCLE,
+                                           TOWANCHOR_OUTSIDE_LEVELS };
+    unsigned char drawn = mostly_below(sizeof kinds);
+    return drawn < sizeof kinds ? kinds[drawn] : drawn;
+}
+
 /* Every other history begins at power-up. Now and then the slice is no image by its length. Resets are rare, since each ends
    what the events before it began. */
 static int same_histories(void)
@@ -168,7 +177,7 @@ static int same_histories(void)
     int i;
     for (i = 0; i < EVENTS; i++) {
         size_t length = random_byte() < 4 ? random_byte() : IMAGE;
-        unsigned char kind = random_byte() < 4 ? TOWANCHOR_RESET : 1 + mostly_below(5);
+        unsigned char kind = random_byte() < 4 ? TOWANCHOR_RESET : mostly_a_kind();
         if (i % (2 * HISTORY) == 0)
             towanchor_power_up(image, IMAGE);
         else if (i % HISTORY == 0)

@@ -40,11 +40,11 @@ static const struct model empty = { "empty", empty_step, empty_pins, empty_tally
 
 /* Histories are frames as in a script, with spaces between. Scale and printer: port A in mode 1 input, port B in mode 1 output,
    both enables set, STB and ACK high. */
-#define SCALE_AND_PRINTER "0502FF 0303B4 04 030309 04 030305 04 "
+#define SCALE_AND_PRINTER "0502FF 0303B4 02 030309 02 030305 02 "
 #define A_BYTE_WAITS SCALE_AND_PRINTER "050041 0502EF 0502FF "
 
 /* Port A in mode 2 and port B in mode 1 input, with a byte waiting in each of their three channels. */
-#define BYTES_WAIT_IN_MODE_2 "0502FF 0303C6 04 030055 04 0502EB 0502FF "
+#define BYTES_WAIT_IN_MODE_2 "0502FF 0303C6 02 030055 02 0502EB 0502FF "
 
 /* What is counted: the calls of a round, each answered with the number, from the state that a history from power-up leaves. */
 static const struct {
@@ -62,13 +62,13 @@ static const struct {
     { "begin read of C, mode 2", STEP, BYTES_WAIT_IN_MODE_2, "0102", 0 },
     { "end read of A", STEP, A_BYTE_WAITS "0100", "02", 0 },
     { "begin write", STEP, SCALE_AND_PRINTER, "030154", 0 },
-    { "end write to B, strobed", STEP, SCALE_AND_PRINTER "030154", "04", 0 },
-    { "end write to C", STEP, SCALE_AND_PRINTER "0302FF", "04", 0 },
-    { "end write of a mode word", STEP, A_BYTE_WAITS "0303B4", "04", 0 },
-    { "end write of a bit set/reset", STEP, SCALE_AND_PRINTER "030308", "04", 0 },
+    { "end write to B, strobed", STEP, SCALE_AND_PRINTER "030154", "02", 0 },
+    { "end write to C", STEP, SCALE_AND_PRINTER "0302FF", "02", 0 },
+    { "end write of a mode word", STEP, A_BYTE_WAITS "0303B4", "02", 0 },
+    { "end write of a bit set/reset", STEP, SCALE_AND_PRINTER "030308", "02", 0 },
     { "levels on A", STEP, SCALE_AND_PRINTER, "050041", 0 },
     { "levels on C, STB falls", STEP, SCALE_AND_PRINTER, "0502EF", 0 },
-    { "levels on C, ACK falls", STEP, SCALE_AND_PRINTER "030154 04", "0502FB", 0 },
+    { "levels on C, ACK falls", STEP, SCALE_AND_PRINTER "030154 02", "0502FB", 0 },
     { "levels on C, three edges", STEP, BYTES_WAIT_IN_MODE_2, "0502AB", 0 },
     { "levels on C, nothing falls", STEP, SCALE_AND_PRINTER, "0502FF", 0 },
     { "view of A", PINS, A_BYTE_WAITS, "00", 0 },
@@ -76,7 +76,7 @@ static const struct {
     { "view of C, mode 1", PINS, A_BYTE_WAITS, "02", 0 },
     { "view of C, mode 2", PINS, BYTES_WAIT_IN_MODE_2, "02", 0 },
     { "a tally", TALLY, A_BYTE_WAITS, "0000", 0 },
-    { "scale and printer, an event", STEP, SCALE_AND_PRINTER, "050041 0502EF 0502FF 0100 02 030154 04 0502FB 0502FF 0102 02", 0 },
+    { "scale and printer, an event", STEP, SCALE_AND_PRINTER, "050041 0502EF 0502FF 0100 02 030154 02 0502FB 0502FF 0102 02", 0 },
 };
 enum { KINDS = sizeof kinds / sizeof kinds[0] };
 

@@ -7,7 +7,7 @@ enum { A_IN, A_OUT, B_IN, B_OUT, CHANNELS };
 enum { EMPTY, WAITING, FETCHING };
 enum { OFFERED, HANDED_OVER, OVERWRITTEN, SWALLOWED, CLEARED, TALLIES };
 enum { IDLE, READING, WRITING };
-enum { RESET, BEGIN_READ, END_READ, BEGIN_WRITE, END_WRITE, OUTSIDE_LEVELS };
+enum { RESET, BEGIN_READ, END_CYCLE, BEGIN_WRITE, OUTSIDE_LEVELS = 5 };
 
 /* The numbers of the answers, 8 being the one for the image. */
 enum { ACCEPTED, NO_SUCH_KIND, OUT_OF_RANGE, NOT_READABLE, CYCLE_RUNS, NO_CYCLE_RUNS, BAD_IMAGE = 8 };
@@ -270,16 +270,12 @@ static unsigned int begin_read(struct chip *chip, unsigned char address)
     return ACCEPTED | (unsigned int)answer << 8;
 }
 
-static unsigned int end_read(struct chip *chip)
+static void end_read(struct chip *chip)
 {
-    if (chip->bus != READING)
-        return NO_CYCLE_RUNS;
     if (chip->address == PORT_A && strobed(chip->word, A_IN))
         end_fetch(chip, A_IN);
     if (chip->address == PORT_B && strobed(chip->word, B_IN))
         end_fetch(chip, B_IN);
-    go_idle(chip);
-    return ACCEPTED;
 }
 
 static unsigned int begin_write(struct chip *chip, unsigned char address, unsigned char data)
@@ -322,11 +318,9 @@ static void set_bit(struct chip *chip, unsigned char control)
     }
 }
 
-static unsigned int end_write(struct chip *chip)
+static void end_write(struct chip *chip)
 {
     unsigned char data = chip->data;
-    if (chip->bus != WRITING)
-        return NO_CYCLE_RUNS;
     switch (chip->address) {
     case PORT_A: write_port(chip, A_OUT, data, chip->word & INPUT_A); break;
     case PORT_B: write_port(chip, B_OUT, data, chip->word & INPUT_B); break;
@@ -337,6 +331,16 @@ static unsigned int end_write(struct chip *chip)
         else
             set_bit(chip, data);
     }
+}
+
+static unsigned int end_cycle(struct chip *chip)
+{
+    if (chip->bus == IDLE)
+        return NO_CYCLE_RUNS;
+    if (chip->bus == READING)
+        end_read(chip);
+    else
+        end_write(chip);
     go_idle(chip);
     return ACCEPTED;
 }
@@ -365,9 +369,8 @@ static unsigned int step(struct chip *chip, unsigned char kind, unsigned char fi
     switch (kind) {
     case RESET: return reset(chip);
     case BEGIN_READ: return begin_read(chip, first);
-    case END_READ: return end_read(chip);
+    case END_CYCLE: return end_cycle(chip);
     case BEGIN_WRITE: return begin_write(chip, first, second);
-    case END_WRITE: return end_write(chip);
     case OUTSIDE_LEVELS: return outside_levels(chip, first, second);
     default: return NO_SUCH_KIND;
     }

@@ -39,19 +39,14 @@ unsigned char bus_begin_read(struct bus *bus, unsigned char address)
     return (unsigned char)TOWANCHOR_BYTE(event(bus, TOWANCHOR_BEGIN_READ, address, 0));
 }
 
-void bus_end_read(struct bus *bus)
-{
-    event(bus, TOWANCHOR_END_READ, 0, 0);
-}
-
 void bus_begin_write(struct bus *bus, unsigned char address, unsigned char byte)
 {
     event(bus, TOWANCHOR_BEGIN_WRITE, address, byte);
 }
 
-void bus_end_write(struct bus *bus)
+void bus_end_cycle(struct bus *bus)
 {
-    event(bus, TOWANCHOR_END_WRITE, 0, 0);
+    event(bus, TOWANCHOR_END_CYCLE, 0, 0);
 }
 
 void bus_put_levels(struct bus *bus, unsigned char port, unsigned char levels)

@@ -17,9 +17,8 @@ void bus_power_up(struct bus *bus, pin_view view);
 
 /* The processor's side. A cycle takes time: between its beginning and its end the outside goes on. */
 unsigned char bus_begin_read(struct bus *bus, unsigned char address);
-void bus_end_read(struct bus *bus);
 void bus_begin_write(struct bus *bus, unsigned char address, unsigned char byte);
-void bus_end_write(struct bus *bus);
+void bus_end_cycle(struct bus *bus);
 
 /* The outside: puts levels on the pins of a port, or a level on one pin of port C. */
 void bus_put_levels(struct bus *bus, unsigned char port, unsigned char levels);

@@ -20,7 +20,7 @@ unsigned char machine_read(struct machine *machine, unsigned char address)
     unsigned char byte = bus_begin_read(&machine->bus, address);
 
     machine_outside(machine);
-    bus_end_read(&machine->bus);
+    bus_end_cycle(&machine->bus);
     return byte;
 }
 
@@ -28,5 +28,5 @@ void machine_write(struct machine *machine, unsigned char address, unsigned char
 {
     bus_begin_write(&machine->bus, address, byte);
     machine_outside(machine);
-    bus_end_write(&machine->bus);
+    bus_end_cycle(&machine->bus);
 }

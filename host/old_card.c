@@ -5,13 +5,19 @@
 
 #include <string.h>
 
+/* Where an image says what runs on the bus, and what stands there while a read does: docs/IMAGE.md. */
+#define BUS 54
+#define READING 1
+
 unsigned int old_card_pins(const unsigned char *image, size_t length, unsigned char port)
 {
     unsigned int ibf = port == TOWANCHOR_C ? TOWANCHOR_PIN(TOWANCHOR_IBF_A) << 8 : 0;
     unsigned char ended[TOWANCHOR_IMAGE_SIZE];
 
-    /* The fault: IBF is shown as a copy of the card has it after the end of the read. Where no read runs, the copy refuses. */
+    /* The fault: while a read runs, IBF is shown as a copy of the card has it after the end. The end of a write is no part of it: a mode
+     * word would show before its time. */
     memcpy(ended, image, sizeof ended);
-    towanchor_step(ended, sizeof ended, TOWANCHOR_END_READ, 0, 0);
+    if (ended[BUS] == READING)
+        towanchor_step(ended, sizeof ended, TOWANCHOR_END_CYCLE, 0, 0);
     return (towanchor_pins(image, length, port) & ~ibf) | (towanchor_pins(ended, sizeof ended, port) & ibf);
 }

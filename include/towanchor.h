@@ -31,19 +31,21 @@ extern "C" {
 
 /* The number of an answer. Where several would apply, TOWANCHOR_NO_STATE comes first, and then the lowest. */
 #define TOWANCHOR_ACCEPTED 0       /* nothing was refused */
-#define TOWANCHOR_NO_SUCH_KIND 1   /* the kind of an event is above 5 */
+#define TOWANCHOR_NO_SUCH_KIND 1   /* the kind of an event is none of those below */
 #define TOWANCHOR_OUT_OF_RANGE 2   /* an address above 3, a port above 2, a channel above 3 or a tally above 4 */
 #define TOWANCHOR_NOT_READABLE 3   /* a read was begun at the control address */
 #define TOWANCHOR_CYCLE_RUNS 4     /* a read or a write was begun while one runs */
-#define TOWANCHOR_NO_CYCLE_RUNS 5  /* a read was ended while none runs, or a write while none runs */
+#define TOWANCHOR_NO_CYCLE_RUNS 5  /* a cycle was ended while none runs */
 #define TOWANCHOR_NO_STATE 8       /* the length is not TOWANCHOR_IMAGE_SIZE, or the image is of no state */
 
-/* Kinds of events, with the operands that each takes; those that a kind lacks are ignored. */
+/* Kinds of events, with the operands that each takes; those that a kind lacks are ignored.
+ *
+ * Reads and writes end by the same kind, which stands where earlier editions had one for each, 2 for reads and 4 for writes. There is no
+ * kind 4 now: it is refused with TOWANCHOR_NO_SUCH_KIND, and the write goes on until TOWANCHOR_END_CYCLE ends it. */
 #define TOWANCHOR_RESET 0          /* the reset pin; outside levels and tallies stay, and a running cycle is dropped */
 #define TOWANCHOR_BEGIN_READ 1     /* first: the address; the answer has the byte that is read */
-#define TOWANCHOR_END_READ 2       /* of the read that runs; its port's IBF falls now */
-#define TOWANCHOR_BEGIN_WRITE 3    /* first: the address, second: the byte, which acts when the write ends */
-#define TOWANCHOR_END_WRITE 4      /* of the write that runs */
+#define TOWANCHOR_END_CYCLE 2      /* of the cycle that runs: after a read its port's IBF falls, and the byte of a write acts */
+#define TOWANCHOR_BEGIN_WRITE 3    /* first: the address, second: the byte, which acts when the cycle ends */
 #define TOWANCHOR_OUTSIDE_LEVELS 5 /* first: the port, second: the levels that the outside now puts on its eight pins */
 
 /* Ports, which are addresses too, and the address that is no port. */

@@ -83,12 +83,14 @@ static int is_taken(const unsigned char *good, unsigned char kind)
 
 static void damage(const unsigned char *reached, struct counts *counts)
 {
+    static const unsigned char kinds[] = {TOWANCHOR_RESET, TOWANCHOR_BEGIN_READ, TOWANCHOR_END_CYCLE, TOWANCHOR_BEGIN_WRITE,
+                                          TOWANCHOR_OUTSIDE_LEVELS};
     unsigned char image[SIZE];
     unsigned int byte, value;
 
     for (byte = 0; byte < SIZE; byte++) {
         for (value = 0; value < 256; value++) {
-            unsigned char kind = (unsigned char)((value + counts->images) % (TOWANCHOR_OUTSIDE_LEVELS + 1));
+            unsigned char kind = kinds[(value + counts->images) % sizeof kinds];
             int good, held;
 
             if (value == reached[byte])

@@ -55,7 +55,7 @@ static void under(unsigned int word, unsigned int outside)
 
     towanchor_power_up(image, SIZE);
     towanchor_step(image, SIZE, TOWANCHOR_BEGIN_WRITE, TOWANCHOR_CONTROL, (unsigned char)word);
-    towanchor_step(image, SIZE, TOWANCHOR_END_WRITE, 0, 0);
+    towanchor_step(image, SIZE, TOWANCHOR_END_CYCLE, 0, 0);
     for (each = TOWANCHOR_A; each <= TOWANCHOR_C; each++)
         towanchor_step(image, SIZE, TOWANCHOR_OUTSIDE_LEVELS, each, (unsigned char)outside);
     port(TOWANCHOR_A, driven_of_a(word, outside), outside, word);

@@ -81,17 +81,22 @@ static void outside_levels(struct history *history, unsigned int port, unsigned 
         history->outside = (unsigned char)levels;
 }
 
+static void end_cycle(struct history *history)
+{
+    put_kind(history, 2);
+}
+
 static void control(struct history *history, unsigned int byte)
 {
     begin_write(history, 3, byte);
-    put_kind(history, 4);
+    end_cycle(history);
 }
 
-/* A whole read. Where a cycle runs already, the beginning is refused, and the end may be another's. */
+/* A whole read. Where a cycle runs already, the beginning is refused, and the end is that cycle's. */
 static void read_port(struct history *history, unsigned int port)
 {
     begin_read(history, port);
-    put_kind(history, 2);
+    end_cycle(history);
 }
 
 /* A pin of port C falls, and rises again; now and then a read comes between, or the pin stays low. */
@@ -128,7 +133,7 @@ static void digit(struct history *history, unsigned int port)
     begin_read(history, port);
     if (one_in(5))
         strobe(history, port);
-    put_kind(history, 2);
+    end_cycle(history);
 }
 
 /* A byte is written and taken; some are taken while the next write runs, and some are overwritten. */
@@ -137,7 +142,7 @@ static void character(struct history *history, unsigned int port)
     begin_write(history, port, any_byte());
     if (one_in(5))
         acknowledge(history, port);
-    put_kind(history, 4);
+    end_cycle(history);
     if (one_in(6))
         return;
     acknowledge(history, port);
@@ -157,12 +162,12 @@ static void traffic(struct history *history)
             read_port(history, 2);
         if (one_in(10)) {
             begin_write(history, 2, any_byte());
-            put_kind(history, 4);
+            end_cycle(history);
         }
     }
 }
 
-/* Events without a plan. Operands are small more often than not, so that about half of them are accepted. */
+/* Events without a plan. Operands are small more often than not, so that many are accepted. */
 static void noise(struct history *history)
 {
     unsigned int rest = 1 + any(32);
@@ -175,7 +180,7 @@ static void noise(struct history *history)
             put_kind(history, one_in(6) ? 0 : 2);
             break;
         case 1:
-            put_kind(history, one_in(2) ? any_byte() : 6 + any(4));
+            put_kind(history, one_in(2) ? any_byte() : 4 + any(6));
             break;
         case 2:
         case 3:
@@ -185,10 +190,8 @@ static void noise(struct history *history)
             begin_write(history, place, any_byte());
             break;
         case 5:
-            put_kind(history, 4);
-            break;
         case 6:
-            put_kind(history, 2);
+            end_cycle(history);
             break;
         default:
             outside_levels(history, place, any_byte());
@@ -199,9 +202,9 @@ static void noise(struct history *history)
 /* A line that is no frame, or seldom one: those that are easily misread, and a good one with a character changed or cut short. */
 static void odd_line(struct history *history)
 {
-    static const char *const misread[] = {"",    " ",    "0",    "03",  "05",   "0303b0",  "01 00", "0100 ",
-                                          " 00", "0x00", "00\r", "020", "0200", "010000",  "03030", "0303B000",
-                                          "0G",  "@0",   "0:",   "0/",  "\t02", "0303B0;", "-1",    "+1"};
+    static const char *const misread[] = {"",    " ",    "0",    "03",   "04",      "05",     "0303b0", "01 00",    "0100 ",
+                                          " 00", "0x00", "00\r", "020",  "0200",    "010000", "03030",  "0303B000", "0G",
+                                          "@0",  "0:",   "0/",   "\t02", "0303B0;", "-1",     "+1"};
     const char *chosen = misread[any(sizeof misread / sizeof misread[0])];
     char changed[] = "0303B0";
 

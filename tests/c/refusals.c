@@ -28,8 +28,10 @@ static void always(void)
 {
     unsigned int value;
 
-    for (value = 6; value < 256; value++)
+    for (value = TOWANCHOR_OUTSIDE_LEVELS + 1; value < 256; value++)
         event((unsigned char)value, 9, 9, TOWANCHOR_NO_SUCH_KIND, "a kind above 5");
+    for (value = 0; value < 65536; value++)
+        event(4, (unsigned char)(value >> 8), (unsigned char)value, TOWANCHOR_NO_SUCH_KIND, "kind 4, with any operands");
     for (value = 4; value < 256; value++) {
         event(TOWANCHOR_BEGIN_READ, (unsigned char)value, 0, TOWANCHOR_OUT_OF_RANGE, "a read at an address above 3");
         event(TOWANCHOR_BEGIN_WRITE, (unsigned char)value, 0, TOWANCHOR_OUT_OF_RANGE, "a write at an address above 3");
@@ -77,19 +79,18 @@ int main(void)
 {
     check(towanchor_power_up(image, SIZE) == TOWANCHOR_ACCEPTED, "power-up", 0);
     always();
-    event(TOWANCHOR_END_READ, 0, 0, TOWANCHOR_NO_CYCLE_RUNS, "the end of a read that was not begun");
-    event(TOWANCHOR_END_WRITE, 0, 0, TOWANCHOR_NO_CYCLE_RUNS, "the end of a write that was not begun");
+    event(TOWANCHOR_END_CYCLE, 0, 0, TOWANCHOR_NO_CYCLE_RUNS, "an end before any beginning");
     views();
 
     event(TOWANCHOR_BEGIN_READ, TOWANCHOR_A, 0, TOWANCHOR_ACCEPTED, "a read");
     meanwhile();
-    event(TOWANCHOR_END_WRITE, 0, 0, TOWANCHOR_NO_CYCLE_RUNS, "the end of a write while a read runs");
-    event(TOWANCHOR_END_READ, 9, 9, TOWANCHOR_ACCEPTED, "the end of the read, operands ignored");
+    event(TOWANCHOR_END_CYCLE, 9, 9, TOWANCHOR_ACCEPTED, "the end of the read, operands ignored");
+    event(TOWANCHOR_END_CYCLE, 9, 9, TOWANCHOR_NO_CYCLE_RUNS, "a second end of the read");
 
     event(TOWANCHOR_BEGIN_WRITE, TOWANCHOR_CONTROL, 0x80, TOWANCHOR_ACCEPTED, "a write");
     meanwhile();
-    event(TOWANCHOR_END_READ, 0, 0, TOWANCHOR_NO_CYCLE_RUNS, "the end of a read while a write runs");
-    event(TOWANCHOR_END_WRITE, 9, 9, TOWANCHOR_ACCEPTED, "the end of the write, operands ignored");
+    event(TOWANCHOR_END_CYCLE, 9, 9, TOWANCHOR_ACCEPTED, "the end of the write, operands ignored");
+    event(TOWANCHOR_END_CYCLE, 9, 9, TOWANCHOR_NO_CYCLE_RUNS, "a second end of the write");
 
     image[SIZE - 1] = 1;
     event(TOWANCHOR_RESET, 0, 0, TOWANCHOR_NO_STATE, "the image of no state");

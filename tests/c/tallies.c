@@ -22,7 +22,7 @@ static void hand_over(unsigned char channel)
 {
     if (is_input(channel)) {
         event(TOWANCHOR_BEGIN_READ, ways[channel].port, 0);
-        event(TOWANCHOR_END_READ, 0, 0);
+        event(TOWANCHOR_END_CYCLE, 0, 0);
     } else {
         pulse(ways[channel].pin);
     }
@@ -32,7 +32,7 @@ static void swallow(unsigned char channel)
 {
     event(TOWANCHOR_BEGIN_READ, ways[channel].port, 0);
     offer(channel);
-    event(TOWANCHOR_END_READ, 0, 0);
+    event(TOWANCHOR_END_CYCLE, 0, 0);
 }
 
 /* So many bytes of a channel as no other tally has: handed over, overwritten, swallowed, cleared. */

@@ -28,7 +28,7 @@ void event(unsigned char kind, unsigned char first, unsigned char second)
 void write_byte(unsigned char address, unsigned char byte)
 {
     event(TOWANCHOR_BEGIN_WRITE, address, byte);
-    event(TOWANCHOR_END_WRITE, 0, 0);
+    event(TOWANCHOR_END_CYCLE, 0, 0);
 }
 
 unsigned int tally(unsigned char channel, unsigned char which)

@@ -26,16 +26,16 @@ pub(super) const EVENTS: [u64; 84] = [
     0x050200ff, // and rises
     // A byte goes out at A, and one stays.
     0x0300ff00, // a write begins
-    0x04000000, // and ends
+    0x02000000, // and ends
     0x050200bf, // ACK falls, the other pins high
     0x050200ff, // and rises
     0x0300ff00, // a write begins
-    0x04000000, // and ends
+    0x02000000, // and ends
     // One is written over another and goes out.
     0x0300ff00, // a write begins
-    0x04000000, // and ends
+    0x02000000, // and ends
     0x0300ff00, // a second write begins
-    0x04000000, // and ends
+    0x02000000, // and ends
     0x0502bf00, // ACK falls, the other pins at any level
     0x0502bf40, // and rises
     // A byte comes in at B and is read.
@@ -61,44 +61,44 @@ pub(super) const EVENTS: [u64; 84] = [
     0x050200ff, // and rises
     // A byte goes out at B, and one stays.
     0x0301ff00, // a write begins
-    0x04000000, // and ends
+    0x02000000, // and ends
     0x050200fb, // ACK falls, the other pins high
     0x050200ff, // and rises
     0x0301ff00, // a write begins
-    0x04000000, // and ends
+    0x02000000, // and ends
     // One is written over another and goes out.
     0x0301ff00, // a write begins
-    0x04000000, // and ends
+    0x02000000, // and ends
     0x0301ff00, // a second write begins
-    0x04000000, // and ends
+    0x02000000, // and ends
     0x0502fb00, // ACK falls, the other pins at any level
     0x0502fb04, // and rises
     // Any mode, and the enables of A.
     0x03037f80, // a mode word
-    0x04000000, // takes effect
+    0x02000000, // takes effect
     0x03037009, // pin 4 set
-    0x04000000, // takes effect
+    0x02000000, // takes effect
     0x0303700d, // pin 6 set
-    0x04000000, // takes effect
+    0x02000000, // takes effect
     // Mode 1 in both groups, by one of four words, so that the same one often comes again; and enables.
     0x030312a4, // a mode word
-    0x04000000, // takes effect
+    0x02000000, // takes effect
     0x03037005, // pin 2 set
-    0x04000000, // takes effect
+    0x02000000, // takes effect
     0x03037009, // pin 4 set
-    0x04000000, // takes effect
+    0x02000000, // takes effect
     // Bytes wait at A and B as a mode word takes effect.
     0x0300ff00, // a write to A begins
-    0x04000000, // and ends
+    0x02000000, // and ends
     0x0301ff00, // a write to B begins
-    0x04000000, // and ends
+    0x02000000, // and ends
     0x03037f80, // a mode word
-    0x04000000, // takes effect
+    0x02000000, // takes effect
     // The lines of C.
     0x0302ff00, // a write to C begins
-    0x04000000, // and ends
+    0x02000000, // and ends
     0x03037f00, // any pin set or reset
-    0x04000000, // takes effect
+    0x02000000, // takes effect
     0x01020000, // a read of C begins
     0x02000000, // and ends
 ];

@@ -1,21 +1,23 @@
 -- An event is accepted in the history's words exactly where its number is 0, and then the chip is what the step makes of it.
--- Rests on the step's ByKind and Outcome.
+-- Rests on frames' KindLaws, and on the step's ByKind and Outcome.
 use mathlib.Core.Path.{_≡_, _∙_, refl, ap, sym, subst}
 use mathlib.Core.Bool.{Bool, true, false, not, cond, _&&_, _||_}
-use Prim.Native.Nat.{ℕ, suc, _<_}
+use Prim.Native.Nat.{ℕ, suc}
 use native.Mathlib.Omega.{arith}
 use lib.Dec.{T, eqb, ltb}
 use lib.ListN.{List·getD-eq-default}
-use borrow.Author.Tests.{ltb-true, ltb-false, eqb-true, eqb-false, lt-ltb, le-ltb}
+use borrow.Author.Tests.{ltb-true, ltb-false, eqb-true, eqb-false, not-true, lt-ltb, le-ltb}
+use Rattle.frames.specs.Kinds.{isKind}
+use Rattle.frames.proofs.KindLaws.{above-but-four}
 use Rattle.chip.specs.declared.Phase.{Phase}
 use Rattle.chip.specs.declared.Phase.the-variants.{Idle, Reading, Writing}
 use Rattle.chip.specs.declared.Chip.{Chip}
-use Rattle.step.specs.Numbers.{isBusy, numberOf}
+use Rattle.step.specs.Numbers.{isBusy, noKind, numberOf}
 use Rattle.step.proofs.ByKind.{by-kind}
 use Rattle.step.specs.Step.{afterOf}
 use Rattle.step.proofs.Outcome.{step-accepts, step-refuses}
 use Rattle.laws.specs.History.{Event, event, stepped}
-use Rattle.fates.specs.Kinds.{unknown, kinds, named, free, inRead, inWrite, accepts}
+use Rattle.fates.specs.Kinds.{unknown, kinds, named, free, accepts}
 
 -- A number is below n where it is neither above nor n.
 below : (x n : ℕ) → ltb x n ≡ not (ltb n x || eqb x n)
@@ -52,21 +54,19 @@ levels-accept : (above : Bool) → not above ≡ eqb (cond above 2 0) 0
 levels-accept true = refl
 levels-accept false = refl
 
-read-end-accepts : (ph : Phase) → inRead ph ≡ eqb (numberOf ph 2 0) 0
+end-accepts : (ph : Phase) → not (free ph) ≡ eqb (numberOf ph 2 0) 0
 unfolding numberOf
-read-end-accepts Idle = refl
-read-end-accepts (Reading p) = refl
-read-end-accepts (Writing a d) = refl
-
-write-end-accepts : (ph : Phase) → inWrite ph ≡ eqb (numberOf ph 4 0) 0
-unfolding numberOf
-write-end-accepts Idle = refl
-write-end-accepts (Reading p) = refl
-write-end-accepts (Writing a d) = refl
+end-accepts Idle = refl
+end-accepts (Reading p) = refl
+end-accepts (Writing a d) = refl
 
 -- What is no kind is named as such.
-no-name : (k x d : ℕ) → 5 < k → named (event k x d) ≡ unknown
-no-name k x d above = List·getD-eq-default (kinds x d) unknown above
+no-name : (k x d : ℕ) → noKind k ≡ true → named (event k x d) ≡ unknown
+no-name k x d none = go (eqb k 4) refl
+  where
+    go : (four : Bool) → eqb k 4 ≡ four → named (event k x d) ≡ unknown
+    go true e = rw (eqb-true k 4 e)
+    go false e = List·getD-eq-default (kinds x d) unknown (above-but-four k e (not-true (isKind k) none))
 
 accepts-number : (ph : Phase) (k x d : ℕ) → accepts ph (named (event k x d)) ≡ eqb (numberOf ph k x) 0
 unfolding numberOf
@@ -74,16 +74,15 @@ accepts-number ph k x d =
     by-kind (λ k. accepts ph (named (event k x d)) ≡ eqb (numberOf ph k x) 0)
     refl
     (rw (below x 3) (begin-accepts ph (ltb 3 x) (eqb x 3)))
-    (read-end-accepts ph)
+    (end-accepts ph)
     (rw (up-to x 3) (write-accepts ph (ltb 3 x)))
-    (write-end-accepts ph)
     (rw (up-to x 2) (levels-accept (ltb 2 x)))
-    (λ k above. rw (no-name k x d above, lt-ltb 5 k above))
+    (λ k none. rw (no-name k x d none, none))
     k
 
 -- What is no kind is not accepted.
-pub no-kind-accepted : (ph : Phase) (k x d : ℕ) → 5 < k → accepts ph (named (event k x d)) ≡ true → ⊥
-no-kind-accepted ph k x d above ok = subst T (sym ok ∙ ap (accepts ph) (no-name k x d above)) tt
+pub no-kind-accepted : (ph : Phase) (k x d : ℕ) → noKind k ≡ true → accepts ph (named (event k x d)) ≡ true → ⊥
+no-kind-accepted ph k x d none ok = subst T (sym ok ∙ ap (accepts ph) (no-name k x d none)) tt
 
 -- The number of an accepted event is 0.
 pub accepted-number : (ph : Phase) (k x d : ℕ) → accepts ph (named (event k x d)) ≡ true → numberOf ph k x ≡ 0

@@ -12,7 +12,7 @@ use Rattle.channel.specs.declared.Side.the-variants.{Input, Output}
 use Rattle.chip.specs.declared.Levels.{Levels}
 use Rattle.chip.specs.State.{powerUpWith}
 use Rattle.laws.specs.History.{Event}
-use Rattle.fates.specs.Kinds.{Named, reset, readEnded, writeEnded, unknown, readBegun, writeBegun, newLevels, named, accepts}
+use Rattle.fates.specs.Kinds.{Named, reset, cycleEnded, unknown, readBegun, writeBegun, newLevels, named, accepts}
 use Rattle.fates.specs.Around.{Around, levelsAfter, aroundAfter, aroundNext, atPowerUp}
 use Rattle.fates.specs.Deeds.{Deed, offered, taken, ended, clearedAway, nothing, portNumber, strobePin, strobes, readRuns, writeRuns, when, ownDeed, clears, deedOf, deed, deeds}
 use Rattle.fates.specs.Bytes.{handedOver, outcomeOf, bytes, bytesOf, same, count}
@@ -39,9 +39,8 @@ Unmoved s (d ∷ ds) = (byLine d s ≡ false) × Unmoved s ds
 levels-low : (n l : ℕ) (e : Named) → bitOf l n ≡ false → raises n e ≡ false → bitOf (levelsAfter 2 l e) n ≡ false
 levels-low n l reset low kept = low
 levels-low n l (readBegun x) low kept = low
-levels-low n l readEnded low kept = low
+levels-low n l cycleEnded low kept = low
 levels-low n l (writeBegun x d) low kept = low
-levels-low n l writeEnded low kept = low
 levels-low n l (newLevels x d) low kept = go (eqb x 2) kept
   where
     go : (lines : Bool) → (lines && bitOf d n) ≡ false → bitOf (cond lines d l) n ≡ false
@@ -67,11 +66,9 @@ module _ (g : Group) (a : Around) where
   own-unmoved s reset low = refl
   own-unmoved Input (readBegun x) low = under Input (eqb x (portNumber g)) taken refl
   own-unmoved Output (readBegun x) low = refl
-  own-unmoved Input readEnded low = under Input (readRuns g (a .phase)) ended refl
-  own-unmoved Output readEnded low = refl
+  own-unmoved Input cycleEnded low = under Input (readRuns g (a .phase)) ended refl
+  own-unmoved Output cycleEnded low = under Output (writeRuns g (a .phase)) _ refl
   own-unmoved s (writeBegun x d) low = refl
-  own-unmoved Input writeEnded low = refl
-  own-unmoved Output writeEnded low = under Output (writeRuns g (a .phase)) _ refl
   own-unmoved Input (newLevels x d) low = rw (low, and-false (eqb x 2))
   own-unmoved Output (newLevels x d) low = rw (low, and-false (eqb x 2))
   own-unmoved s unknown low = refl

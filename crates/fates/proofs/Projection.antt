@@ -26,10 +26,10 @@ use Rattle.reads.proofs.After.{begun-input, begun-output, ended-input, ended-ou
 use Rattle.writes.proofs.After.{Stored, by-address}
 use Rattle.levels.specs.Levels.{fallen, levelled}
 use Rattle.levels.proofs.After.{levelled-input, levelled-output}
-use Rattle.step.specs.Step.{onBus, afterEndRead, afterEndWrite, afterOf}
+use Rattle.step.specs.Step.{onBus, afterEnd, afterOf}
 use Rattle.step.proofs.ByKind.{by-kind}
 use Rattle.laws.specs.History.{Event, event, stepped}
-use Rattle.fates.specs.Kinds.{Named, readBegun, readEnded, writeEnded, newLevels, named, accepts}
+use Rattle.fates.specs.Kinds.{Named, readBegun, cycleEnded, newLevels, named, accepts}
 use Rattle.fates.specs.Deeds.{offered, taken, ended, nothing, levelsOn, strobes, when, ownDeed, deedOf, deed}
 use Rattle.fates.specs.Promise.{aroundOf}
 use Rattle.fates.proofs.Tables.{own-same, line-same, strobes-same}
@@ -55,20 +55,10 @@ module _ (c : Core) (g : Group) where
       (goes (moves Input (channelOf c g Input) taken (strobedInput (c .word) g) (ownAddress x g)))
   begun ph Output x = rw (begun-output c x g) (rests Output)
 
-  read-ended : (ph : Phase) (s : Side) → After ph s readEnded (afterEndRead c ph)
-  read-ended Idle Input = rests Input
-  read-ended Idle Output = rests Output
-  read-ended (Reading p) Input =
-      rw (ended-input c p g, strobes-same (c .word) g Input, own-same p g)
-      (goes (moves Input (channelOf c g Input) ended (strobedInput (c .word) g) (ownAddress p g)))
-  read-ended (Reading p) Output = rw (ended-output c p g) (rests Output)
-  read-ended (Writing x d) Input = rests Input
-  read-ended (Writing x d) Output = rests Output
-
   -- The channel after the end of a write of d at the address x that is no mode word.
   abbrev AfterWrite : Side → ℕ → ℕ → Core → Type 0
   AfterWrite s x d c′ =
-      Goes (on s) (channelOf c′ g s) (moved s (channelOf c g s) (when (on s) (ownDeed g s (aroundOf (onBus (Writing x d) c)) writeEnded)))
+      Goes (on s) (channelOf c′ g s) (moved s (channelOf c g s) (when (on s) (ownDeed g s (aroundOf (onBus (Writing x d) c)) cycleEnded)))
 
   stored : (s : Side) (x d : ℕ) (c′ : Core) → Stored c′ c x d → AfterWrite s x d c′
   stored Input x d c′ k = rw (k .input g) (rests Input)
@@ -80,13 +70,16 @@ module _ (c : Core) (g : Group) where
   spared Input x d own c′ k = rw (spared-port k g) (rests Input)
   spared Output x d own c′ k = rw (spared-port k g, own-same x g, own) (rests Output)
 
-  write-ended : (ph : Phase) (s : Side) → After ph s writeEnded (afterEndWrite c ph)
-  write-ended Idle Input = rests Input
-  write-ended Idle Output = rests Output
-  write-ended (Reading p) Input = rests Input
-  write-ended (Reading p) Output = rests Output
-  write-ended (Writing x d) s =
-      by-address (After (Writing x d) s writeEnded) c x d
+  -- The end of a cycle, in each phase.
+  cycle-ended : (ph : Phase) (s : Side) → After ph s cycleEnded (afterEnd c ph)
+  cycle-ended Idle Input = rests Input
+  cycle-ended Idle Output = rests Output
+  cycle-ended (Reading p) Input =
+      rw (ended-input c p g, strobes-same (c .word) g Input, own-same p g)
+      (goes (moves Input (channelOf c g Input) ended (strobedInput (c .word) g) (ownAddress p g)))
+  cycle-ended (Reading p) Output = rw (ended-output c p g) (rests Output)
+  cycle-ended (Writing x d) s =
+      by-address (After (Writing x d) s cycleEnded) c x d
       (λ mode. rw (mode) (goes (renewed-channel c d g s)))
       (λ mode own c′ k. rw (mode) (spared s x d (own g) c′ k))
       (λ mode c′ k. rw (mode) (stored s x d c′ k))
@@ -117,11 +110,10 @@ module _ (c : Chip) (g : Group) (s : Side) where
       by-kind (λ k. Follows (event k x d))
       (λ ok. goes (renewed-channel (c .core) 0x9b g s))
       (λ ok. begun (c .core) g (c .phase) s x)
-      (λ ok. read-ended (c .core) g (c .phase) s)
+      (λ ok. cycle-ended (c .core) g (c .phase) s)
       (λ ok. rests (c .core) g s)
-      (λ ok. write-ended (c .core) g (c .phase) s)
       (λ ok. levels-set (c .core) g (c .phase) s x d)
-      (λ k above ok. absurd (no-kind-accepted (c .phase) k x d above ok))
+      (λ k none ok. absurd (no-kind-accepted (c .phase) k x d none ok))
       k
 
   abbrev channel : Channel

@@ -9,7 +9,7 @@ use Rattle.channel.specs.declared.Side.the-variants.{Input}
 use Rattle.chip.specs.declared.Phase.{Phase}
 use Rattle.chip.specs.declared.Phase.the-variants.{Idle, Reading, Writing}
 use Rattle.laws.specs.History.{Event}
-use Rattle.fates.specs.Kinds.{Named, reset, readBegun, readEnded, writeBegun, writeEnded, newLevels, unknown, named, accepts}
+use Rattle.fates.specs.Kinds.{Named, reset, readBegun, cycleEnded, writeBegun, newLevels, unknown, named, accepts}
 use Rattle.fates.specs.Around.{Around, ofModeWord, aroundAfter, aroundNext}
 use Rattle.fates.specs.Deeds.{Deed, offered, taken, ended, clearedAway, nothing, portNumber, levelsOn, strobes, readRuns, falls, when, deedOf, deed}
 use Rattle.fates.specs.Discipline.{strobedReadRuns}
@@ -66,13 +66,12 @@ module _ (g : Group) (w x y z : ℕ) where
   reads-on Idle (readBegun p) ok = begins on (eqb p (portNumber g))
   reads-on (Reading q) (readBegun p) ok = absurd (refused (ltb p 3) ok)
   reads-on (Writing q d) (readBegun p) ok = absurd (refused (ltb p 3) ok)
-  reads-on ph readEnded ok = ends on (readRuns g ph)
+  reads-on Idle cycleEnded ok = absurd (subst T (sym ok) tt)
+  reads-on (Reading q) cycleEnded ok = ends on (eqb q (portNumber g))
+  reads-on (Writing q d) cycleEnded ok = write-ends (ofModeWord (Writing q d)) on (strobes (cond (ofModeWord (Writing q d)) d w) g Input)
   reads-on Idle (writeBegun p u) ok = rests on
   reads-on (Reading q) (writeBegun p u) ok = absurd (refused (ltb p 4) ok)
   reads-on (Writing q d) (writeBegun p u) ok = absurd (refused (ltb p 4) ok)
-  reads-on Idle writeEnded ok = absurd (subst T (sym ok) tt)
-  reads-on (Reading q) writeEnded ok = absurd (subst T (sym ok) tt)
-  reads-on (Writing q d) writeEnded ok = write-ends (ofModeWord (Writing q d)) on (strobes (cond (ofModeWord (Writing q d)) d w) g Input)
   reads-on ph (newLevels p u) ok = strobe on (on && readRuns g ph) (falls g Input (around ph w x y z) p u) (levelsOn g (around ph w x y z))
   reads-on ph unknown ok = absurd (subst T (sym ok) tt)
 

@@ -17,7 +17,7 @@ use Rattle.channel.proofs.Left.{leaves}
 use Rattle.chip.specs.declared.Phase.{Phase}
 use Rattle.chip.specs.declared.Chip.{Chip}
 use Rattle.laws.specs.History.{Event}
-use Rattle.fates.specs.Kinds.{Named, reset, readBegun, readEnded, writeBegun, writeEnded, newLevels, unknown, named, accepts}
+use Rattle.fates.specs.Kinds.{Named, reset, readBegun, cycleEnded, writeBegun, newLevels, unknown, named, accepts}
 use Rattle.fates.specs.Around.{Around, wordAfter, aroundAfter}
 use Rattle.fates.specs.Deeds.{Deed, offered, taken, ended, clearedAway, nothing, strobes, when, ownDeed, clears, deedOf}
 use Rattle.fates.specs.Bytes.{Fate, handedOver, overwritten, swallowed, cleared, waiting, Offer, offeredAt, Byte, same}
@@ -32,9 +32,8 @@ use Rattle.fates.proofs.Shown.{WhereTaken, taken-shows}
 pub word-stays : (ph : Phase) (w : ℕ) (e : Named) → clears ph e ≡ false → wordAfter ph w e ≡ w
 word-stays ph w reset none = absurd (subst T none tt)
 word-stays ph w (readBegun x) none = refl
-word-stays ph w readEnded none = refl
+word-stays ph w cycleEnded none = rw (none)
 word-stays ph w (writeBegun x d) none = refl
-word-stays ph w writeEnded none = rw (none)
 word-stays ph w (newLevels x d) none = refl
 word-stays ph w unknown none = refl
 

@@ -88,9 +88,8 @@ module _ (c : Chip) (g : Group) where
       (λ ok on. under-condition _ (eqb x (portNumber g)) taken (begun-shows x d ok on))
       (λ ok on. never _ (readRuns g (c .phase)) ended tt)
       (λ ok on. tt)
-      (λ ok on. tt)
       (λ ok on. never _ (falls g Input (aroundOf c) x d) (offered (levelsOn g (aroundOf c))) tt)
-      (λ k above ok on. absurd (no-kind-accepted (c .phase) k x d above ok))
+      (λ k none ok on. absurd (no-kind-accepted (c .phase) k x d none ok))
       k
 
   -- An event that may take the byte leaves the latch.
@@ -138,11 +137,10 @@ module _ (c : Chip) (g : Group) where
       by-kind (λ k. Shown Output (event k x d))
       (λ ok on. tt)
       (λ ok on. tt)
-      (λ ok on. tt)
-      (λ ok on. tt)
       (λ ok on. never _ (writeRuns g (c .phase)) (offered (brought (c .phase))) tt)
+      (λ ok on. tt)
       (λ ok on. under-condition _ (falls g Output (aroundOf c) x d) taken (fall-shows x d ok on))
-      (λ k above ok on. absurd (no-kind-accepted (c .phase) k x d above ok))
+      (λ k none ok on. absurd (no-kind-accepted (c .phase) k x d none ok))
       k
 
   shown-own : (s : Side) (e : Event) → Shown s e

@@ -17,10 +17,10 @@ use Rattle.reads.proofs.After.{begun-around, ended-around}
 use Rattle.writes.proofs.After.{by-address}
 use Rattle.levels.specs.Levels.{levelled}
 use Rattle.levels.proofs.After.{levelled-word, levelled-ports, levelled-lines}
-use Rattle.step.specs.Step.{onBus, afterEndRead, afterEndWrite, afterOf}
+use Rattle.step.specs.Step.{onBus, afterEnd, afterOf}
 use Rattle.step.proofs.ByKind.{by-kind}
 use Rattle.laws.specs.History.{Event, event, stepped}
-use Rattle.fates.specs.Kinds.{writeEnded, newLevels, named, accepts}
+use Rattle.fates.specs.Kinds.{cycleEnded, newLevels, named, accepts}
 use Rattle.fates.specs.Around.{aroundAfter, aroundNext}
 use Rattle.fates.specs.Promise.{aroundOf}
 use Rattle.fates.proofs.Accepted.{no-kind-accepted, by-outcome}
@@ -35,16 +35,11 @@ around-renewed : (ph : Phase) (c : Core) (w : ℕ)
 around-renewed ph c w = rw (renewed-word c w, renewed-ports c w A, renewed-ports c w B, renewed-lines c w)
 
 module _ (c : Core) where
-  read-ended : (ph : Phase) → aroundOf (onBus Idle (afterEndRead c ph)) ≡ aroundOf (onBus Idle c)
-  read-ended Idle = refl
-  read-ended (Reading p) = around-like Idle (endedRead c p) c (ended-around c p)
-  read-ended (Writing x d) = refl
-
-  write-ended : (ph : Phase) → aroundOf (onBus Idle (afterEndWrite c ph)) ≡ aroundAfter (aroundOf (onBus ph c)) writeEnded
-  write-ended Idle = refl
-  write-ended (Reading p) = refl
-  write-ended (Writing x d) =
-      by-address (λ c′. aroundOf (onBus Idle c′) ≡ aroundAfter (aroundOf (onBus (Writing x d) c)) writeEnded) c x d
+  cycle-ended : (ph : Phase) → aroundOf (onBus Idle (afterEnd c ph)) ≡ aroundAfter (aroundOf (onBus ph c)) cycleEnded
+  cycle-ended Idle = refl
+  cycle-ended (Reading p) = around-like Idle (endedRead c p) c (ended-around c p)
+  cycle-ended (Writing x d) =
+      by-address (λ c′. aroundOf (onBus Idle c′) ≡ aroundAfter (aroundOf (onBus (Writing x d) c)) cycleEnded) c x d
       (λ mode. rw (mode) (around-renewed Idle c d))
       (λ mode own c′ k. rw (mode) (around-like Idle c′ c (spared-around k)))
       (λ mode c′ k. rw (mode) (around-like Idle c′ c (k .around)))
@@ -61,11 +56,10 @@ module _ (c : Chip) where
       by-kind (λ k. Surrounds (event k x d))
       (λ ok. around-renewed Idle (c .core) 0x9b)
       (λ ok. around-like (Reading x) (begunRead (c .core) x) (c .core) (begun-around (c .core) x))
-      (λ ok. read-ended (c .core) (c .phase))
+      (λ ok. cycle-ended (c .core) (c .phase))
       (λ ok. refl)
-      (λ ok. write-ended (c .core) (c .phase))
       (λ ok. levels-set (c .core) (c .phase) x d)
-      (λ k above ok. absurd (no-kind-accepted (c .phase) k x d above ok))
+      (λ k none ok. absurd (no-kind-accepted (c .phase) k x d none ok))
       k
 
   -- After any event, accepted or refused.

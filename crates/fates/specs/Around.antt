@@ -7,7 +7,7 @@ use Rattle.chip.specs.declared.Phase.{Phase}
 use Rattle.chip.specs.declared.Phase.the-variants.{Idle, Reading, Writing}
 use Rattle.chip.specs.declared.Levels.{Levels}
 use Rattle.laws.specs.History.{Event}
-use Rattle.fates.specs.Kinds.{Named, reset, readEnded, writeEnded, unknown, readBegun, writeBegun, newLevels, named, accepts}
+use Rattle.fates.specs.Kinds.{Named, reset, cycleEnded, unknown, readBegun, writeBegun, newLevels, named, accepts}
 
 -- The phase, the mode word in force, and the levels on ports A, B and C.
 pub record Around : Type 0 where
@@ -37,19 +37,17 @@ brought (Writing x d) = d
 abbrev pub phaseAfter : Phase → Named → Phase
 phaseAfter ph reset = Idle
 phaseAfter ph (readBegun x) = Reading x
-phaseAfter ph readEnded = Idle
+phaseAfter ph cycleEnded = Idle
 phaseAfter ph (writeBegun x d) = Writing x d
-phaseAfter ph writeEnded = Idle
 phaseAfter ph (newLevels x d) = ph
 phaseAfter ph unknown = ph
 
--- A mode word comes into force at the end of its write, and a reset brings back 9B.
+-- A mode word comes into force where the cycle that ends is its write, and a reset brings back 9B.
 abbrev pub wordAfter : Phase → ℕ → Named → ℕ
 wordAfter ph w reset = 0x9b
 wordAfter ph w (readBegun x) = w
-wordAfter ph w readEnded = w
+wordAfter ph w cycleEnded = cond (ofModeWord ph) (brought ph) w
 wordAfter ph w (writeBegun x d) = w
-wordAfter ph w writeEnded = cond (ofModeWord ph) (brought ph) w
 wordAfter ph w (newLevels x d) = w
 wordAfter ph w unknown = w
 
@@ -57,9 +55,8 @@ wordAfter ph w unknown = w
 abbrev pub levelsAfter : ℕ → ℕ → Named → ℕ
 levelsAfter p l reset = l
 levelsAfter p l (readBegun x) = l
-levelsAfter p l readEnded = l
+levelsAfter p l cycleEnded = l
 levelsAfter p l (writeBegun x d) = l
-levelsAfter p l writeEnded = l
 levelsAfter p l (newLevels x d) = cond (eqb x p) d l
 levelsAfter p l unknown = l
 

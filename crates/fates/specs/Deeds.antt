@@ -12,7 +12,7 @@ use Rattle.channel.specs.declared.Side.the-variants.{Input, Output}
 use Rattle.chip.specs.declared.Phase.{Phase}
 use Rattle.chip.specs.declared.Phase.the-variants.{Idle, Reading, Writing}
 use Rattle.laws.specs.History.{Event}
-use Rattle.fates.specs.Kinds.{Named, reset, readEnded, writeEnded, unknown, readBegun, writeBegun, newLevels, named, accepts}
+use Rattle.fates.specs.Kinds.{Named, reset, cycleEnded, unknown, readBegun, writeBegun, newLevels, named, accepts}
 use Rattle.fates.specs.Around.{Around, ofModeWord, brought, aroundNext}
 
 -- What an event can be to a channel. `offered v`: the byte v comes in by STB, or is written. `taken`: a read of the port begins, or ACK
@@ -80,27 +80,25 @@ falls g s a x d = eqb x 2 && (bitOf (a .levelsC) (strobePin g s) && not (bitOf d
 abbrev pub when : Bool → Deed → Deed
 when holds d = cond holds d nothing
 
--- What an accepted event is to a strobed channel ("Handshake").
+-- What an accepted event is to a strobed channel ("Handshake"). The end of a cycle is what the phase makes of it: to an input it ends the
+-- read of its port, where that runs; to an output it offers the byte written to its port, where that write runs.
 abbrev pub ownDeed : Group → Side → Around → Named → Deed
 ownDeed g s a reset = nothing
 ownDeed g Input a (readBegun x) = when (eqb x (portNumber g)) taken
 ownDeed g Output a (readBegun x) = nothing
-ownDeed g Input a readEnded = when (readRuns g (a .phase)) ended
-ownDeed g Output a readEnded = nothing
+ownDeed g Input a cycleEnded = when (readRuns g (a .phase)) ended
+ownDeed g Output a cycleEnded = when (writeRuns g (a .phase)) (offered (brought (a .phase)))
 ownDeed g s a (writeBegun x d) = nothing
-ownDeed g Input a writeEnded = nothing
-ownDeed g Output a writeEnded = when (writeRuns g (a .phase)) (offered (brought (a .phase)))
 ownDeed g Input a (newLevels x d) = when (falls g Input a x d) (offered (levelsOn g a))
 ownDeed g Output a (newLevels x d) = when (falls g Output a x d) taken
 ownDeed g s a unknown = nothing
 
--- A reset wipes every channel, in whatever mode, and so does a mode word as its write ends ("State", "Mode words").
+-- A reset wipes every channel, in whatever mode, and so does the end of a mode word's write ("State", "Mode words").
 abbrev pub clears : Phase → Named → Bool
 clears ph reset = true
 clears ph (readBegun x) = false
-clears ph readEnded = false
+clears ph cycleEnded = ofModeWord ph
 clears ph (writeBegun x d) = false
-clears ph writeEnded = ofModeWord ph
 clears ph (newLevels x d) = false
 clears ph unknown = false
 

@@ -9,7 +9,7 @@ use Rattle.channel.specs.declared.Tally.{Tally}
 use Rattle.chip.specs.declared.Levels.{Levels}
 use Rattle.chip.specs.State.{allLow, allHigh}
 use Rattle.ports.specs.declared.Pins.{Pins}
-use Rattle.laws.specs.History.{Event, event, write, levels, beginRead, endRead, strobe}
+use Rattle.laws.specs.History.{Event, event, write, levels, beginRead, endCycle, strobe}
 use Rattle.laws.specs.Marked.{P13}
 use Rattle.fates.specs.Bytes.{Fate, handedOver, overwritten, swallowed, cleared, waiting, Byte, offeredAt, decidedAt, bytesOf}
 
@@ -36,15 +36,15 @@ v at n is f at m = record { offer = offeredAt n v; outcome = decidedAt m f }
 
 -- Last season's bale: a digit is strobed in and its read begins; the next digit comes before the read has ended, and is lost.
 abbrev pub lostBale : List Event
-lostBale = write 3 0xb0 ++ strobe 0x41 ++ beginRead 0 ++ strobe 0x42 ++ endRead
+lostBale = write 3 0xb0 ++ strobe 0x41 ++ beginRead 0 ++ strobe 0x42 ++ endCycle
 
 -- A scale and a program that mind IBF: each digit is read, to the end of the read, before the next one comes.
 abbrev pub twoDigits : List Event
-twoDigits = write 3 0xb0 ++ strobe 0x41 ++ beginRead 0 ++ endRead ++ strobe 0x42 ++ beginRead 0 ++ endRead
+twoDigits = write 3 0xb0 ++ strobe 0x41 ++ beginRead 0 ++ endCycle ++ strobe 0x42 ++ beginRead 0 ++ endCycle
 
 -- Port A in mode 2: a byte in by STB and read, then a byte written, which ACK takes out.
 abbrev pub inAndWritten : List Event
-inAndWritten = write 3 0xc0 ++ strobe 0x41 ++ beginRead 0 ++ endRead ++ write 0 0x55
+inAndWritten = write 3 0xc0 ++ strobe 0x41 ++ beginRead 0 ++ endCycle ++ write 0 0x55
 
 abbrev pub bothWays : List Event
 bothWays = inAndWritten ++ levels 2 0xbf
@@ -60,12 +60,14 @@ printer = write 3 0x94 ++ write 1 0x33 ++ write 1 0x34 ++ levels 2 0xfb ++ write
 
 -- Port A in mode 0, where pin 4 of port C is no STB: levels, a fall and a read.
 abbrev pub plain : List Event
-plain = write 3 0x9b ++ strobe 0x41 ++ beginRead 0 ++ endRead
+plain = write 3 0x9b ++ strobe 0x41 ++ beginRead 0 ++ endCycle
 
--- A byte waits on port B, and nothing that follows is for it: a read of port A, another begun meanwhile and so refused, a read of
--- control, which is refused too, and a kind that there is not.
+-- A byte waits on port B, and nothing that follows is for it: a read of port A; another begun meanwhile, which is refused; a write to
+-- port B, which is an input and keeps nothing; and a read of control and two numbers that are no kinds, all refused.
 abbrev pub notForIt : List Event
-notForIt = write 3 0x96 ++ levels 1 0x41 ++ levels 2 0xfb ++ beginRead 0 ++ beginRead 1 ++ endRead ++ beginRead 3 ++ (event 9 1 0 ∷ [])
+notForIt =
+    write 3 0x96 ++ levels 1 0x41 ++ levels 2 0xfb ++ beginRead 0 ++ beginRead 1 ++ endCycle ++ write 1 0x42 ++ beginRead 3
+    ++ (event 4 1 0 ∷ event 9 1 0 ∷ [])
 
 -- A scale on a backplane that pulls its lines down: STB is low from the start, and stays so at the fourth event. The digit comes in when
 -- STB, once raised, falls.
@@ -84,7 +86,7 @@ examples =
     ∷ example allHigh sameWordAgain A Input (0x41 at 4 is cleared at 7 ∷ [])
     ∷ example allHigh printer B Output (0x33 at 4 is overwritten at 6 ∷ 0x34 at 6 is handedOver at 7 ∷ 0x35 at 9 is cleared at 10 ∷ [])
     ∷ example allHigh plain A Input []
-    ∷ example allHigh notForIt B Input (0x41 at 4 is waiting at 10 ∷ [])
+    ∷ example allHigh notForIt B Input (0x41 at 4 is waiting at 13 ∷ [])
     ∷ example allLow raisedFirst A Input (0x41 at 6 is handedOver at 7 ∷ [])
     ∷ []
 

@@ -1,6 +1,6 @@
 -- Events by name, and which of them are accepted ("Events and numbers"), in the history's own words: the step has its rule as a table
 -- of refusals.
-use mathlib.Core.Bool.{Bool, true, false, _&&_}
+use mathlib.Core.Bool.{Bool, true, false, not, _&&_}
 use mathlib.Core.List.{List, [], _∷_}
 use Prim.Native.Nat.{ℕ}
 use lib.Dec.{ltb}
@@ -9,15 +9,15 @@ use Rattle.chip.specs.declared.Phase.{Phase}
 use Rattle.chip.specs.declared.Phase.the-variants.{Idle, Reading, Writing}
 use Rattle.laws.specs.History.{Event}
 
--- The six kinds, each with the operands that it has, and what is none of them.
+-- The five kinds, each with the operands that it has, and what is none of them.
 pub data Named : Type 0 where
-  reset readEnded writeEnded unknown : Named
+  reset cycleEnded unknown : Named
   readBegun : ℕ → Named
   writeBegun newLevels : ℕ → ℕ → Named
 
--- The kinds in the order of their numbers, 00 to 05, with the operands x and d.
+-- What the numbers 00 to 05 name, in their order, with the operands x and d; 04 names no kind.
 abbrev pub kinds : ℕ → ℕ → List Named
-kinds x d = reset ∷ readBegun x ∷ readEnded ∷ writeBegun x d ∷ writeEnded ∷ newLevels x d ∷ []
+kinds x d = reset ∷ readBegun x ∷ cycleEnded ∷ writeBegun x d ∷ unknown ∷ newLevels x d ∷ []
 
 -- An event by name.
 abbrev pub named : Event → Named
@@ -29,25 +29,12 @@ free Idle = true
 free (Reading p) = false
 free (Writing a d) = false
 
--- A read runs.
-abbrev pub inRead : Phase → Bool
-inRead Idle = false
-inRead (Reading p) = true
-inRead (Writing a d) = false
-
--- A write runs.
-abbrev pub inWrite : Phase → Bool
-inWrite Idle = false
-inWrite (Reading p) = false
-inWrite (Writing a d) = true
-
 -- A reset is always accepted, and levels on any of the three ports. A cycle begins on a free bus, a read at one of the three ports and
--- a write there or at control; it ends by its own end.
+-- a write there or at control; either ends by the one end, which is accepted whenever one runs.
 abbrev pub accepts : Phase → Named → Bool
 accepts ph reset = true
 accepts ph (readBegun x) = ltb x 3 && free ph
-accepts ph readEnded = inRead ph
+accepts ph cycleEnded = not (free ph)
 accepts ph (writeBegun x d) = ltb x 4 && free ph
-accepts ph writeEnded = inWrite ph
 accepts ph (newLevels x d) = ltb x 3
 accepts ph unknown = false

@@ -6,15 +6,14 @@ use Prim.Native.Nat.{ℕ}
 use lib.Dec.{eqb}
 use Rattle.bits.specs.Bit.{bitOf}
 use Rattle.laws.specs.History.{Event}
-use Rattle.fates.specs.Kinds.{Named, reset, readEnded, writeEnded, unknown, readBegun, writeBegun, newLevels, named}
+use Rattle.fates.specs.Kinds.{Named, reset, cycleEnded, unknown, readBegun, writeBegun, newLevels, named}
 
 -- An event puts pin n of port C high: levels on that port do, where they have that bit.
 abbrev pub raises : ℕ → Named → Bool
 raises n reset = false
 raises n (readBegun x) = false
-raises n readEnded = false
+raises n cycleEnded = false
 raises n (writeBegun x d) = false
-raises n writeEnded = false
 raises n (newLevels x d) = eqb x 2 && bitOf d n
 raises n unknown = false
 

@@ -1,2 +1,3 @@
+pub mod KindLaws
 pub mod Leading
 pub mod Written

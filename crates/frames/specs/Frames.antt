@@ -7,6 +7,7 @@ use lib.ListN.{length, drop}
 use Rattle.frames.specs.declared.Frame.{Frame}
 use Rattle.frames.specs.declared.Frame.the-variants.{Event, NoFrame}
 use Rattle.frames.specs.Digits.{pairValue}
+use Rattle.frames.specs.Kinds.{isKind, operandsOf}
 
 -- The byte that a text begins with: of its first two codes; 256 where there is but one, and 0 where there is none.
 unfoldable pub leadingByte : List ℕ → ℕ
@@ -24,14 +25,10 @@ firstIn line = leadingByte (drop 2 line)
 abbrev pub secondIn : List ℕ → ℕ
 secondIn line = leadingByte (drop 4 line)
 
--- How many operands a kind has ("Events and numbers"): 01 an address; 03 an address and a byte; 05 a port and levels.
-unfoldable pub operandsOf : ℕ → ℕ
-operandsOf kind = cond (eqb kind 1) 1 (cond (eqb kind 3) 2 (cond (eqb kind 5) 2 0))
-
 -- A line, without its LF, is a frame where it is a kind and exactly its operands, each of them two digits.
 unfoldable pub isFrame : List ℕ → Bool
 isFrame line =
-    ltb (kindIn line) 6 && eqb (length line) (2 + 2 * operandsOf (kindIn line)) && ltb (firstIn line) 256 && ltb (secondIn line) 256
+    isKind (kindIn line) && eqb (length line) (2 + 2 * operandsOf (kindIn line)) && ltb (firstIn line) 256 && ltb (secondIn line) 256
 
 -- What a line says: an event, whose operands are 0 where its kind has none; or nothing, where it is no frame.
 unfoldable pub frameOf : List ℕ → Frame

@@ -2,7 +2,8 @@
 ghost use mathlib.Core.Path.{_≡_};
 ghost use Prim.Native.Nat.{_+_, _*_};
 ghost use lib.ListN.{drop};
-ghost use Rattle.frames.specs.Frames.{leadingByte, operandsOf, frameOf};
+ghost use Rattle.frames.specs.Kinds.{isKind, operandsOf};
+ghost use Rattle.frames.specs.Frames.{leadingByte, frameOf};
 use super::Frame;
 use super::digits;
 
@@ -17,6 +18,13 @@ fn byte_at(line: &[u8], at: usize) -> u16
         return 256;
     }
     digits::pair(line[at], line[at + 1])
+}
+
+// Whether there is such a kind.
+fn known(kind: u16) -> bool
+    ensures { λ r. ⌜ r ≡ isKind kind ⌝ }
+{
+    (kind < 4) | (kind == 5)
 }
 
 // How long a frame of the kind is.
@@ -39,7 +47,7 @@ pub fn frame(line: &[u8]) -> Frame
     let first = byte_at(line, 2);
     let second = byte_at(line, 4);
     let exact = line.len() == length(kind);
-    if (kind < 6) & exact & (first < 256) & (second < 256) {
+    if known(kind) & exact & (first < 256) & (second < 256) {
         return Frame::Event(kind as u8, first as u8, second as u8);
     }
     Frame::NoFrame

@@ -3,7 +3,7 @@
 ghost use mathlib.Core.Path.{_≡_};
 ghost use mathlib.Core.Bool.{true};
 ghost use Rattle.ports.specs.Reads.{readOf};
-ghost use Rattle.step.specs.Step.{reset, readBegun, readEnded, writeBegun, writeEnded, levelsPut, afterOf, byteGiven};
+ghost use Rattle.step.specs.Step.{reset, readBegun, cycleEnded, writeBegun, levelsPut, afterOf, byteGiven};
 ghost use Rattle.image.specs.Layout.{imageOf};
 ghost use Rattle.image.specs.Restored.{stateOf};
 ghost use Rattle.image.specs.Good.{isImage};
@@ -27,12 +27,12 @@ fn begin_read(image: &mut [u8], port: u8) -> u8
     ports::read::value(chip, port)
 }
 
-fn end_read(image: &mut [u8])
+fn end_cycle(image: &mut [u8])
     requires { ⌜ isImage (now image) ≡ true ⌝ }
-    ensures { λ _. ⌜ now (image .exit) ≡ imageOf (readEnded (stateOf (now (image .entry)))) ⌝ }
+    ensures { λ _. ⌜ now (image .exit) ≡ imageOf (cycleEnded (stateOf (now (image .entry)))) ⌝ }
 {
     let chip = told::state(image);
-    image::save(image, step::kinds::end_read(chip));
+    image::save(image, step::kinds::end_cycle(chip));
 }
 
 fn begin_write(image: &mut [u8], address: u8, byte: u8)
@@ -41,14 +41,6 @@ fn begin_write(image: &mut [u8], address: u8, byte: u8)
 {
     let chip = told::state(image);
     image::save(image, step::kinds::begin_write(chip, address, byte));
-}
-
-fn end_write(image: &mut [u8])
-    requires { ⌜ isImage (now image) ≡ true ⌝ }
-    ensures { λ _. ⌜ now (image .exit) ≡ imageOf (writeEnded (stateOf (now (image .entry)))) ⌝ }
-{
-    let chip = told::state(image);
-    image::save(image, step::kinds::end_write(chip));
 }
 
 fn levels(image: &mut [u8], port: u8, levels: u8)
@@ -72,15 +64,11 @@ pub(super) fn accept(image: &mut [u8], kind: u8, first: u8, second: u8) -> u8
         }
         1 => begin_read(image, first),
         2 => {
-            end_read(image);
+            end_cycle(image);
             0
         }
         3 => {
             begin_write(image, first, second);
-            0
-        }
-        4 => {
-            end_write(image);
             0
         }
         _ => {

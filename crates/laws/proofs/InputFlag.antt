@@ -2,10 +2,9 @@
 -- Rests on FlagAfter, Refusals, ChannelPins, the channel's Left, reads' After, levels' After, and the step's ByKind, Ends and
 -- Outcome.
 use mathlib.Core.Path.{_≡_, _∙_, refl, sym}
-use mathlib.Core.Bool.{true, false, not, _&&_}
+use mathlib.Core.Bool.{true, false, _&&_}
 use Prim.Native.Nat.{ℕ}
 use lib.Dec.{eqb}
-use borrow.Author.Tests.{lt-ltb}
 use Rattle.bits.specs.Bit.{bitOf}
 use Rattle.control.specs.declared.Group.{Group}
 use Rattle.control.specs.Mode.{strobedInput}
@@ -27,7 +26,7 @@ use Rattle.reads.specs.Read.{begunRead, endedRead}
 use Rattle.reads.proofs.After.{begun-input, begun-around, ended-input, ended-around}
 use Rattle.levels.specs.Levels.{lineFalls, levelled}
 use Rattle.levels.proofs.After.{levelled-input, levelled-word}
-use Rattle.step.specs.Numbers.{isBusy, isWriting}
+use Rattle.step.specs.Numbers.{isBusy}
 use Rattle.step.specs.Step.{stepOf}
 use Rattle.step.proofs.ByKind.{by-kind}
 use Rattle.step.proofs.Ends.{read-ends}
@@ -76,11 +75,6 @@ reading-is-busy Idle g r = r
 reading-is-busy (Reading p) g r = refl
 reading-is-busy (Writing a d) g r = refl
 
-reading-is-no-write : (ph : Phase) (g : Group) → reading ph g ≡ true → not (isWriting ph) ≡ true
-reading-is-no-write Idle g r = refl
-reading-is-no-write (Reading p) g r = refl
-reading-is-no-write (Writing a d) g r = r
-
 module _ (c : Chip) (g : Group) (on : strobed (c .core .word) g Input ≡ true) where
   -- The fall of STB sets IBF.
   pub strobe-sets-ibf : (d : ℕ) → pin c (lineOf g Input) ≡ true → bitOf d (lineOf g Input) ≡ false → pin (stepOf c 5 2 d .chip) (flagPin g Input) ≡ true
@@ -109,9 +103,8 @@ module _ (c : Chip) (g : Group) (on : strobed (c .core .word) g Input ≡ true) 
       (λ reset end. begin-keeps-ibf x d set)
       (λ reset end. absurd (end refl))
       (λ reset end. rw (step-refuses c 3 x d (row-refuses (c .phase) 3 x 3 (reading-is-busy (c .phase) g r))) (set))
-      (λ reset end. rw (step-refuses c 4 x d (row-refuses (c .phase) 4 x 4 (reading-is-no-write (c .phase) g r))) (set))
       (λ reset end. levels-keep-ibf x d set)
-      (λ k above reset end. rw (step-refuses c k x d (row-refuses (c .phase) k x 0 (lt-ltb 5 k above))) (set))
+      (λ k none reset end. rw (step-refuses c k x d (row-refuses (c .phase) k x 0 none)) (set))
       k
 
   -- The end of the read resets IBF.

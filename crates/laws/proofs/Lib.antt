@@ -1,5 +1,6 @@
 pub mod Refusals
 pub mod ChannelPins
+pub mod OneEnd
 pub mod Interrupts
 pub mod FlagAfter
 pub mod InputFlag

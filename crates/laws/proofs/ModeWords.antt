@@ -73,13 +73,13 @@ unfolding written
 mode-write c w set = mode-word c w set
 
 pub mode-word-renews : (c : Chip) (w x d : ℕ) → c .phase ≡ Writing 3 w → bitOf w 7 ≡ true
-    → Obeyed c w (stepOf c 4 x d .chip) (stepOf c 4 x d .number) (stepOf c 4 x d .byte)
+    → Obeyed c w (stepOf c 2 x d .chip) (stepOf c 2 x d .number) (stepOf c 2 x d .byte)
 mode-word-renews c w x d phase set =
     rw (write-ends c 3 w x d phase, mode-write (c .core) w set) (record { idle = refl; core = anew (c .core) w; taken = refl; silent = refl })
 
 -- The same word again.
 pub same-word-renews : (c : Chip) (x d : ℕ) → c .phase ≡ Writing 3 (c .core .word) → bitOf (c .core .word) 7 ≡ true
-    → Anew (c .core) (c .core .word) (stepOf c 4 x d .chip .core)
+    → Anew (c .core) (c .core .word) (stepOf c 2 x d .chip .core)
 same-word-renews c x d phase set = mode-word-renews c (c .core .word) x d phase set .core
 
 -- A reset, in any phase.

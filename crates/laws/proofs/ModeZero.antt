@@ -56,7 +56,7 @@ stored-latch c a b g own zero out =
 
 pub output-shows : (c : Chip) (g : Group) (a b x d : ℕ) → c .phase ≡ Writing a b → ownAddress a g ≡ true
     → modeOf (c .core .word) g ≡ 0 → inputOf (c .core .word) g ≡ false
-    → pinsOf (stepOf c 4 x d .chip) a ≡ record { levels = b; driven = 0xff }
+    → pinsOf (stepOf c 2 x d .chip) a ≡ record { levels = b; driven = 0xff }
 output-shows c g a b x d phase own zero out =
     let same = own-stored (c .core) a b g own .around .word in
     rw (write-ends c a b x d phase)

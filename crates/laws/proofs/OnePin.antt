@@ -141,6 +141,6 @@ set-word c d clear = bit-word c d clear
 
 -- The end of a write of a control word with bit 7 clear.
 pub bit-set-changes-one : (c : Chip) (b x d : ℕ) → c .phase ≡ Writing 3 b → bitOf b 7 ≡ false
-    → OnePin (c .core) (b / 2 % 8) (bitOf b 0) (roleOf (c .core .word) (b / 2 % 8)) (stepOf c 4 x d .chip .core)
+    → OnePin (c .core) (b / 2 % 8) (bitOf b 0) (roleOf (c .core .word) (b / 2 % 8)) (stepOf c 2 x d .chip .core)
 bit-set-changes-one c b x d phase clear =
     rw (write-ends c 3 b x d phase, set-word (c .core) b clear) (one-pin (c .core) (b / 2 % 8) (bitOf b 0) (omega arith))

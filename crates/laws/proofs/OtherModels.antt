@@ -51,7 +51,7 @@ upper-stays w x d n mode above below =
     go false = refl
 
 pub write-leaves-upper : (c : Chip) (b x d n : ℕ) → c .phase ≡ Writing 2 b → ¬ (modeOf (c .core .word) A ≡ 0) → 4 ≤ n → n < 8
-    → bitOf (stepOf c 4 x d .chip .core .c .latch) n ≡ bitOf (c .core .c .latch) n
+    → bitOf (stepOf c 2 x d .chip .core .c .latch) n ≡ bitOf (c .core .c .latch) n
 unfolding written
 write-leaves-upper c b x d n phase mode above below =
     rw (write-ends c 2 b x d phase) (upper-stays (c .core .word) (c .core .c .latch) b n mode above below)
@@ -77,7 +77,7 @@ level-same c b x n STB phase same = refl
 level-same c b x n ACK phase same = refl
 
 pub write-leaves-upper-pins : (c : Chip) (b x d n : ℕ) → c .phase ≡ Writing 2 b → ¬ (modeOf (c .core .word) A ≡ 0) → 4 ≤ n → n < 8
-    → pin (stepOf c 4 x d .chip) n ≡ pin c n
+    → pin (stepOf c 2 x d .chip) n ≡ pin c n
 unfolding written
 write-leaves-upper-pins c b x d n phase mode above below =
     let latch = latchWritten (c .core .word) (c .core .c .latch) b in

@@ -5,7 +5,7 @@ use mathlib.Core.Path.{_≡_, _∙_, refl, ap, sym, subst}
 use mathlib.Core.Bool.{Bool, true, false, cond, not, _&&_}
 use Prim.Native.Nat.{ℕ}
 use lib.Dec.{T, eqb}
-use borrow.Author.Tests.{lt-ltb, eqb-true}
+use borrow.Author.Tests.{eqb-true}
 use Rattle.bits.specs.Bit.{bitOf}
 use Rattle.control.specs.declared.Group.{Group}
 use Rattle.control.specs.Mode.{strobedOutput, outputOf}
@@ -17,8 +17,7 @@ use Rattle.channel.specs.declared.Channel.{Channel}
 use Rattle.channel.specs.Channel.{flagOf}
 use Rattle.channel.specs.Moves.{afterHandOver}
 use Rattle.channel.proofs.Left.{leaves, offer-waits, hand-over-leaves}
-use Rattle.chip.specs.declared.Phase.{Phase}
-use Rattle.chip.specs.declared.Phase.the-variants.{Idle, Reading, Writing}
+use Rattle.chip.specs.declared.Phase.the-variants.{Writing}
 use Rattle.chip.specs.declared.Core.{Core}
 use Rattle.chip.specs.declared.Chip.{Chip}
 use Rattle.chip.specs.State.{channelOf}
@@ -33,7 +32,7 @@ use Rattle.levels.specs.Levels.{lineFalls, levelled}
 use Rattle.levels.proofs.After.{levelled-output, levelled-word}
 use Rattle.step.specs.Step.{stepOf}
 use Rattle.step.proofs.ByKind.{by-kind}
-use Rattle.step.proofs.Ends.{read-ends, write-ends}
+use Rattle.step.proofs.Ends.{write-ends, by-phase}
 use Rattle.step.proofs.Outcome.{step-accepts, step-refuses, step-either}
 use Rattle.laws.specs.Seen.{pin, flagPin, makesAnew}
 use Rattle.laws.proofs.Refusals.{row-refuses}
@@ -96,7 +95,7 @@ low-written c a b g other low =
 
 module _ (c : Chip) (g : Group) (on : strobed (c .core .word) g Output ≡ true) where
   -- The end of the write lowers OBF.
-  pub end-lowers-obf : (a b x d : ℕ) → c .phase ≡ Writing a b → ownAddress a g ≡ true → pin (stepOf c 4 x d .chip) (flagPin g Output) ≡ false
+  pub end-lowers-obf : (a b x d : ℕ) → c .phase ≡ Writing a b → ownAddress a g ≡ true → pin (stepOf c 2 x d .chip) (flagPin g Output) ≡ false
   end-lowers-obf a b x d phase own =
       rw (write-ends c a b x d phase) (flag-under c _ g Output on (own-stored (c .core) a b g own .around .word) ∙ write-lowers (c .core) a b g on own)
 
@@ -112,36 +111,29 @@ module _ (c : Chip) (g : Group) (on : strobed (c .core .word) g Output ≡ true)
   low-there : (c′ : Chip) → c′ .core .word ≡ c .core .word → flagAt (c′ .core) g Output ≡ false → pin c′ (flagPin g Output) ≡ false
   low-there c′ same low = flag-under c c′ g Output on same ∙ low
 
-  low-after-write : (ph : Phase) → c .phase ≡ ph → makesAnew ph ≡ false → pin c (flagPin g Output) ≡ false
-      → (x d : ℕ) → pin (stepOf c 4 x d .chip) (flagPin g Output) ≡ false
-  low-after-write Idle phase other low x d = rw (step-refuses c 4 x d (row-refuses (c .phase) 4 x 4 (rw (phase)))) (low)
-  low-after-write (Reading p) phase other low x d = rw (step-refuses c 4 x d (row-refuses (c .phase) 4 x 4 (rw (phase)))) (low)
-  low-after-write (Writing a b) phase other low x d =
-      let after = low-written (c .core) a b g other (low-here low) in
-      rw (write-ends c a b x d phase) (low-there _ (after .0) (after .1))
+  abbrev Still : Chip → Type 0
+  Still c′ = pin c′ (flagPin g Output) ≡ false
+
+  low-after-end : makesAnew (c .phase) ≡ false → Still c → (x d : ℕ) → Still (stepOf c 2 x d .chip)
+  low-after-end other low x d =
+      by-phase Still c x d
+      (λ phase. low)
+      (λ p phase. low-there _ (ended-around (c .core) p .word) (low-ended (c .core) p g (low-here low)))
+      (λ a b phase. let after = low-written (c .core) a b g (ap makesAnew (sym phase) ∙ other) (low-here low) in low-there _ (after .0) (after .1))
 
   -- Between the two, OBF stays low through every event but a reset and a mode word.
-  pub obf-held : pin c (flagPin g Output) ≡ false → (k x d : ℕ)
-      → ¬ (k ≡ 0) → (k ≡ 4 → makesAnew (c .phase) ≡ false) → (k ≡ 5 → x ≡ 2 → (pin c (lineOf g Output) && not (bitOf d (lineOf g Output))) ≡ false)
-      → pin (stepOf c k x d .chip) (flagPin g Output) ≡ false
+  pub obf-held : Still c → (k x d : ℕ)
+      → ¬ (k ≡ 0) → (k ≡ 2 → makesAnew (c .phase) ≡ false) → (k ≡ 5 → x ≡ 2 → (pin c (lineOf g Output) && not (bitOf d (lineOf g Output))) ≡ false)
+      → Still (stepOf c k x d .chip)
   obf-held low k x d =
       by-kind
-      (λ k. ¬ (k ≡ 0) → (k ≡ 4 → makesAnew (c .phase) ≡ false) → (k ≡ 5 → x ≡ 2 → (pin c (lineOf g Output) && not (bitOf d (lineOf g Output))) ≡ false)
-      → pin (stepOf c k x d .chip) (flagPin g Output) ≡ false)
+      (λ k. ¬ (k ≡ 0) → (k ≡ 2 → makesAnew (c .phase) ≡ false) → (k ≡ 5 → x ≡ 2 → (pin c (lineOf g Output) && not (bitOf d (lineOf g Output))) ≡ false)
+      → Still (stepOf c k x d .chip))
       (λ reset renewal fall. absurd (reset refl))
       (λ reset renewal fall. step-either Still c 1 x d low (λ ok. low-there _ (begun-around (c .core) x .word) (low-begun (c .core) x g (low-here low))))
-      (λ reset renewal fall. low-after-read (c .phase) refl)
+      (λ reset renewal fall. low-after-end (renewal refl) low x d)
       (λ reset renewal fall. step-either Still c 3 x d low (λ ok. low-there _ refl (low-here low)))
-      (λ reset renewal fall. low-after-write (c .phase) refl (renewal refl) low x d)
       (λ reset renewal fall. step-either Still c 5 x d low
       (λ ok. low-there _ (levelled-word (c .core) x d) (low-levelled (c .core) x d g (λ two. line-stays c g Output d on (fall refl two)) (low-here low))))
-      (λ k above reset renewal fall. rw (step-refuses c k x d (row-refuses (c .phase) k x 0 (lt-ltb 5 k above))) (low))
+      (λ k none reset renewal fall. rw (step-refuses c k x d (row-refuses (c .phase) k x 0 none)) (low))
       k
-    where
-      Still : Chip → Type 0
-      Still c′ = pin c′ (flagPin g Output) ≡ false
-
-      low-after-read : (ph : Phase) → c .phase ≡ ph → pin (stepOf c 2 x d .chip) (flagPin g Output) ≡ false
-      low-after-read Idle phase = rw (step-refuses c 2 x d (row-refuses (c .phase) 2 x 4 (rw (phase)))) (low)
-      low-after-read (Reading p) phase = rw (read-ends c p x d phase) (low-there _ (ended-around (c .core) p .word) (low-ended (c .core) p g (low-here low)))
-      low-after-read (Writing a b) phase = rw (step-refuses c 2 x d (row-refuses (c .phase) 2 x 4 (rw (phase)))) (low)

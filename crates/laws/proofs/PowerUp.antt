@@ -73,4 +73,4 @@ pub starts : (l : Levels) (w : ℕ) → bitOf w 7 ≡ true → Starts l w (after
 unfolding stepOf numberOf
 starts l w set =
     let writing : Chip = record { phase = Writing 3 w; core = powerUpWith l .core } in
-    starts-anew l w (stepOf writing 4 0 0 .chip) (mode-word-renews writing w 0 0 refl set .core)
+    starts-anew l w (stepOf writing 2 0 0 .chip) (mode-word-renews writing w 0 0 refl set .core)

@@ -5,14 +5,12 @@ use mathlib.Core.Path.{_≡_, _∙_, refl, ap, sym, subst}
 use mathlib.Core.Bool.{Bool, true, false, cond, and-false}
 use Prim.Native.Nat.{ℕ}
 use lib.Dec.{T, eqb}
-use borrow.Author.Tests.{lt-ltb}
 use Rattle.control.specs.declared.Group.{Group}
 use Rattle.control.specs.Mode.{outputOf}
 use Rattle.channel.specs.declared.Side.{Side}
 use Rattle.channel.specs.declared.Side.the-variants.{Input, Output}
 use Rattle.channel.specs.declared.Channel.{Channel}
-use Rattle.chip.specs.declared.Phase.{Phase}
-use Rattle.chip.specs.declared.Phase.the-variants.{Idle, Reading, Writing}
+use Rattle.chip.specs.declared.Phase.the-variants.{Writing}
 use Rattle.chip.specs.declared.Core.{Core}
 use Rattle.chip.specs.declared.Chip.{Chip}
 use Rattle.chip.specs.State.{sideOf, channelOf}
@@ -26,7 +24,7 @@ use Rattle.levels.specs.Levels.{levelled}
 use Rattle.levels.proofs.After.{levelled-input, levelled-output}
 use Rattle.step.specs.Step.{stepOf}
 use Rattle.step.proofs.ByKind.{by-kind}
-use Rattle.step.proofs.Ends.{read-ends, write-ends}
+use Rattle.step.proofs.Ends.{by-phase}
 use Rattle.step.proofs.Outcome.{step-refuses, step-either}
 use Rattle.laws.specs.Seen.{makesAnew}
 use Rattle.laws.proofs.Refusals.{row-refuses}
@@ -76,24 +74,20 @@ module _ (c : Chip) (g : Group) (s : Side) (off : strobed (c .core .word) g s �
   still : Still c
   still = kept refl
 
-  after-read : (ph : Phase) → c .phase ≡ ph → (x d : ℕ) → Still (stepOf c 2 x d .chip)
-  after-read Idle phase x d = rw (step-refuses c 2 x d (row-refuses (c .phase) 2 x 4 (rw (phase)))) (still)
-  after-read (Reading p) phase x d = rw (read-ends c p x d phase) (kept-ended (c .core) g s off p)
-  after-read (Writing a b) phase x d = rw (step-refuses c 2 x d (row-refuses (c .phase) 2 x 4 (rw (phase)))) (still)
+  after-end : makesAnew (c .phase) ≡ false → (x d : ℕ) → Still (stepOf c 2 x d .chip)
+  after-end other x d =
+      by-phase Still c x d
+      (λ phase. still)
+      (λ p phase. kept-ended (c .core) g s off p)
+      (λ a b phase. kept-written (c .core) g s off a b (ap makesAnew (sym phase) ∙ other))
 
-  after-write : (ph : Phase) → c .phase ≡ ph → makesAnew ph ≡ false → (x d : ℕ) → Still (stepOf c 4 x d .chip)
-  after-write Idle phase other x d = rw (step-refuses c 4 x d (row-refuses (c .phase) 4 x 4 (rw (phase)))) (still)
-  after-write (Reading p) phase other x d = rw (step-refuses c 4 x d (row-refuses (c .phase) 4 x 4 (rw (phase)))) (still)
-  after-write (Writing a b) phase other x d = rw (write-ends c a b x d phase) (kept-written (c .core) g s off a b other)
-
-  pub unstrobed-stays : (k x d : ℕ) → ¬ (k ≡ 0) → (k ≡ 4 → makesAnew (c .phase) ≡ false) → Still (stepOf c k x d .chip)
+  pub unstrobed-stays : (k x d : ℕ) → ¬ (k ≡ 0) → (k ≡ 2 → makesAnew (c .phase) ≡ false) → Still (stepOf c k x d .chip)
   unstrobed-stays k x d =
-      by-kind (λ k. ¬ (k ≡ 0) → (k ≡ 4 → makesAnew (c .phase) ≡ false) → Still (stepOf c k x d .chip))
+      by-kind (λ k. ¬ (k ≡ 0) → (k ≡ 2 → makesAnew (c .phase) ≡ false) → Still (stepOf c k x d .chip))
       (λ reset renewal. absurd (reset refl))
       (λ reset renewal. step-either Still c 1 x d still (λ ok. kept-begun (c .core) g s off x))
-      (λ reset renewal. after-read (c .phase) refl x d)
+      (λ reset renewal. after-end (renewal refl) x d)
       (λ reset renewal. step-either Still c 3 x d still (λ ok. still))
-      (λ reset renewal. after-write (c .phase) refl (renewal refl) x d)
       (λ reset renewal. step-either Still c 5 x d still (λ ok. kept-levelled (c .core) g s off x d))
-      (λ k above reset renewal. rw (step-refuses c k x d (row-refuses (c .phase) k x 0 (lt-ltb 5 k above))) (still))
+      (λ k none reset renewal. rw (step-refuses c k x d (row-refuses (c .phase) k x 0 none)) (still))
       k

@@ -19,18 +19,18 @@ event k x d = record { kind = k; first = x; second = d }
 abbrev pub stepped : Chip → Event → Stepped
 stepped c e = stepOf c (e .kind) (e .first) (e .second)
 
--- A whole write, outside levels, and the two ends of a read.
+-- The end of a cycle, a whole write, outside levels, and the beginning of a read.
+abbrev pub endCycle : List Event
+endCycle = event 2 0 0 ∷ []
+
 abbrev pub write : ℕ → ℕ → List Event
-write a d = event 3 a d ∷ event 4 0 0 ∷ []
+write a d = event 3 a d ∷ endCycle
 
 abbrev pub levels : ℕ → ℕ → List Event
 levels p d = event 5 p d ∷ []
 
 abbrev pub beginRead : ℕ → List Event
 beginRead a = event 1 a 0 ∷ []
-
-abbrev pub endRead : List Event
-endRead = event 2 0 0 ∷ []
 
 -- A byte put on port A, and its STB lowered and raised; port C is otherwise high.
 abbrev pub strobe : ℕ → List Event

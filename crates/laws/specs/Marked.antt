@@ -9,7 +9,7 @@ use Rattle.ports.specs.Reads.{readOf}
 use Rattle.ports.specs.Pins.{pinsOf}
 use Rattle.step.specs.declared.Stepped.{Stepped}
 use Rattle.step.specs.Step.{accepted}
-use Rattle.laws.specs.History.{Event, event, stepped, write, levels, beginRead, endRead, strobe}
+use Rattle.laws.specs.History.{Event, event, stepped, write, levels, beginRead, endCycle, strobe}
 
 -- The last event's outcome, after a history.
 abbrev pub after : Stepped → List Event → Stepped
@@ -83,7 +83,7 @@ cases =
     ∷ (P3 asks (pins 2 ∷ readC ∷ []) gives (0x20 ∷ 0x30 ∷ []))
     ∷ (P4 asks (pins 2 ∷ readC ∷ []) gives (0x38 ∷ 0x38 ∷ []))
     ∷ (P5 asks (byte ∷ pins 2 ∷ []) gives (0x41 ∷ 0x30 ∷ []))
-    ∷ ((P5 ++ endRead) asks (pins 2 ∷ []) gives (0x10 ∷ []))
+    ∷ ((P5 ++ endCycle) asks (pins 2 ∷ []) gives (0x10 ∷ []))
     ∷ (P7 asks (pins 2 ∷ readC ∷ []) gives (0xd0 ∷ 0x80 ∷ []))
     ∷ (P8 asks (pins 2 ∷ readC ∷ []) gives (0xd8 ∷ 0xc8 ∷ []))
     ∷ ((P8 ++ (event 3 0 0x55 ∷ [])) asks (pins 2 ∷ []) gives (0xd0 ∷ []))

@@ -17,7 +17,7 @@ use Rattle.chip.specs.declared.Chip.{Chip}
 use Rattle.chip.specs.declared.Levels.{Levels}
 use Rattle.chip.specs.State.{powerUpWith}
 use Rattle.laws.specs.History.{Event}
-use Rattle.fates.specs.Kinds.{Named, reset, readEnded, writeEnded, unknown, readBegun, writeBegun, newLevels, free, accepts}
+use Rattle.fates.specs.Kinds.{Named, reset, cycleEnded, unknown, readBegun, writeBegun, newLevels, free, accepts}
 use Rattle.fates.specs.Kinds.{named as byName}
 use Rattle.fates.specs.Around.{Around, ofModeWord, brought, phaseAfter, wordAfter, aroundAfter, aroundNext}
 use Rattle.fates.specs.Deeds.{Deed, offered, taken, ended, clearedAway, nothing, strobes, when, ownDeed, clears, deedOf}
@@ -34,9 +34,8 @@ use Rattle.restored.proofs.Conditions.{Conditions, apart, together}
 place-stays : (ph : Phase) (e : Named) → accepts ph e ≡ true → named ph ≡ true → named (phaseAfter ph e) ≡ true
 place-stays ph reset ok was = refl
 place-stays ph (readBegun x) ok was = and-eq-true-iff (ltb x 3) (free ph) .0 ok .0
-place-stays ph readEnded ok was = refl
+place-stays ph cycleEnded ok was = refl
 place-stays ph (writeBegun x d) ok was = and-eq-true-iff (ltb x 4) (free ph) .0 ok .0
-place-stays ph writeEnded ok was = refl
 place-stays ph (newLevels x d) ok was = was
 place-stays ph unknown ok was = was
 
@@ -55,9 +54,8 @@ bit-7-stays : (ph : Phase) (w : ℕ) (e : Named) → bitOf w 7 ≡ true → bitO
 unfolding bitOf
 bit-7-stays ph w reset was = refl
 bit-7-stays ph w (readBegun x) was = was
-bit-7-stays ph w readEnded was = was
+bit-7-stays ph w cycleEnded was = word-ends ph w was
 bit-7-stays ph w (writeBegun x d) was = was
-bit-7-stays ph w writeEnded was = word-ends ph w was
 bit-7-stays ph w (newLevels x d) was = was
 bit-7-stays ph w unknown was = was
 

@@ -3,7 +3,7 @@ use super::show;
 
 fn run(size: usize) {
     show::run(
-        b"0303B0\n04\n030309\n04\n050041\n0502EF\n0502FF\n0100\n0100\n02\n0103\n07\n",
+        b"0303B0\n02\n030309\n02\n050041\n0502EF\n0502FF\n0100\n0100\n02\n0103\n07\n",
         size,
     );
 }

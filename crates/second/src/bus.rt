@@ -1,4 +1,4 @@
-// The bus: reset, and the beginnings and ends of reads and writes. A write stores its byte at its end.
+// The bus: reset, the beginnings of reads and writes, and the end of either. A write stores its byte at its end.
 
 use super::Machine;
 use super::commands;
@@ -30,28 +30,41 @@ pub(super) fn begin_read(machine: Machine, port: u8) -> Machine {
     handshake::settle(next, channel, handshake::HANDED_OVER, handshake::FETCHING)
 }
 
-// The channel is empty, and a byte that came too late for the reader is swallowed.
-pub(super) fn end_read(machine: Machine) -> Machine {
+// Whatever runs is over.
+pub(super) fn end_cycle(machine: Machine) -> Machine {
+    let phase = machine.phase;
+    let done = match phase {
+        READING => release(machine),
+        WRITING => store(machine),
+        _ => machine,
+    };
+    on_bus(done, IDLE, 0, 0)
+}
+
+// The channel that was read is empty, and a byte that came too late for the reader is swallowed.
+fn release(machine: Machine) -> Machine {
     let channel = machine.place as usize * 2;
-    let idle = on_bus(machine, IDLE, 0, 0);
     if !words::strobed(machine.word, channel) {
-        return idle;
+        return machine;
     }
-    let mut next = handshake::settle(idle, channel, handshake::SWALLOWED, handshake::EMPTY);
+    let mut next = handshake::settle(machine, channel, handshake::SWALLOWED, handshake::EMPTY);
     next.fill[channel % 4] = handshake::EMPTY;
     next
 }
 
-pub(super) fn end_write(machine: Machine) -> Machine {
-    let mut next = on_bus(machine, IDLE, 0, 0);
+// The byte on the bus goes where it was addressed to.
+fn store(mut machine: Machine) -> Machine {
     let address = machine.place;
     match address {
-        0 | 1 => next = write_port(next, address as usize, machine.data),
-        2 => next.latch_c = pins::ask(machine, 2, pins::STORED),
-        3 => next = commands::write(next, machine.data),
+        0 | 1 => machine = write_port(machine, address as usize, machine.data),
+        2 => {
+            let stored = pins::ask(machine, 2, pins::STORED);
+            machine.latch_c = stored;
+        }
+        3 => machine = commands::write(machine, machine.data),
         _ => {}
     }
-    next
+    machine
 }
 
 pub(super) fn on_bus(mut machine: Machine, phase: u8, place: u8, data: u8) -> Machine {

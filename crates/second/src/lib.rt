@@ -1,7 +1,7 @@
 // A second model of the 8255A, to be held against another one. It shares nothing with that one, and keeps the chip in
 // bytes and flat arrays with numbered places. Each function answers for every value of the machine, reached or not.
 
-mod bus; // reset, and the beginnings and ends of reads and writes
+mod bus; // reset, the beginnings of reads and writes, and the end of either
 mod channels; // the four handshake channels by number
 mod commands; // mode words and bit set/reset
 mod digits; // single bits of a byte
@@ -67,9 +67,8 @@ pub fn event(mut machine: Machine, kind: u8, first: u8, second: u8) -> Answer {
     match accepted {
         0 => machine = bus::reset(machine),
         1 => machine = bus::begin_read(machine, first),
-        2 => machine = bus::end_read(machine),
+        2 => machine = bus::end_cycle(machine),
         3 => machine = bus::on_bus(machine, bus::WRITING, first, second),
-        4 => machine = bus::end_write(machine),
         5 => machine = edges::moved(machine, first, second),
         _ => {}
     }

@@ -5,7 +5,7 @@ use super::bus;
 // The first number that applies, or 0 for an event that is accepted. What a kind has no operand for is not looked at.
 pub(super) fn refusal(phase: u8, kind: u8, first: u8) -> u8 {
     let begins = (kind == 1) | (kind == 3);
-    if kind > 5 {
+    if (kind == 4) | (kind > 5) {
         return 1;
     }
     if (begins & (first > 3)) | ((kind == 5) & (first > 2)) {
@@ -17,7 +17,7 @@ pub(super) fn refusal(phase: u8, kind: u8, first: u8) -> u8 {
     if begins & (phase != bus::IDLE) {
         return 4;
     }
-    if ((kind == 2) & (phase != bus::READING)) | ((kind == 4) & (phase != bus::WRITING)) {
+    if (kind == 2) & (phase == bus::IDLE) {
         return 5;
     }
     0

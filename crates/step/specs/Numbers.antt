@@ -3,22 +3,11 @@ use mathlib.Core.Bool.{Bool, true, false, cond, not, _&&_, _||_}
 use mathlib.Core.List.{List, [], _∷_}
 use Prim.Native.Nat.{ℕ, suc}
 use lib.Dec.{eqb, ltb}
+use Rattle.frames.specs.Kinds.{isKind}
 use Rattle.chip.specs.declared.Phase.{Phase}
 use Rattle.chip.specs.declared.Phase.the-variants.{Idle, Reading, Writing}
 
--- A read runs, of whatever port.
-abbrev pub isReading : Phase → Bool
-isReading Idle = false
-isReading (Reading p) = true
-isReading (Writing a d) = false
-
--- A write runs, to whatever address.
-abbrev pub isWriting : Phase → Bool
-isWriting Idle = false
-isWriting (Reading p) = false
-isWriting (Writing a d) = true
-
--- A cycle runs.
+-- A cycle runs: a read of whatever port, or a write to whatever address.
 abbrev pub isBusy : Phase → Bool
 isBusy Idle = false
 isBusy (Reading p) = true
@@ -30,7 +19,7 @@ begins k = eqb k 1 || eqb k 3
 
 -- 1: there is no such kind.
 abbrev pub noKind : ℕ → Bool
-noKind k = ltb 5 k
+noKind k = not (isKind k)
 
 -- 2: there is no such address, or no such port.
 abbrev pub noPlace : ℕ → ℕ → Bool
@@ -44,9 +33,9 @@ controlRead k x = eqb k 1 && eqb x 3
 abbrev pub cycleRuns : Phase → ℕ → Bool
 cycleRuns ph k = begins k && isBusy ph
 
--- 5: there is nothing of the kind to end.
+-- 5: the bus is idle, and has no cycle to end.
 abbrev pub nothingToEnd : Phase → ℕ → Bool
-nothingToEnd ph k = (eqb k 2 && not (isReading ph)) || (eqb k 4 && not (isWriting ph))
+nothingToEnd ph k = eqb k 2 && not (isBusy ph)
 
 -- The rows of the table for an event of kind k whose first operand is x.
 abbrev pub rows : Phase → ℕ → ℕ → List Bool

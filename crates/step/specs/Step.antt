@@ -18,17 +18,12 @@ use Rattle.step.specs.Numbers.{numberOf}
 abbrev pub onBus : Phase → Core → Chip
 onBus ph c = record { phase = ph; core = c }
 
--- The end of a read ends the read that runs.
-abbrev pub afterEndRead : Core → Phase → Core
-afterEndRead c Idle = c
-afterEndRead c (Reading p) = endedRead c p
-afterEndRead c (Writing a d) = c
-
--- The end of a write, when its byte takes effect.
-abbrev pub afterEndWrite : Core → Phase → Core
-afterEndWrite c Idle = c
-afterEndWrite c (Reading p) = c
-afterEndWrite c (Writing a d) = written c a d
+-- What the end of a cycle does to all but the bus, in each phase: it ends a read, or a write, whose byte takes effect now. On an idle bus
+-- there is nothing to end, and the event is refused.
+abbrev pub afterEnd : Core → Phase → Core
+afterEnd c Idle = c
+afterEnd c (Reading p) = endedRead c p
+afterEnd c (Writing a d) = written c a d
 
 -- What an accepted event makes of the chip. 00, reset: a running cycle is dropped, and mode word 9B is set.
 abbrev pub reset : Chip → Chip
@@ -38,17 +33,13 @@ reset c = onBus Idle (renewed (c .core) 0x9b)
 abbrev pub readBegun : Chip → ℕ → Chip
 readBegun c x = onBus (Reading x) (begunRead (c .core) x)
 
--- 02, end read.
-abbrev pub readEnded : Chip → Chip
-readEnded c = onBus Idle (afterEndRead (c .core) (c .phase))
+-- 02, end of the cycle.
+abbrev pub cycleEnded : Chip → Chip
+cycleEnded c = onBus Idle (afterEnd (c .core) (c .phase))
 
 -- 03, begin write of d at address x.
 abbrev pub writeBegun : Chip → ℕ → ℕ → Chip
 writeBegun c x d = onBus (Writing x d) (c .core)
-
--- 04, end write.
-abbrev pub writeEnded : Chip → Chip
-writeEnded c = onBus Idle (afterEndWrite (c .core) (c .phase))
 
 -- 05, the outside levels on port x become d.
 abbrev pub levelsPut : Chip → ℕ → ℕ → Chip
@@ -59,10 +50,9 @@ abbrev pub afterOf : Chip → ℕ → ℕ → ℕ → Chip
 afterOf c k x d =
     cond (eqb k 0) (reset c)
     (cond (eqb k 1) (readBegun c x)
-    (cond (eqb k 2) (readEnded c)
+    (cond (eqb k 2) (cycleEnded c)
     (cond (eqb k 3) (writeBegun c x d)
-    (cond (eqb k 4) (writeEnded c)
-    (levelsPut c x d)))))
+    (levelsPut c x d))))
 
 -- Only a read that begins has a byte to give.
 abbrev pub byteGiven : Chip → ℕ → ℕ → ℕ

@@ -1,6 +1,6 @@
 // What an accepted event of each kind makes of the chip. Each kind stands alone, so that who has chosen one has to do with no other.
 ghost use mathlib.Core.Path.{_≡_};
-ghost use Rattle.step.specs.Step.{onBus, afterEndRead, afterEndWrite, reset, readBegun, readEnded, writeBegun, writeEnded, levelsPut};
+ghost use Rattle.step.specs.Step.{onBus, afterEnd, reset, readBegun, cycleEnded, writeBegun, levelsPut};
 use chip::Chip;
 use chip::Core;
 use chip::Phase;
@@ -23,46 +23,29 @@ pub fn begin_read(chip: Chip, port: u8) -> Chip
     on_bus(Phase::Reading(port), reads::begin(chip.core, port))
 }
 
-fn end_that_read(core: Core, phase: Phase) -> Core
-    ensures { λ r. ⌜ r ≡ afterEndRead core phase ⌝ }
+// What the end of a cycle does to all but the bus.
+fn end(core: Core, phase: Phase) -> Core
+    ensures { λ r. ⌜ r ≡ afterEnd core phase ⌝ }
 {
     match phase {
         Phase::Idle => core,
         Phase::Reading(port) => reads::end(core, port),
-        Phase::Writing(_, _) => core,
+        Phase::Writing(address, byte) => writes::end(core, address, byte),
     }
 }
 
-// Where no read runs there is none to end, and only the bus is freed.
-pub fn end_read(chip: Chip) -> Chip
-    ensures { λ r. ⌜ r ≡ readEnded chip ⌝ }
+// Whatever runs on the bus ends.
+pub fn end_cycle(chip: Chip) -> Chip
+    ensures { λ r. ⌜ r ≡ cycleEnded chip ⌝ }
 {
     let phase = chip.phase;
-    on_bus(Phase::Idle, end_that_read(chip.core, phase))
+    on_bus(Phase::Idle, end(chip.core, phase))
 }
 
 pub fn begin_write(chip: Chip, address: u8, byte: u8) -> Chip
     ensures { λ r. ⌜ r ≡ writeBegun chip address byte ⌝ }
 {
     on_bus(Phase::Writing(address, byte), chip.core)
-}
-
-fn end_that_write(core: Core, phase: Phase) -> Core
-    ensures { λ r. ⌜ r ≡ afterEndWrite core phase ⌝ }
-{
-    match phase {
-        Phase::Idle => core,
-        Phase::Reading(_) => core,
-        Phase::Writing(address, byte) => writes::end(core, address, byte),
-    }
-}
-
-// Where no write runs there is none to end, and only the bus is freed.
-pub fn end_write(chip: Chip) -> Chip
-    ensures { λ r. ⌜ r ≡ writeEnded chip ⌝ }
-{
-    let phase = chip.phase;
-    on_bus(Phase::Idle, end_that_write(chip.core, phase))
 }
 
 // Levels leave the bus as it is.

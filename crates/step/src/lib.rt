@@ -19,9 +19,8 @@ fn after(chip: Chip, kind: u8, first: u8, second: u8) -> Chip
     match kind {
         0 => kinds::reset(chip),
         1 => kinds::begin_read(chip, first),
-        2 => kinds::end_read(chip),
+        2 => kinds::end_cycle(chip),
         3 => kinds::begin_write(chip, first, second),
-        4 => kinds::end_write(chip),
         _ => kinds::levels(chip, first, second),
     }
 }

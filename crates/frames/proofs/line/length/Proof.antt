@@ -1,7 +1,7 @@
 -- `line::length` meets its contract, kind by kind.
 -- Rests on nothing.
 use borrow.Author.Tests.{ne-eqb}
-use Rattle.frames.specs.Frames.{operandsOf}
+use Rattle.frames.specs.Kinds.{operandsOf}
 use Rattle.frames.proofs.line.length.Statement.{statement}
 use Rattle.frames.proofs.line.length.Tie as tie
 

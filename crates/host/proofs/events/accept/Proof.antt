@@ -6,7 +6,7 @@ use Rattle.host.proofs.events.accept.Tie as tie
 
 pub accept-spec : {M : Type 1} → statement M
 accept-spec = tie.close (tie.spec
-    (λ c κs. search needs) (λ c κs. search needs) (λ c κs. search needs) (λ c κs. search needs) (λ c κs. search needs) (λ c κs. search needs)
+    (λ c κs. search needs) (λ c κs. search needs) (λ c κs. search needs) (λ c κs. search needs) (λ c κs. search needs)
     (λ c. search needs)
     (λ c.
     let call = c .before .before in
@@ -21,7 +21,7 @@ accept-spec = tie.close (tie.spec
     (λ c.
     let call = c .before .before in
     let key = call .before .before .match .keys3 in
-    (rw (key), rw (call .end-read .ensures, key)))
+    (rw (key), rw (call .end-cycle .ensures, key)))
     (λ c. search needs)
     (λ c.
     let call = c .before .before in
@@ -30,12 +30,7 @@ accept-spec = tie.close (tie.spec
     (λ c. search needs)
     (λ c.
     let call = c .before .before in
-    let key = call .before .before .match .keys5 in
-    (rw (key), rw (call .end-write .ensures, key)))
-    (λ c. search needs)
-    (λ c.
-    let call = c .before .before in
     let r = call .before .before .match .rest in (
-      rw (ne-eqb _ _ (r .0 .0 .0 .1)),
-      rw (call .levels .ensures, ne-eqb _ _ (r .0 .0 .0 .0 .1), ne-eqb _ _ (r .0 .0 .0 .1), ne-eqb _ _ (r .0 .0 .1), ne-eqb _ _ (r .0 .1), ne-eqb _ _ (r .1)),
+      rw (ne-eqb _ _ (r .0 .0 .1)),
+      rw (call .levels .ensures, ne-eqb _ _ (r .0 .0 .0 .1), ne-eqb _ _ (r .0 .0 .1), ne-eqb _ _ (r .0 .1), ne-eqb _ _ (r .1)),
     )))

@@ -1,0 +1,59 @@
+-- The one end of a cycle, in every state: it is accepted while any cycle runs, a read that ends leaves the outputs, and a write that ends
+-- leaves the inputs, unless it was of a mode word; and 04, which is no kind, is refused whatever its operands ("Events and numbers").
+-- Rests on chip's Surrounded, reads' and writes' After, and the step's Ends.
+use mathlib.Core.Path.{_≡_, _∙_, refl, ap, sym, subst}
+use mathlib.Core.Bool.{false}
+use Prim.Native.Nat.{ℕ}
+use lib.Dec.{T}
+use Rattle.control.specs.declared.Group.{Group}
+use Rattle.channel.specs.declared.Side.the-variants.{Input, Output}
+use Rattle.chip.specs.declared.Phase.{Phase}
+use Rattle.chip.specs.declared.Phase.the-variants.{Idle, Reading, Writing}
+use Rattle.chip.specs.declared.Core.{Core}
+use Rattle.chip.specs.declared.Chip.{Chip}
+use Rattle.chip.specs.State.{channelOf}
+use Rattle.chip.proofs.Surrounded.{spared-port}
+use Rattle.reads.proofs.After.{ended-output}
+use Rattle.writes.specs.Write.{written}
+use Rattle.writes.proofs.After.{by-address}
+use Rattle.step.specs.declared.Stepped.{Stepped}
+use Rattle.step.specs.Numbers.{numberOf}
+use Rattle.step.specs.Step.{refused, stepOf}
+use Rattle.step.proofs.Ends.{read-ends, write-ends}
+use Rattle.laws.specs.Seen.{makesAnew}
+
+-- Whatever runs ends, and the bus is idle. The idle bus itself refuses with 5: idle-ends-nothing, in the step's Ends.
+pub record Ended (r : Stepped) : Type 0 where
+  pub taken : r .number ≡ 0
+  pub silent : r .byte ≡ 0
+  pub idle : r .chip .phase ≡ Idle
+
+pub cycle-ends : (c : Chip) (x d : ℕ) → ¬ (c .phase ≡ Idle) → Ended (stepOf c 2 x d)
+cycle-ends c x d runs = go (c .phase) refl
+  where
+    go : (ph : Phase) → c .phase ≡ ph → Ended (stepOf c 2 x d)
+    go Idle phase = absurd (runs phase)
+    go (Reading p) phase = rw (read-ends c p x d phase) (record { taken = refl; silent = refl; idle = refl })
+    go (Writing a b) phase = rw (write-ends c a b x d phase) (record { taken = refl; silent = refl; idle = refl })
+
+-- A read that ends leaves every output channel as it was.
+pub read-end-spares-outputs : (c : Chip) (p x d : ℕ) → c .phase ≡ Reading p → (g : Group)
+    → channelOf (stepOf c 2 x d .chip .core) g Output ≡ channelOf (c .core) g Output
+read-end-spares-outputs c p x d phase g = rw (read-ends c p x d phase) (ended-output (c .core) p g)
+
+-- A write that ends leaves every input channel as it was, unless it was of a mode word.
+spares-input : (c : Core) (a b : ℕ) → makesAnew (Writing a b) ≡ false → (g : Group) → channelOf (written c a b) g Input ≡ channelOf c g Input
+spares-input c a b other g =
+    by-address (λ c′. channelOf c′ g Input ≡ channelOf c g Input) c a b
+    (λ mode. absurd (subst T (sym mode ∙ other) tt))
+    (λ mode own c′ k. ap (λ p. p .input) (spared-port k g))
+    (λ mode c′ k. k .input g)
+
+pub write-end-spares-inputs : (c : Chip) (a b x d : ℕ) → c .phase ≡ Writing a b → makesAnew (Writing a b) ≡ false → (g : Group)
+    → channelOf (stepOf c 2 x d .chip .core) g Input ≡ channelOf (c .core) g Input
+write-end-spares-inputs c a b x d phase other g = rw (write-ends c a b x d phase) (spares-input (c .core) a b other g)
+
+-- 04, which stands between the kinds, is none, whatever its operands.
+pub four-is-no-kind : (c : Chip) (x d : ℕ) → stepOf c 4 x d ≡ refused c 1
+unfolding stepOf numberOf
+four-is-no-kind c x d = refl
