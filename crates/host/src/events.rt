@@ -1,5 +1,5 @@
 // An accepted event in the bytes of an image. The kind is chosen before the state is loaded: so the compiler sees, kind by kind, which
-// bytes the event can change, and leaves most of the others alone.
+// bytes the event can change, and leaves most of the others alone. Of the end of a cycle it sees only what either cycle could change.
 ghost use mathlib.Core.Path.{_≡_};
 ghost use mathlib.Core.Bool.{true};
 ghost use Rattle.ports.specs.Reads.{readOf};

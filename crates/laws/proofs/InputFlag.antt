@@ -32,7 +32,7 @@ use Rattle.step.proofs.ByKind.{by-kind}
 use Rattle.step.proofs.Ends.{read-ends}
 use Rattle.step.proofs.Outcome.{step-accepts, step-refuses, step-either}
 use Rattle.laws.specs.Seen.{pin, flagPin}
-use Rattle.laws.proofs.Refusals.{row-refuses}
+use Rattle.laws.proofs.Refusals.{row-refuses, no-kind-refused}
 use Rattle.laws.proofs.ChannelPins.{flag-pin}
 use Rattle.laws.proofs.FlagAfter.{flag-under, line-falls, levels-accepted, either-way}
 
@@ -104,7 +104,7 @@ module _ (c : Chip) (g : Group) (on : strobed (c .core .word) g Input ≡ true) 
       (λ reset end. absurd (end refl))
       (λ reset end. rw (step-refuses c 3 x d (row-refuses (c .phase) 3 x 3 (reading-is-busy (c .phase) g r))) (set))
       (λ reset end. levels-keep-ibf x d set)
-      (λ k none reset end. rw (step-refuses c k x d (row-refuses (c .phase) k x 0 none)) (set))
+      (λ k none reset end. rw (no-kind-refused c k x d none) (set))
       k
 
   -- The end of the read resets IBF.

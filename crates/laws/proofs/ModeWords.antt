@@ -1,6 +1,6 @@
 -- Every mode word, the same one again included, and a reset make the chip anew; after a reset every pin is an input ("State",
 -- "Mode words").
--- Rests on the channel's Left, settings' After, roles' PinByMasks, bits' Tested and the step's Ends.
+-- Rests on OneEnd, the channel's Left, settings' After, roles' PinByMasks, bits' Tested and the step's Ends.
 use mathlib.Core.Path.{_≡_, _∙_, refl, ap}
 use mathlib.Core.Bool.{Bool, true, false, cond}
 use Prim.Native.Nat.{ℕ, _<_}
@@ -17,7 +17,7 @@ use Rattle.channel.specs.declared.Side.the-variants.{Input, Output}
 use Rattle.channel.specs.declared.Fill.the-variants.{Empty}
 use Rattle.channel.specs.Channel.{isWaiting, counted, cleared}
 use Rattle.channel.proofs.Left.{clear-empties, clear-zeroes, clear-counts}
-use Rattle.chip.specs.declared.Phase.the-variants.{Idle, Writing}
+use Rattle.chip.specs.declared.Phase.the-variants.{Writing}
 use Rattle.chip.specs.declared.Core.{Core}
 use Rattle.chip.specs.declared.Chip.{Chip}
 use Rattle.chip.specs.State.{noEnables, portOf, channelOf}
@@ -27,9 +27,11 @@ use Rattle.settings.proofs.After.{renewed-channel, renewed-word, renewed-ports,
 use Rattle.writes.specs.Write.{written}
 use Rattle.ports.specs.Reads.{readPort}
 use Rattle.ports.specs.Pins.{drivesPort, pinsOfPort, pinsOfLines, pinsOf}
+use Rattle.step.specs.declared.Stepped.{Stepped}
 use Rattle.step.specs.Numbers.{numberOf}
 use Rattle.step.specs.Step.{stepOf}
 use Rattle.step.proofs.Ends.{write-ends}
+use Rattle.laws.proofs.OneEnd.{Freed}
 
 -- What a chip made anew is, beside the one that it was.
 pub record Anew (before : Core) (w : ℕ) (after : Core) : Type 0 where
@@ -62,20 +64,19 @@ anew c w = record {
     off B Output = refl
 
 -- A mode word, whatever the last one was.
-pub record Obeyed (c : Chip) (w : ℕ) (after : Chip) (number byte : ℕ) : Type 0 where
-  pub idle : after .phase ≡ Idle
-  pub core : Anew (c .core) w (after .core)
-  pub taken : number ≡ 0
-  pub silent : byte ≡ 0
+pub record Obeyed (c : Chip) (w : ℕ) (r : Stepped) : Type 0 where
+  pub bus : Freed r
+  pub core : Anew (c .core) w (r .chip .core)
 
 mode-write : (c : Core) (w : ℕ) → bitOf w 7 ≡ true → written c 3 w ≡ renewed c w
 unfolding written
 mode-write c w set = mode-word c w set
 
 pub mode-word-renews : (c : Chip) (w x d : ℕ) → c .phase ≡ Writing 3 w → bitOf w 7 ≡ true
-    → Obeyed c w (stepOf c 2 x d .chip) (stepOf c 2 x d .number) (stepOf c 2 x d .byte)
+    → Obeyed c w (stepOf c 2 x d)
 mode-word-renews c w x d phase set =
-    rw (write-ends c 3 w x d phase, mode-write (c .core) w set) (record { idle = refl; core = anew (c .core) w; taken = refl; silent = refl })
+    rw (write-ends c 3 w x d phase, mode-write (c .core) w set)
+    (record { bus = record { taken = refl; silent = refl; idle = refl }; core = anew (c .core) w })
 
 -- The same word again.
 pub same-word-renews : (c : Chip) (x d : ℕ) → c .phase ≡ Writing 3 (c .core .word) → bitOf (c .core .word) 7 ≡ true
@@ -83,9 +84,9 @@ pub same-word-renews : (c : Chip) (x d : ℕ) → c .phase ≡ Writing 3 (c .cor
 same-word-renews c x d phase set = mode-word-renews c (c .core .word) x d phase set .core
 
 -- A reset, in any phase.
-pub reset-renews : (c : Chip) (x d : ℕ) → Obeyed c 0x9b (stepOf c 0 x d .chip) (stepOf c 0 x d .number) (stepOf c 0 x d .byte)
+pub reset-renews : (c : Chip) (x d : ℕ) → Obeyed c 0x9b (stepOf c 0 x d)
 unfolding stepOf numberOf
-reset-renews c x d = record { idle = refl; core = anew (c .core) 0x9b; taken = refl; silent = refl }
+reset-renews c x d = record { bus = record { taken = refl; silent = refl; idle = refl }; core = anew (c .core) 0x9b }
 
 -- After it every pin of port C is an input, nothing is driven, and ports A and B read as their outside levels.
 pub reset-roles : (n : ℕ) → n < 8 → roleOf 0x9b n ≡ input

@@ -1,6 +1,6 @@
 -- The one end of a cycle, in every state: it is accepted while any cycle runs, a read that ends leaves the outputs, and a write that ends
 -- leaves the inputs, unless it was of a mode word; and 04, which is no kind, is refused whatever its operands ("Events and numbers").
--- Rests on chip's Surrounded, reads' and writes' After, and the step's Ends.
+-- Rests on Refusals, chip's Surrounded, reads' and writes' After, and the step's Ends.
 use mathlib.Core.Path.{_≡_, _∙_, refl, ap, sym, subst}
 use mathlib.Core.Bool.{false}
 use Prim.Native.Nat.{ℕ}
@@ -17,21 +17,22 @@ use Rattle.reads.proofs.After.{ended-output}
 use Rattle.writes.specs.Write.{written}
 use Rattle.writes.proofs.After.{by-address}
 use Rattle.step.specs.declared.Stepped.{Stepped}
-use Rattle.step.specs.Numbers.{numberOf}
 use Rattle.step.specs.Step.{refused, stepOf}
 use Rattle.step.proofs.Ends.{read-ends, write-ends}
 use Rattle.laws.specs.Seen.{makesAnew}
+use Rattle.laws.proofs.Refusals.{no-kind-refused}
 
--- Whatever runs ends, and the bus is idle. The idle bus itself refuses with 5: idle-ends-nothing, in the step's Ends.
-pub record Ended (r : Stepped) : Type 0 where
+-- An event is accepted, has no byte to give, and leaves the bus idle.
+pub record Freed (r : Stepped) : Type 0 where
   pub taken : r .number ≡ 0
   pub silent : r .byte ≡ 0
   pub idle : r .chip .phase ≡ Idle
 
-pub cycle-ends : (c : Chip) (x d : ℕ) → ¬ (c .phase ≡ Idle) → Ended (stepOf c 2 x d)
+-- So it is with the end of whatever runs. The idle bus itself refuses with 5: idle-ends-nothing, in the step's Ends.
+pub cycle-ends : (c : Chip) (x d : ℕ) → ¬ (c .phase ≡ Idle) → Freed (stepOf c 2 x d)
 cycle-ends c x d runs = go (c .phase) refl
   where
-    go : (ph : Phase) → c .phase ≡ ph → Ended (stepOf c 2 x d)
+    go : (ph : Phase) → c .phase ≡ ph → Freed (stepOf c 2 x d)
     go Idle phase = absurd (runs phase)
     go (Reading p) phase = rw (read-ends c p x d phase) (record { taken = refl; silent = refl; idle = refl })
     go (Writing a b) phase = rw (write-ends c a b x d phase) (record { taken = refl; silent = refl; idle = refl })
@@ -55,5 +56,4 @@ write-end-spares-inputs c a b x d phase other g = rw (write-ends c a b x d phase
 
 -- 04, which stands between the kinds, is none, whatever its operands.
 pub four-is-no-kind : (c : Chip) (x d : ℕ) → stepOf c 4 x d ≡ refused c 1
-unfolding stepOf numberOf
-four-is-no-kind c x d = refl
+four-is-no-kind c x d = no-kind-refused c 4 x d refl

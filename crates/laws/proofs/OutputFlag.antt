@@ -33,9 +33,9 @@ use Rattle.levels.proofs.After.{levelled-output, levelled-word}
 use Rattle.step.specs.Step.{stepOf}
 use Rattle.step.proofs.ByKind.{by-kind}
 use Rattle.step.proofs.Ends.{write-ends, by-phase}
-use Rattle.step.proofs.Outcome.{step-accepts, step-refuses, step-either}
+use Rattle.step.proofs.Outcome.{step-accepts, step-either}
 use Rattle.laws.specs.Seen.{pin, flagPin, makesAnew}
-use Rattle.laws.proofs.Refusals.{row-refuses}
+use Rattle.laws.proofs.Refusals.{no-kind-refused}
 use Rattle.laws.proofs.ChannelPins.{flag-pin}
 use Rattle.laws.proofs.FlagAfter.{flag-under, line-falls, line-stays, levels-accepted}
 
@@ -135,5 +135,5 @@ module _ (c : Chip) (g : Group) (on : strobed (c .core .word) g Output ≡ true)
       (λ reset renewal fall. step-either Still c 3 x d low (λ ok. low-there _ refl (low-here low)))
       (λ reset renewal fall. step-either Still c 5 x d low
       (λ ok. low-there _ (levelled-word (c .core) x d) (low-levelled (c .core) x d g (λ two. line-stays c g Output d on (fall refl two)) (low-here low))))
-      (λ k none reset renewal fall. rw (step-refuses c k x d (row-refuses (c .phase) k x 0 none)) (low))
+      (λ k none reset renewal fall. rw (no-kind-refused c k x d none) (low))
       k

@@ -11,7 +11,7 @@ use lib.Dec.{T}
 use lib.ListN.{getD}
 use Rattle.chip.specs.declared.Phase.{Phase}
 use Rattle.chip.specs.declared.Chip.{Chip}
-use Rattle.step.specs.Numbers.{rows, firstOf, numberOf}
+use Rattle.step.specs.Numbers.{noKind, rows, firstOf, numberOf}
 use Rattle.step.specs.Step.{refused, stepOf}
 use Rattle.step.proofs.Outcome.{step-refuses, step-number}
 
@@ -81,6 +81,11 @@ row-refuses ph k x j applies e = subst T (sym applies ∙ none-at (rows ph k x) 
 -- A refused event leaves the state as it was, and its byte is 00.
 pub refusal-changes-nothing : (c : Chip) (k x d : ℕ) → ¬ (stepOf c k x d .number ≡ 0) → stepOf c k x d ≡ refused c (numberOf (c .phase) k x)
 refusal-changes-nothing c k x d h = step-refuses c k x d (λ e. h (step-number c k x d ∙ e))
+
+-- What is no kind is refused with 1, whatever its operands.
+pub no-kind-refused : (c : Chip) (k x d : ℕ) → noKind k ≡ true → stepOf c k x d ≡ refused c 1
+unfolding stepOf numberOf
+no-kind-refused c k x d none = rw (none)
 
 -- The control register cannot be read, in any state.
 pub control-read-refused : (c : Chip) (d : ℕ) → stepOf c 1 3 d ≡ refused c 3

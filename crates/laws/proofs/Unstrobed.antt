@@ -25,9 +25,9 @@ use Rattle.levels.proofs.After.{levelled-input, levelled-output}
 use Rattle.step.specs.Step.{stepOf}
 use Rattle.step.proofs.ByKind.{by-kind}
 use Rattle.step.proofs.Ends.{by-phase}
-use Rattle.step.proofs.Outcome.{step-refuses, step-either}
+use Rattle.step.proofs.Outcome.{step-either}
 use Rattle.laws.specs.Seen.{makesAnew}
-use Rattle.laws.proofs.Refusals.{row-refuses}
+use Rattle.laws.proofs.Refusals.{no-kind-refused}
 
 -- Condition and tallies as they were; the latch may change, as a mode 0 write changes it.
 pub record Kept (before after : Channel) : Type 0 where
@@ -89,5 +89,5 @@ module _ (c : Chip) (g : Group) (s : Side) (off : strobed (c .core .word) g s �
       (λ reset renewal. after-end (renewal refl) x d)
       (λ reset renewal. step-either Still c 3 x d still (λ ok. still))
       (λ reset renewal. step-either Still c 5 x d still (λ ok. kept-levelled (c .core) g s off x d))
-      (λ k none reset renewal. rw (step-refuses c k x d (row-refuses (c .phase) k x 0 none)) (still))
+      (λ k none reset renewal. rw (no-kind-refused c k x d none) (still))
       k
