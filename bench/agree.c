@@ -144,9 +144,28 @@ static int same_tally(const unsigned char *image, size_t length, unsigned char c
     return 1;
 }
 
+static int same_explain(const unsigned char *image, size_t length, unsigned char group)
+{
+    unsigned int proved = models[PROVED].explain(image, length, group), other;
+    int i;
+    for (i = PROVED + 1; i < MODELS; i++) {
+        other = models[i].explain(image, length, group);
+        if (other != proved) {
+            printf("agree: INTR of group %02x explained, length %d\n", group, (int)length);
+            show(models[PROVED].name, image, proved);
+            show(models[i].name, image, other);
+            return 0;
+        }
+    }
+    return 1;
+}
+
+/* Both groups are explained, and one that is none. */
 static int same_views(const unsigned char *image, size_t length)
 {
-    return same_pins(image, length, mostly_below(4)) && same_tally(image, length, mostly_below(4), mostly_below(5));
+    return same_pins(image, length, mostly_below(4)) && same_tally(image, length, mostly_below(4), mostly_below(5))
+        && same_explain(image, length, TOWANCHOR_GROUP_A) && same_explain(image, length, TOWANCHOR_GROUP_B)
+        && same_explain(image, length, above(TOWANCHOR_GROUP_B));
 }
 
 /* That the proved functions take an image, or refuse it, as this program expects. */

@@ -10,9 +10,10 @@ void *memcpy(void *to, const void *from, size_t length);
 
 enum { IMAGE = TOWANCHOR_IMAGE_SIZE, MOST_CALLS = 16, SIGCONT = 18 };
 
-enum function { STEP, PINS, TALLY };
+enum function { STEP, PINS, TALLY, EXPLAIN };
 
-/* The operands of a call: a frame for a step, a port for the pins, a channel and a tally for a tally. Those it lacks are 0. */
+/* The operands of a call: a frame for a step, a port for the pins, a channel and a tally for a tally, a group for an explanation.
+   Those it lacks are 0. */
 struct call {
     unsigned char operands[3];
 };
@@ -36,7 +37,13 @@ static unsigned int empty_tally(const unsigned char *image, size_t length, unsig
     __asm__("ret");
 }
 
-static const struct model empty = { "empty", empty_step, empty_pins, empty_tally };
+__attribute__((naked))
+static unsigned int empty_explain(const unsigned char *image, size_t length, unsigned char group)
+{
+    __asm__("ret");
+}
+
+static const struct model empty = { "empty", empty_step, empty_pins, empty_tally, empty_explain };
 
 /* Histories are frames as in a script, with spaces between. Scale and printer: port A in mode 1 input, port B in mode 1 output,
    both enables set, STB and ACK high. */
@@ -75,6 +82,9 @@ static const struct {
     { "view of B", PINS, A_BYTE_WAITS, "01", 0 },
     { "view of C, mode 1", PINS, A_BYTE_WAITS, "02", 0 },
     { "view of C, mode 2", PINS, BYTES_WAIT_IN_MODE_2, "02", 0 },
+    { "explain A, mode 1", EXPLAIN, A_BYTE_WAITS, "00", 0 },
+    { "explain A, mode 2", EXPLAIN, BYTES_WAIT_IN_MODE_2, "00", 0 },
+    { "explain B, mode 0", EXPLAIN, "", "01", 0 },
     { "a tally", TALLY, A_BYTE_WAITS, "0000", 0 },
     { "scale and printer, an event", STEP, SCALE_AND_PRINTER, "050041 0502EF 0502FF 0100 02 030154 02 0502FB 0502FF 0102 02", 0 },
 };
@@ -107,7 +117,8 @@ static unsigned int answer(const struct model *model, enum function function, un
     switch (function) {
     case STEP: return model->step(image, IMAGE, operands[0], operands[1], operands[2]);
     case PINS: return model->pins(image, IMAGE, operands[0]);
-    default: return model->tally(image, IMAGE, operands[0], operands[1]);
+    case TALLY: return model->tally(image, IMAGE, operands[0], operands[1]);
+    default: return model->explain(image, IMAGE, operands[0]);
     }
 }
 

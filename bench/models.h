@@ -10,14 +10,15 @@ struct model {
     unsigned int (*step)(unsigned char *image, size_t length, unsigned char kind, unsigned char first, unsigned char second);
     unsigned int (*pins)(const unsigned char *image, size_t length, unsigned char port);
     unsigned int (*tally)(const unsigned char *image, size_t length, unsigned char channel, unsigned char tally);
+    unsigned int (*explain)(const unsigned char *image, size_t length, unsigned char group);
 };
 
 enum { PROVED, IN_PLACE, LOADED, MODELS };
 
 static const struct model models[MODELS] = {
-    [PROVED] = { "proved", towanchor_step, towanchor_pins, towanchor_tally },
-    [IN_PLACE] = { "plain in place", plain_step, plain_pins, plain_tally },
-    [LOADED] = { "plain loaded", loaded_step, loaded_pins, loaded_tally },
+    [PROVED] = { "proved", towanchor_step, towanchor_pins, towanchor_tally, towanchor_explain },
+    [IN_PLACE] = { "plain in place", plain_step, plain_pins, plain_tally, plain_explain },
+    [LOADED] = { "plain loaded", loaded_step, loaded_pins, loaded_tally, loaded_explain },
 };
 
 #endif

@@ -3,6 +3,7 @@
 #include "plain.h"
 
 enum { PORT_A, PORT_B, PORT_C, CONTROL };
+enum { GROUP_A, GROUP_B };
 enum { A_IN, A_OUT, B_IN, B_OUT, CHANNELS };
 enum { EMPTY, WAITING, FETCHING };
 enum { OFFERED, HANDED_OVER, OVERWRITTEN, SWALLOWED, CLEARED, TALLIES };
@@ -11,6 +12,9 @@ enum { RESET, BEGIN_READ, END_CYCLE, BEGIN_WRITE, OUTSIDE_LEVELS = 5 };
 
 /* The numbers of the answers, 8 being the one for the image. */
 enum { ACCEPTED, NO_SUCH_KIND, OUT_OF_RANGE, NOT_READABLE, CYCLE_RUNS, NO_CYCLE_RUNS, BAD_IMAGE = 8 };
+
+/* What a half of INTR is doing. Of those by which it is low, from ENABLE_OFF to OWN_CYCLE, the first that holds is given. */
+enum { NO_HALF, MODE_ZERO, ENABLE_OFF, FLAG_WRONG, LINE_LOW, OWN_CYCLE, HIGH };
 
 /* The bits of a mode word. */
 enum { MODE_WORD = 0x80, MODE_2_A = 0x40, MODE_1_A = 0x20, INPUT_A = 0x10, INPUT_C_UPPER = 0x08 };
@@ -183,6 +187,64 @@ static unsigned int tally_of(const struct chip *chip, unsigned char channel, uns
     if (channel >= CHANNELS || tally >= TALLIES)
         return OUT_OF_RANGE;
     return ACCEPTED | (unsigned int)chip->tallies[channel][tally] << 8;
+}
+
+/* What INTR is doing. */
+
+/* The line is STB of an input or ACK of an output, on whose place the half has its enable. */
+static unsigned int reason(const struct chip *chip, unsigned char line, int flag, int own_cycle)
+{
+    if (!(chip->enables & line))
+        return ENABLE_OFF;
+    if (!flag)
+        return FLAG_WRONG;
+    if (!(chip->outside[PORT_C] & line))
+        return LINE_LOW;
+    return own_cycle ? OWN_CYCLE : HIGH;
+}
+
+static unsigned int input_half(const struct chip *chip, int in, unsigned char line, unsigned char port)
+{
+    return reason(chip, line, input_full(chip, in), runs(chip, READING, port));
+}
+
+static unsigned int output_half(const struct chip *chip, int out, unsigned char line, unsigned char port)
+{
+    return reason(chip, line, output_free(chip, out), runs(chip, WRITING, port));
+}
+
+static unsigned int explained(unsigned int input, unsigned int output)
+{
+    return ACCEPTED | input << 8 | output << 16;
+}
+
+static unsigned int explain_a(const struct chip *chip)
+{
+    if (chip->word & MODE_2_A)
+        return explained(input_half(chip, A_IN, STB_A, PORT_A), output_half(chip, A_OUT, ACK_A, PORT_A));
+    if (!(chip->word & MODE_1_A))
+        return explained(MODE_ZERO, MODE_ZERO);
+    if (chip->word & INPUT_A)
+        return explained(input_half(chip, A_IN, STB_A, PORT_A), NO_HALF);
+    return explained(NO_HALF, output_half(chip, A_OUT, ACK_A, PORT_A));
+}
+
+static unsigned int explain_b(const struct chip *chip)
+{
+    if (!(chip->word & MODE_1_B))
+        return explained(MODE_ZERO, MODE_ZERO);
+    if (chip->word & INPUT_B)
+        return explained(input_half(chip, B_IN, STB_ACK_B, PORT_B), NO_HALF);
+    return explained(NO_HALF, output_half(chip, B_OUT, STB_ACK_B, PORT_B));
+}
+
+static unsigned int explain(const struct chip *chip, unsigned char group)
+{
+    switch (group) {
+    case GROUP_A: return explain_a(chip);
+    case GROUP_B: return explain_b(chip);
+    default: return OUT_OF_RANGE;
+    }
 }
 
 /* What can happen to a channel. */
@@ -402,6 +464,14 @@ unsigned int plain_tally(const unsigned char *image, size_t length, unsigned cha
     return tally_of(chip, channel, tally);
 }
 
+unsigned int plain_explain(const unsigned char *image, size_t length, unsigned char group)
+{
+    const struct chip *chip = (const struct chip *)image;
+    if (length != IMAGE || !good(chip))
+        return BAD_IMAGE;
+    return explain(chip, group);
+}
+
 /* Loaded. The image's numbers of two bytes have the low byte first. */
 
 enum { TALLIES_AT = 0, OUTSIDE_AT = 40, LATCH_C_AT = 43, LATCHES_AT = 44, CONDITIONS_AT = 48, WORD_AT = 52, ENABLES_AT, BUS_AT,
@@ -482,4 +552,13 @@ unsigned int loaded_tally(const unsigned char *image, size_t length, unsigned ch
         return BAD_IMAGE;
     load(&chip, image);
     return good(&chip) ? tally_of(&chip, channel, tally) : BAD_IMAGE;
+}
+
+unsigned int loaded_explain(const unsigned char *image, size_t length, unsigned char group)
+{
+    struct chip chip;
+    if (length != IMAGE)
+        return BAD_IMAGE;
+    load(&chip, image);
+    return good(&chip) ? explain(&chip, group) : BAD_IMAGE;
 }

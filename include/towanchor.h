@@ -11,11 +11,9 @@
  * when it is switched on anew: towanchor_power_up_with_levels(image, length, 0xFF, 0xFF, 0xFF).
  *
  * What a function answers, and what it writes into the image, depends on the image and the operands and on nothing else. No
- * function allocates, prints, keeps anything from one call to the next, or fails: each returns one number, to be taken apart by
- * the macros below, of which TOWANCHOR_NUMBER says whether the call was accepted. A refused call writes nothing, and all bits of
- * its answer above the number are 0.
- *
- * In every function 'image' points to 'length' bytes, and 'length' must be TOWANCHOR_IMAGE_SIZE.
+ * function allocates, prints, keeps anything from one call to the next, or fails. Each that takes an image returns one number, to be
+ * taken apart by the macros below, of which TOWANCHOR_NUMBER says whether the call was accepted. A refused call writes nothing, and
+ * all bits of its answer above the number are 0. 'image' points to 'length' bytes, and 'length' must be TOWANCHOR_IMAGE_SIZE.
  */
 #ifndef TOWANCHOR_H
 #define TOWANCHOR_H
@@ -32,7 +30,7 @@ extern "C" {
 /* The number of an answer. Where several would apply, TOWANCHOR_NO_STATE comes first, and then the lowest. */
 #define TOWANCHOR_ACCEPTED 0       /* nothing was refused */
 #define TOWANCHOR_NO_SUCH_KIND 1   /* the kind of an event is none of those below */
-#define TOWANCHOR_OUT_OF_RANGE 2   /* an address above 3, a port above 2, a channel above 3 or a tally above 4 */
+#define TOWANCHOR_OUT_OF_RANGE 2   /* an address above 3, a port above 2, a channel above 3, a tally above 4 or a group above 1 */
 #define TOWANCHOR_NOT_READABLE 3   /* a read was begun at the control address */
 #define TOWANCHOR_CYCLE_RUNS 4     /* a read or a write was begun while one runs */
 #define TOWANCHOR_NO_CYCLE_RUNS 5  /* a cycle was ended while none runs */
@@ -85,12 +83,30 @@ extern "C" {
 #define TOWANCHOR_SWALLOWED 3      /* lost to the end of a read that had begun before the byte came */
 #define TOWANCHOR_CLEARED 4        /* lost to a reset or a mode word */
 
+/* Groups: a port with its pins of port C. A group's INTR has two halves: one asks for a read of the port, the other for a write. Mode 1
+ * has one of them, by the port's direction; mode 2 has both, and either raises the pin; mode 0 has none, and the pin is a plain one. */
+#define TOWANCHOR_GROUP_A 0        /* port A, with TOWANCHOR_INTR_A */
+#define TOWANCHOR_GROUP_B 1        /* port B, with TOWANCHOR_INTR_B */
+#define TOWANCHOR_INPUT 0          /* the half that asks for a read */
+#define TOWANCHOR_OUTPUT 1         /* the half that asks for a write */
+
+/* Reasons: what a half is doing. Where several hold by which it is low, the lowest is given. */
+#define TOWANCHOR_NO_HALF 0        /* there is no such half: in mode 1 the port goes the other way */
+#define TOWANCHOR_MODE_ZERO 1      /* there is no INTR: the group is in mode 0; it is said of both halves */
+#define TOWANCHOR_ENABLE_OFF 2     /* low: the interrupt is not enabled */
+#define TOWANCHOR_FLAG_WRONG 3     /* low: IBF is low, and no byte waits in the input; or OBF is low, and one waits in the output */
+#define TOWANCHOR_LINE_LOW 4       /* low: STB of an input is low, or ACK of an output */
+#define TOWANCHOR_OWN_CYCLE 5      /* low: a read of an input's port runs, or a write to an output's */
+#define TOWANCHOR_HIGH 6           /* high */
+
 /* Taking an answer apart. */
 #define TOWANCHOR_NUMBER(answer) ((answer) & 0xFFu)           /* of every answer: 0, or why the call was refused */
 #define TOWANCHOR_BYTE(answer) (((answer) >> 8) & 0xFFu)      /* of towanchor_step: the byte that is read */
 #define TOWANCHOR_LEVELS(answer) (((answer) >> 8) & 0xFFu)    /* of towanchor_pins: the levels of the eight pins */
 #define TOWANCHOR_DRIVEN(answer) (((answer) >> 16) & 0xFFu)   /* of towanchor_pins: a one for each pin that the chip drives */
 #define TOWANCHOR_TALLY(answer) (((answer) >> 8) & 0xFFFFu)   /* of towanchor_tally: the count */
+#define TOWANCHOR_REASON(answer, half) \
+    (((answer) >> ((half) == TOWANCHOR_OUTPUT ? 16 : 8)) & 0xFFu) /* of towanchor_explain: what that half is doing */
 
 /* Makes the image that of a chip just powered up: all ports inputs in mode 0, outside levels low, all tallies 0. What stood in it
  * does not matter. Refuses nothing but a wrong length.
@@ -115,6 +131,37 @@ unsigned int towanchor_pins(const unsigned char *image, size_t length, unsigned 
 
 /* Answers one tally of one channel (TOWANCHOR_TALLY). */
 unsigned int towanchor_tally(const unsigned char *image, size_t length, unsigned char channel, unsigned char tally);
+
+/* Explains a group's INTR: what each of its halves is doing and, where it is low, the first reason (TOWANCHOR_REASON). TOWANCHOR_NUMBER
+ * is asked first: a refused answer has TOWANCHOR_NO_HALF for both halves. */
+unsigned int towanchor_explain(const unsigned char *image, size_t length, unsigned char group);
+
+/* The words of a reason of TOWANCHOR_INPUT or TOWANCHOR_OUTPUT, as in "low, the acknowledge line is low". A number that is no reason has
+ * those of TOWANCHOR_NO_HALF. A host that does not call it gets no warning for it. */
+#ifdef __GNUC__
+__attribute__((__unused__))
+#endif
+static const char *towanchor_words(unsigned int reason, unsigned int half)
+{
+    int output = half == TOWANCHOR_OUTPUT;
+
+    switch (reason) {
+    case TOWANCHOR_MODE_ZERO:
+        return "there is no INTR, the group is in mode 0";
+    case TOWANCHOR_ENABLE_OFF:
+        return "low, the interrupt is not enabled";
+    case TOWANCHOR_FLAG_WRONG:
+        return output ? "low, the last byte has not been taken" : "low, no byte is waiting to be read";
+    case TOWANCHOR_LINE_LOW:
+        return output ? "low, the acknowledge line is low" : "low, the strobe line is low";
+    case TOWANCHOR_OWN_CYCLE:
+        return output ? "low, a write to the port is running" : "low, a read of the port is running";
+    case TOWANCHOR_HIGH:
+        return "high";
+    default:
+        return "not in use";
+    }
+}
 
 #ifdef __cplusplus
 }

@@ -2,6 +2,7 @@
  * of no state is refused by number 8, before every other number; one that is of a state is not; neither is written to. */
 #include "guarded.h"
 #include "judgement.h"
+#include "layout.h"
 #include "script.h"
 #include "towanchor.h"
 
@@ -64,11 +65,13 @@ static int is_refused(const unsigned char *bad, unsigned char kind)
            towanchor_pins(image, SIZE, TOWANCHOR_A) == TOWANCHOR_NO_STATE &&
            towanchor_pins(image, SIZE, 9) == TOWANCHOR_NO_STATE &&
            towanchor_tally(image, SIZE, TOWANCHOR_A_IN, TOWANCHOR_OFFERED) == TOWANCHOR_NO_STATE &&
-           towanchor_tally(image, SIZE, 9, 9) == TOWANCHOR_NO_STATE && guarded_untouched(&guarded);
+           towanchor_tally(image, SIZE, 9, 9) == TOWANCHOR_NO_STATE &&
+           towanchor_explain(image, SIZE, TOWANCHOR_GROUP_A) == TOWANCHOR_NO_STATE &&
+           towanchor_explain(image, SIZE, 9) == TOWANCHOR_NO_STATE && guarded_untouched(&guarded);
 }
 
-/* Whether a good image is taken as such: refused events get their own number and write nothing, views and tallies are shown, and
- * what an event leaves is the image of a state again, with nothing written beside it. */
+/* Whether a good image is taken as such: what is refused gets its own number and writes nothing, views, tallies and INTR are shown,
+ * and what an event leaves is the image of a state again, with nothing written beside it. */
 static int is_taken(const unsigned char *good, unsigned char kind)
 {
     static struct guarded guarded;
@@ -77,8 +80,10 @@ static int is_taken(const unsigned char *good, unsigned char kind)
     return towanchor_step(image, SIZE, 9, 0, 0) == TOWANCHOR_NO_SUCH_KIND &&
            TOWANCHOR_NUMBER(towanchor_pins(image, SIZE, TOWANCHOR_C)) == TOWANCHOR_ACCEPTED &&
            TOWANCHOR_NUMBER(towanchor_tally(image, SIZE, TOWANCHOR_B_OUT, TOWANCHOR_CLEARED)) == TOWANCHOR_ACCEPTED &&
-           guarded_untouched(&guarded) && TOWANCHOR_NUMBER(towanchor_step(image, SIZE, kind, 0, 0)) != TOWANCHOR_NO_STATE &&
-           is_image(image) && guarded_kept_beyond(&guarded, SIZE);
+           TOWANCHOR_NUMBER(towanchor_explain(image, SIZE, TOWANCHOR_GROUP_B)) == TOWANCHOR_ACCEPTED &&
+           towanchor_explain(image, SIZE, 9) == TOWANCHOR_OUT_OF_RANGE && guarded_untouched(&guarded) &&
+           TOWANCHOR_NUMBER(towanchor_step(image, SIZE, kind, 0, 0)) != TOWANCHOR_NO_STATE && is_image(image) &&
+           guarded_kept_beyond(&guarded, SIZE);
 }
 
 static void damage(const unsigned char *reached, struct counts *counts)

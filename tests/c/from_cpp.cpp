@@ -1,4 +1,4 @@
-/* The functions have C's names in C++ too: a C++ program links them, and each accepts. */
+/* The functions have C's names in C++ too: a C++ program links them, and each accepts; the words of a reason are there as well. */
 #include "towanchor.h"
 
 int main()
@@ -11,5 +11,6 @@ int main()
     refused |= TOWANCHOR_NUMBER(towanchor_step(image, sizeof image, TOWANCHOR_RESET, 0, 0));
     refused |= TOWANCHOR_NUMBER(towanchor_pins(image, sizeof image, TOWANCHOR_A));
     refused |= TOWANCHOR_NUMBER(towanchor_tally(image, sizeof image, TOWANCHOR_A_IN, TOWANCHOR_OFFERED));
-    return refused == 0 ? 0 : 1;
+    refused |= TOWANCHOR_NUMBER(towanchor_explain(image, sizeof image, TOWANCHOR_GROUP_A));
+    return refused == 0 && towanchor_words(TOWANCHOR_HIGH, TOWANCHOR_INPUT)[0] == 'h' ? 0 : 1;
 }

@@ -1,29 +1,9 @@
-/* The layout of an image, and which of all images are good. Tallies (0 to 39), outside levels and latches (40 to 47) may have any
- * value; the rest is judged. */
+/* Which of all images are good. Tallies (0 to 39), outside levels and latches (40 to 47) may have any value; the rest is judged. */
 #include "judgement.h"
 
+#include "layout.h"
 #include "mode_words.h"
 #include "towanchor.h"
-
-#define CONDITION_A_IN 48
-#define CONDITION_A_OUT 49
-#define CONDITION_B_IN 50
-#define CONDITION_B_OUT 51
-#define MODE_WORD 52
-#define ENABLES 53
-#define BUS 54
-#define BUS_PLACE 55
-#define BUS_BYTE 56
-#define FIRST_UNUSED 57
-#define END 64
-
-#define INTE_IN_A 0x10
-#define INTE_OUT_A 0x40
-#define INTE_B 0x04
-
-#define IDLE 0
-#define READ_RUNS 1
-#define WRITE_RUNS 2
 
 static int good_channels(const unsigned char *image)
 {

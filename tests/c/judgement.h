@@ -2,11 +2,6 @@
 #ifndef TESTS_JUDGEMENT_H
 #define TESTS_JUDGEMENT_H
 
-/* The conditions of a channel. */
-#define EMPTY 0
-#define WAITING 1
-#define FETCHING 2
-
 /* Whether 64 bytes are the image of a state. */
 int is_image(const unsigned char *image);
 

@@ -19,6 +19,8 @@ static void refused(const unsigned char *image, unsigned int length)
     check(towanchor_pins(put, length, 9) == TOWANCHOR_NO_STATE, "a bad port of a length", length);
     check(towanchor_tally(put, length, TOWANCHOR_A_IN, TOWANCHOR_OFFERED) == TOWANCHOR_NO_STATE, "a tally of a length", length);
     check(towanchor_tally(put, length, 9, 9) == TOWANCHOR_NO_STATE, "a bad tally of a length", length);
+    check(towanchor_explain(put, length, TOWANCHOR_GROUP_A) == TOWANCHOR_NO_STATE, "a group's INTR of a length", length);
+    check(towanchor_explain(put, length, 9) == TOWANCHOR_NO_STATE, "a bad group of a length", length);
     check(guarded_untouched(&guarded), "something was written with length", length);
 }
 

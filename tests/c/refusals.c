@@ -53,7 +53,7 @@ static void meanwhile(void)
         event(TOWANCHOR_BEGIN_WRITE, address, 0, TOWANCHOR_CYCLE_RUNS, "a write while a cycle runs");
 }
 
-/* A view or a tally is shown where its operands are in range, and else refused by number 2 alone. */
+/* A view, a tally or an INTR is shown where its operands are in range, and else refused by number 2 alone. */
 static void shown(unsigned int answer, int in_range, const char *what, unsigned int value)
 {
     if (in_range)
@@ -64,15 +64,19 @@ static void shown(unsigned int answer, int in_range, const char *what, unsigned 
 
 static void views(void)
 {
+    unsigned char before[SIZE];
     unsigned int value;
 
+    memcpy(before, image, SIZE);
     for (value = 0; value < 256; value++) {
         unsigned char operand = (unsigned char)value;
 
         shown(towanchor_pins(image, SIZE, operand), value <= TOWANCHOR_C, "the pins of a port", value);
         shown(towanchor_tally(image, SIZE, operand, TOWANCHOR_CLEARED), value <= TOWANCHOR_B_OUT, "a tally of a channel", value);
         shown(towanchor_tally(image, SIZE, TOWANCHOR_B_OUT, operand), value <= TOWANCHOR_CLEARED, "a channel's tally", value);
+        shown(towanchor_explain(image, SIZE, operand), value <= TOWANCHOR_GROUP_B, "the INTR of a group", value);
     }
+    check(memcmp(before, image, SIZE) == 0, "what is shown or refused wrote", 0);
 }
 
 int main(void)

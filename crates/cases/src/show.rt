@@ -5,6 +5,8 @@ use channel::Side;
 use channel::Tally;
 use chip::Chip;
 use control::Group;
+use status::reasons::Explained;
+use status::reasons::Reason;
 use step::Stepped;
 
 fn counts(tally: Tally) {
@@ -48,6 +50,38 @@ fn pins(chip: Chip, name: u8) {
     }
 }
 
+fn half(reason: Reason) {
+    match reason {
+        Reason::EnableOff => print::word(b"enable off"),
+        Reason::FlagWrong => print::word(b"flag wrong"),
+        Reason::LineLow => print::word(b"line low"),
+        Reason::CycleRuns => print::word(b"own cycle"),
+        Reason::High => print::word(b"high"),
+    }
+}
+
+// What is said of a group's INTR.
+fn said(explained: Explained) {
+    match explained {
+        Explained::NoGroup => print::word(b"no such group"),
+        Explained::ModeZero => print::word(b"mode 0"),
+        Explained::InputHalf(input) => {
+            print::word(b"input ");
+            half(input);
+        }
+        Explained::OutputHalf(output) => {
+            print::word(b"output ");
+            half(output);
+        }
+        Explained::BothHalves(input, output) => {
+            print::word(b"input ");
+            half(input);
+            print::word(b", output ");
+            half(output);
+        }
+    }
+}
+
 pub(super) fn field(last: Stepped, name: u8) {
     match name {
         b'0' => channel(last.chip, Group::A, Side::Input),
@@ -58,6 +92,9 @@ pub(super) fn field(last: Stepped, name: u8) {
         b'y' => print::byte(last.byte),
         b'r' => print::byte(ports::read::value(last.chip, 2)),
         b'w' => print::byte(last.chip.core.word),
+        b'i' => said(status::reasons::explain(last.chip, 0)),
+        b'j' => said(status::reasons::explain(last.chip, 1)),
+        b'k' => said(status::reasons::explain(last.chip, 2)),
         _ => pins(last.chip, name),
     }
 }

@@ -5,6 +5,7 @@
 //     %n %y      the number and the byte of the last event
 //     %r %w      a read of port C, and the stored mode word
 //     %0 to %3   a channel and its tallies: A in, A out, B in, B out
+//     %i %j %k   what is said of the INTR of group A, of B, and of a group that there is not
 //     !P         another chip: at power-up with every line high, or as states.rt has it
 use super::print;
 use super::show;

@@ -4,8 +4,8 @@ use super::counts::Counts;
 use super::print;
 use super::views::View;
 
-fn same(one: [u8; 12], other: [u8; 12]) -> bool {
-    for at in 0..12 {
+fn same(one: [u8; 16], other: [u8; 16]) -> bool {
+    for at in 0..16 {
         if one[at] != other[at] {
             return false;
         }

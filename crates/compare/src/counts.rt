@@ -1,16 +1,17 @@
 // What the histories were made of and what happened in them, in one row of counts:
 //
 //     0 histories, 1 events, 2 to 7 by kind, of which the last is for numbers that are none, 8 to 13 by number
-//     14 to 33 what became of bytes, in the order of the tallies; 34 bit words, 35 mode words; 36 differences
+//     14 to 33 what became of bytes, in the order of the tallies; 34 bit words, 35 mode words
+//     36 to 42 what was said of the halves of INTR, by its number; 43 differences
 use super::views::View;
 
-pub(super) type Counts = [u64; 37];
+pub(super) type Counts = [u64; 44];
 
-pub(super) const DIFFERENCES: usize = 36;
+pub(super) const DIFFERENCES: usize = 43;
 
 // Adds to the count that stands so far behind the first of its kind.
 pub(super) fn add(counts: &mut Counts, first: usize, behind: u8, by: u16) {
-    let place = (first % 37 + behind as usize) % 37;
+    let place = (first % 44 + behind as usize) % 44;
     counts[place] = std::num::wrapping_add_u64(counts[place], by as u64);
 }
 
@@ -42,9 +43,17 @@ fn fates(counts: &mut Counts, before: [u16; 20], after: [u16; 20]) {
 }
 
 // The control word that the event brought into effect, if it did: the end of a write to address 3.
-fn word(counts: &mut Counts, kind: u8, before: [u8; 12]) {
+fn word(counts: &mut Counts, kind: u8, before: [u8; 16]) {
     let ended = (kind == 2) & (before[8] == 2) & (before[9] == 3);
     add(counts, 34, before[10] / 128, flag(ended));
+}
+
+// What is said of each half after the event.
+fn reasons(counts: &mut Counts, after: [u8; 16]) {
+    add(counts, 36, after[12], 1);
+    add(counts, 36, after[13], 1);
+    add(counts, 36, after[14], 1);
+    add(counts, 36, after[15], 1);
 }
 
 pub(super) fn count(counts: &mut Counts, kind: u8, before: View, after: View) {
@@ -54,5 +63,6 @@ pub(super) fn count(counts: &mut Counts, kind: u8, before: View, after: View) {
     let tally_is = after.tally;
     event(counts, kind, is[0]);
     word(counts, kind, was);
+    reasons(counts, is);
     fates(counts, tally_was, tally_is);
 }

@@ -4,9 +4,9 @@ use second::Answer;
 use step::Stepped;
 
 // What is shown: 0 the number, 1 the byte; 2 to 4 the levels of A, B and C, 5 to 7 their driven pins; and of what is kept:
-// 8 to 10 the phase, its port or address and its byte, 11 the mode word.
+// 8 to 10 the phase, its port or address and its byte, 11 the mode word. 12 to 15 are what is said of INTR: of A's input and output, of B's.
 pub(super) struct View {
-    pub(super) shown: [u8; 12],
+    pub(super) shown: [u8; 16],
     pub(super) tally: [u16; 20],
 }
 
@@ -17,6 +17,8 @@ pub(super) fn of_proved(last: Stepped) -> View {
     let b = ports::view::pins(chip, 1);
     let c = ports::view::pins(chip, 2);
     let bus = twins::running(phase);
+    let of_a = status::reasons::numbered(status::reasons::explain(chip, 0));
+    let of_b = status::reasons::numbered(status::reasons::explain(chip, 1));
     let tally = twins::tallies(chip);
     View {
         shown: [
@@ -32,6 +34,10 @@ pub(super) fn of_proved(last: Stepped) -> View {
             bus.place,
             bus.data,
             chip.core.word,
+            of_a.input,
+            of_a.output,
+            of_b.input,
+            of_b.output,
         ],
         tally,
     }
@@ -39,6 +45,8 @@ pub(super) fn of_proved(last: Stepped) -> View {
 
 pub(super) fn of_second(last: Answer) -> View {
     let machine = last.machine;
+    let of_a = second::explain(machine, 0);
+    let of_b = second::explain(machine, 1);
     let tally = machine.tally;
     View {
         shown: [
@@ -54,6 +62,10 @@ pub(super) fn of_second(last: Answer) -> View {
             machine.place,
             machine.data,
             machine.word,
+            of_a.input,
+            of_a.output,
+            of_b.input,
+            of_b.output,
         ],
         tally,
     }

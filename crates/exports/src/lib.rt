@@ -1,6 +1,6 @@
 // The functions that a host in C links: those of the crate host under names of their own. include/towanchor.h declares them.
 ghost use mathlib.Core.Path.{_≡_};
-ghost use Rattle.host.specs.Calls.{powerUpAnswer, powerUpImage, powerUpImageWith, stepAnswer, stepImage, pinsAnswer, tallyAnswer};
+ghost use Rattle.host.specs.Calls.{powerUpAnswer, powerUpImage, powerUpImageWith, stepAnswer, stepImage, pinsAnswer, tallyAnswer, explainAnswer};
 
 #[no_mangle]
 pub extern "C" fn towanchor_power_up(image: &mut [u8]) -> u32
@@ -38,4 +38,11 @@ pub extern "C" fn towanchor_tally(image: &[u8], channel: u8, number: u8) -> u32
     ensures { λ r. ⌜ r ≡ tallyAnswer (now (image .entry)) channel number ⌝ }
 {
     host::tally(image, channel, number)
+}
+
+#[no_mangle]
+pub extern "C" fn towanchor_explain(image: &[u8], group: u8) -> u32
+    ensures { λ r. ⌜ r ≡ explainAnswer (now (image .entry)) group ⌝ }
+{
+    host::explain(image, group)
 }

@@ -12,7 +12,9 @@ use Rattle.frames.specs.declared.Frame.{Frame}
 use Rattle.frames.specs.declared.Frame.the-variants.{Event as Frame·Event, NoFrame}
 use Rattle.script.specs.Lines.{Line, linesOf}
 use Rattle.script.specs.Answers.{frameIn, acted, shownAfter, lineText, answersFrom}
+use Rattle.script.specs.Left.{chipAfter}
 use Rattle.laws.specs.History.{stepped}
+use Rattle.fates.specs.Promise.{run}
 use Rattle.fates.specs.ScriptRun.{eventOf, historyOf, answersTo, RunKept}
 use Rattle.fates.proofs.Demand.{fates, disciplined}
 
@@ -30,9 +32,14 @@ answers-are c (l ∷ ls) =
     (ap (λ (t : List ℕ). lineText (shownAfter (stepped c (eventOf (frameIn l)))) ++ t)
     (answers-are (stepped c (eventOf (frameIn l)) .chip) ls))
 
+leaves-are : (c : Chip) (ls : List Line) → chipAfter c ls ≡ run c (map (λ (l : Line). eventOf (frameIn l)) ls)
+leaves-are c [] = refl
+leaves-are c (l ∷ ls) = rw (acted-is c (frameIn l)) (leaves-are (stepped c (eventOf (frameIn l)) .chip) ls)
+
 pub run-kept : (text : List ℕ) → RunKept text
 run-kept text = record {
   answers = answers-are (powerUpWith allHigh) (linesOf text);
+  leaves = leaves-are (powerUpWith allHigh) (linesOf text);
   fates = λ g s. fates g s allHigh (historyOf text);
   noneLost = λ g. disciplined g allHigh (historyOf text);
 }

@@ -11,10 +11,11 @@ use Rattle.frames.specs.declared.Frame.{Frame}
 use Rattle.frames.specs.declared.Frame.the-variants.{Event as Frame·Event, NoFrame}
 use Rattle.script.specs.Lines.{Line, linesOf}
 use Rattle.script.specs.Answers.{frameIn, shownAfter, lineText, answersOf}
+use Rattle.script.specs.Left.{chipLeft}
 use Rattle.laws.specs.History.{Event, event, stepped}
 use Rattle.fates.specs.Around.{atPowerUp}
 use Rattle.fates.specs.Bytes.{bytesOf}
-use Rattle.fates.specs.Promise.{Fates}
+use Rattle.fates.specs.Promise.{Fates, run}
 use Rattle.fates.specs.Discipline.{Disciplined, NoneLost}
 
 -- A frame is its event; what is no frame is an event of no kind, so that the place of an event is the number of its line.
@@ -31,10 +32,12 @@ abbrev pub answersTo : Chip → List Event → List ℕ
 answersTo c [] = []
 answersTo c (e ∷ es) = lineText (shownAfter (stepped c e)) ++ answersTo (stepped c e .chip) es
 
--- What is promised of a text: its answers are those of its history from a power-up with every line high; every byte of that history has
--- its fate on each of the four channels; and where scale and program mind IBF no input byte is lost.
+-- What is promised of a text: its answers are those of its history from a power-up with every line high, and the chip that it leaves is
+-- the one that its history leads to; every byte of that history has its fate on each of the four channels; and where scale and program
+-- mind IBF no input byte is lost.
 pub record RunKept (text : List ℕ) : Type 0 where
   pub answers : answersOf text ≡ answersTo (powerUpWith allHigh) (historyOf text)
+  pub leaves : chipLeft text ≡ run (powerUpWith allHigh) (historyOf text)
   pub fates : (g : Group) (s : Side)
       → Fates g s (powerUpWith allHigh) (historyOf text) noTally (bytesOf g s allHigh (historyOf text)) (bytesOf g s allHigh (historyOf text))
   pub noneLost : (g : Group)

@@ -11,6 +11,8 @@ use Rattle.channel.specs.declared.Side.{Side}
 use Rattle.channel.specs.declared.Side.the-variants.{Input, Output}
 use Rattle.channel.specs.declared.Tally.{Tally}
 use Rattle.chip.specs.State.{levelsBy, powerUpWith, powerUp, tallyOf}
+use Rattle.status.specs.declared.reasons.Numbers.{Numbers}
+use Rattle.status.specs.Reasons.{explainedOf, numbersOf}
 use Rattle.ports.specs.declared.Pins.{Pins}
 use Rattle.ports.specs.Pins.{pinsOf}
 use Rattle.step.specs.declared.Stepped.{Stepped}
@@ -87,3 +89,11 @@ tallyAnswer l k n =
     orBad l
     (orNone (ltb 3 k || ltb 4 n)
     (256 * counterNumbered (tallyOf (stateOf l) (groupNumbered k) (sideNumbered k)) n))
+
+-- What is said of an INTR: the number, and above it the reason of the input's half and that of the output's.
+abbrev pub reasonsGiven : Numbers → ℕ
+reasonsGiven n = packed (n .number) (n .input) (n .output)
+
+-- Why the INTR of group 0 or 1 is low. For another group the answer's own number is 2.
+unfoldable pub explainAnswer : List ℕ → ℕ → ℕ
+explainAnswer l g = orBad l (reasonsGiven (numbersOf (explainedOf (stateOf l) g)))

@@ -1,15 +1,16 @@
-// What a host asks of a chip that it keeps as an image: power-up, the step, the pin view and the tallies. Each answer is one number: the
-// refusal in its lowest byte, and what is given above it.
+// What a host asks of a chip that it keeps as an image: power-up, the step, the pin view, the tallies, and why an INTR is low. Each answer
+// is one number: the refusal in its lowest byte, and what is given above it.
 ghost use mathlib.Core.Path.{_≡_};
 ghost use Prim.Native.Nat.{_*_};
 ghost use Rattle.image.specs.Slices.{savedIn};
-ghost use Rattle.host.specs.Calls.{packed, powerUpAnswer, powerUpImage, powerUpImageWith, stepAnswer, stepImage, pinsGiven, pinsAnswer, groupNumbered, sideNumbered, counterNumbered, tallyAnswer};
+ghost use Rattle.host.specs.Calls.{packed, powerUpAnswer, powerUpImage, powerUpImageWith, stepAnswer, stepImage, pinsGiven, pinsAnswer, groupNumbered, sideNumbered, counterNumbered, tallyAnswer, reasonsGiven, explainAnswer};
 use channel::Side;
 use channel::Tally;
 use chip::Chip;
 use chip::Levels;
 use control::Group;
 use ports::Pins;
+use status::reasons::Numbers;
 
 mod events;
 mod told;
@@ -136,4 +137,21 @@ pub fn tally(image: &[u8], channel: u8, number: u8) -> u32
     }
     let tally = chip::channels::tally(told::state(image), group(channel), side(channel));
     256 * (counter(tally, number) as u32)
+}
+
+fn given(said: Numbers) -> u32
+    ensures { λ r. ⌜ r ≡ reasonsGiven said ⌝ }
+{
+    packed(said.number, said.input, said.output)
+}
+
+// What each half of a group's INTR is doing, and where it is low the first reason.
+pub fn explain(image: &[u8], group: u8) -> u32
+    ensures { λ r. ⌜ r ≡ explainAnswer (now (image .entry)) group ⌝ }
+{
+    if !image::good(image) {
+        return BAD_IMAGE;
+    }
+    let said = status::reasons::explain(told::state(image), group);
+    given(status::reasons::numbered(said))
 }

@@ -1,6 +1,6 @@
 -- INTR as the sheet gives it, in every state: the equation under its figure of mode 2, and each half alone in mode 1; and that the
 -- beginning of the own read or write drops it ("Handshake").
--- Rests on ChannelPins, on control's ModeTwo and Strobed, and on the step's Outcome.
+-- Rests on ChannelPins, on control's ModeTwo and Strobed, on status' ByReason, and on the step's Outcome.
 use mathlib.Core.Path.{_≡_, _∙_, refl, ap, sym}
 use mathlib.Core.Bool.{Bool, true, false, not, _&&_, _||_, or-false}
 use Prim.Native.Nat.{ℕ}
@@ -16,6 +16,7 @@ use Rattle.channel.specs.declared.Side.the-variants.{Input, Output}
 use Rattle.chip.specs.declared.Chip.{Chip}
 use Rattle.chip.specs.Handshakes.{strobed, lineOf, enableOf, ownAddress, running}
 use Rattle.status.specs.Status.{flagAt, requestOf, intrOf}
+use Rattle.status.proofs.ByReason.{quiet}
 use Rattle.step.specs.Numbers.{numberOf}
 use Rattle.step.specs.Step.{stepOf}
 use Rattle.step.proofs.Outcome.{step-accepts}
@@ -26,7 +27,7 @@ use Rattle.laws.proofs.ChannelPins.{flag-pin, line-pin, intr-pin}
 abbrev pub half : Chip → Group → Side → Bool
 half c g s = enableOf (c .core .inte) g s && pin c (flagPin g s) && pin c (lineOf g s) && not (running (c .phase) g s)
 
-half-is : (c : Chip) (g : Group) (s : Side) → strobed (c .core .word) g s ≡ true → requestOf c g s ≡ half c g s
+pub half-is : (c : Chip) (g : Group) (s : Side) → strobed (c .core .word) g s ≡ true → requestOf c g s ≡ half c g s
 unfolding requestOf
 half-is c g s on = rw (on, flag-pin c g s on, line-pin c g s on)
 
@@ -34,7 +35,7 @@ half-is c g s on = rw (on, flag-pin c g s on, line-pin c g s on)
 pub intr-in-mode-2 : (c : Chip) → modeOf (c .core .word) A ≡ 2 → pin c 3 ≡ (half c A Input || half c A Output)
 unfolding intrOf
 intr-in-mode-2 c two =
-    let both = mode-2-both-ways (c .core .word) two in
+    let both = mode-2-both-ways (c .core .word) A two in
     intr-pin c A Input (both .taking)
     ∙ rw (half-is c A Input (both .taking), half-is c A Output (both .giving))
 
@@ -53,10 +54,6 @@ other Output = Input
 one-side : (w : ℕ) (g : Group) (s : Side) → modeOf w g ≡ 1 → strobed w g s ≡ true → strobed w g (other s) ≡ false
 one-side w g Input one on = mode-1-gives w g one ∙ ap not (sym (mode-1-takes w g one) ∙ on)
 one-side w g Output one on = mode-1-takes w g one ∙ not-true (inputOf w g) (sym (mode-1-gives w g one) ∙ on)
-
-quiet : (c : Chip) (g : Group) (s : Side) → strobed (c .core .word) g s ≡ false → requestOf c g s ≡ false
-unfolding requestOf
-quiet c g s off = rw (off)
 
 either-half : (c : Chip) (g : Group) (s : Side) → requestOf c g (other s) ≡ false → intrOf c g ≡ requestOf c g s
 unfolding intrOf
@@ -81,8 +78,8 @@ intr-low-in-own-cycle c g s one on r =
     intr-pin c g s on ∙ either-half c g s (quiet c g (other s) (one-side (c .core .word) g s one on)) ∙ cycle-drops-half c g s r
 
 both-sides : (w : ℕ) (s : Side) → modeOf w A ≡ 2 → strobed w A s ≡ true
-both-sides w Input two = mode-2-both-ways w two .taking
-both-sides w Output two = mode-2-both-ways w two .giving
+both-sides w Input two = mode-2-both-ways w A two .taking
+both-sides w Output two = mode-2-both-ways w A two .giving
 
 other-other : (s : Side) → other (other s) ≡ s
 other-other Input = refl

@@ -2,6 +2,8 @@ pub mod Refusals
 pub mod ChannelPins
 pub mod OneEnd
 pub mod Interrupts
+pub mod Quiet
+pub mod Altered
 pub mod FlagAfter
 pub mod InputFlag
 pub mod OutputFlag

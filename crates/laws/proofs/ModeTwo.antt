@@ -17,7 +17,7 @@ pub mode-2-drives : (c : Chip) → modeOf (c .core .word) A ≡ 2
     → pinsOf c 0 ≡ cond (pin c 6) (record { levels = c .core .a .outside; driven = 0 }) (record { levels = c .core .a .output .latch; driven = 0xff })
 unfolding pinsOf pinsOfPort drivesPort
 mode-2-drives c two =
-    rw (two, line-pin c A Output (mode-2-both-ways (c .core .word) two .giving)) (go (bitOf (c .core .c .outside) 6))
+    rw (two, line-pin c A Output (mode-2-both-ways (c .core .word) A two .giving)) (go (bitOf (c .core .c .outside) 6))
   where
     go : (high : Bool)
         → _≡_ {A = Pins} (record { levels = cond (not high) (c .core .a .output .latch) (c .core .a .outside); driven = cond (not high) 0xff 0 })

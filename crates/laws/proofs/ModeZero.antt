@@ -1,12 +1,13 @@
 -- Mode 0: outputs are latched and inputs are not ("Writes and bit set/reset", "Reads and pins").
--- Rests on OwnPort, writes' After, levels' After, and the step's Ends and Outcome.
+-- Rests on OwnPort, control's Strobed, writes' After, levels' After, and the step's Ends and Outcome.
 use mathlib.Core.Path.{_≡_, _∙_, refl, ap, sym}
 use mathlib.Core.Bool.{true, false, not, and-false}
 use Prim.Native.Nat.{ℕ}
 use lib.Dec.{eqb}
 use Rattle.control.specs.declared.Group.{Group}
 use Rattle.control.specs.declared.Group.the-variants.{A, B}
-use Rattle.control.specs.Mode.{modeOf, inputOf, strobedInput, strobedOutput, outputOf}
+use Rattle.control.specs.Mode.{modeOf, inputOf, outputOf}
+use Rattle.control.proofs.Strobed.{mode-0-takes, mode-0-gives}
 use Rattle.chip.specs.declared.Phase.the-variants.{Writing}
 use Rattle.chip.specs.declared.Port.{Port}
 use Rattle.chip.specs.declared.Core.{Core}
@@ -24,18 +25,9 @@ use Rattle.step.proofs.Ends.{write-ends}
 use Rattle.step.proofs.Outcome.{step-accepts, step-either}
 use Rattle.laws.proofs.OwnPort.{own-accepted, own-pins, own-read}
 
-module _ (w : ℕ) (g : Group) (zero : modeOf w g ≡ 0) where
-  quiet-in : strobedInput w g ≡ false
-  unfolding strobedInput
-  quiet-in = rw (zero)
-
-  quiet-out : strobedOutput w g ≡ false
-  unfolding strobedOutput
-  quiet-out = rw (zero)
-
-  output-by-direction : outputOf w g ≡ not (inputOf w g)
-  unfolding outputOf
-  output-by-direction = rw (zero)
+output-by-direction : (w : ℕ) (g : Group) → modeOf w g ≡ 0 → outputOf w g ≡ not (inputOf w g)
+unfolding outputOf
+output-by-direction w g zero = rw (zero)
 
 driven-by-direction : (c : Core) (g : Group) → modeOf (c .word) g ≡ 0 → drivesPort c g ≡ not (inputOf (c .word) g)
 unfolding drivesPort
@@ -52,7 +44,7 @@ stored-latch : (c : Core) (a b : ℕ) (g : Group) → ownAddress a g ≡ true �
     → portOf (written c a b) g .output .latch ≡ b
 stored-latch c a b g own zero out =
     ap (λ ch. ch .latch) (own-stored c a b g own .output g)
-    ∙ rw (own, output-by-direction (c .word) g zero, out, quiet-out (c .word) g zero)
+    ∙ rw (own, output-by-direction (c .word) g zero, out, mode-0-gives (c .word) g zero)
 
 pub output-shows : (c : Chip) (g : Group) (a b x d : ℕ) → c .phase ≡ Writing a b → ownAddress a g ≡ true
     → modeOf (c .core .word) g ≡ 0 → inputOf (c .core .word) g ≡ false
@@ -66,7 +58,7 @@ output-shows c g a b x d phase own zero out =
 -- What is shown stays, whatever levels are put on any port from outside.
 held-latch : (c : Core) (g : Group) (x d : ℕ) → modeOf (c .word) g ≡ 0 → portOf (levelled c x d) g .output .latch ≡ portOf c g .output .latch
 held-latch c g x d zero =
-    ap (λ ch. ch .latch) (levelled-output c x d g) ∙ rw (quiet-out (c .word) g zero, and-false (eqb x 2))
+    ap (λ ch. ch .latch) (levelled-output c x d g) ∙ rw (mode-0-gives (c .word) g zero, and-false (eqb x 2))
 
 pub output-held : (c : Chip) (g : Group) (a x d : ℕ) → ownAddress a g ≡ true → modeOf (c .core .word) g ≡ 0 → inputOf (c .core .word) g ≡ false
     → pinsOf (stepOf c 5 x d .chip) a ≡ pinsOf c a
@@ -82,7 +74,7 @@ pub input-reads-outside : (c : Chip) (g : Group) (a : ℕ) → ownAddress a g �
     → readOf c a ≡ portOf (c .core) g .outside
 unfolding readPort
 input-reads-outside c g a own zero taking =
-    rw (own-read c a g own, quiet-in (c .core .word) g zero, output-by-direction (c .core .word) g zero, taking)
+    rw (own-read c a g own, mode-0-takes (c .core .word) g zero, output-by-direction (c .core .word) g zero, taking)
 
 pub input-follows : (c : Chip) (g : Group) (a d : ℕ) → ownAddress a g ≡ true → modeOf (c .core .word) g ≡ 0 → inputOf (c .core .word) g ≡ true
     → readOf (stepOf c 5 a d .chip) a ≡ d

@@ -1,3 +1,5 @@
 pub mod Seen
+pub mod Quiet
+pub mod Altered
 pub mod History
 pub mod Marked

@@ -13,6 +13,7 @@ use Rattle.chip.specs.declared.Chip.{Chip}
 use Rattle.script.specs.Lines.{lf, Line, ended, beforeLines, linesOf}
 use Rattle.script.specs.Answers.{atLine, shownAfter, lineText, answersFrom, chipAtStart, answersOf}
 use Rattle.script.specs.Run.{lineCount}
+use Rattle.script.specs.Left.{chipAfter}
 use Rattle.script.proofs.FirstLine.{a-line}
 use Rattle.script.proofs.Answering.{line-length}
 
@@ -26,11 +27,6 @@ eleven-each c (l ∷ ls) =
 
 pub eleven-bytes : (text : List ℕ) → length (answersOf text) ≡ 11 * lineCount text
 eleven-bytes text = eleven-each chipAtStart (linesOf text)
-
--- The chip that some lines leave.
-abbrev pub chipAfter : Chip → List Line → Chip
-chipAfter c [] = c
-chipAfter c (l ∷ ls) = chipAfter (atLine c l .chip) ls
 
 answers-append : (c : Chip) (ls ms : List Line) → answersFrom c (ls ++ ms) ≡ answersFrom c ls ++ answersFrom (chipAfter c ls) ms
 unfolding answersFrom

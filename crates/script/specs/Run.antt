@@ -1,6 +1,6 @@
 -- The run of a text into an output: its number, the lines that it counts, and what the output then holds ("Events and numbers",
 -- "Script and program").
-use mathlib.Core.Bool.{cond}
+use mathlib.Core.Bool.{Bool, cond}
 use mathlib.Core.List.{List, _++_}
 use Prim.Native.Nat.{ℕ, _*_}
 use lib.Dec.{eqb, ltb}
@@ -13,9 +13,13 @@ use Rattle.script.specs.Answers.{answersOf}
 abbrev pub lineCount : List ℕ → ℕ
 lineCount text = length (linesOf text)
 
--- 6: the text is longer than 4,096 bytes. 7: the output has less room than 11 bytes for each line.
+-- A script has at most 4,096 bytes.
+abbrev pub tooLong : List ℕ → Bool
+tooLong text = ltb 4096 (length text)
+
+-- 6: the text is too long. 7: the output has less room than 11 bytes for each line.
 unfoldable pub numberOf : List ℕ → ℕ → ℕ
-numberOf text room = cond (ltb 4096 (length text)) 6 (cond (ltb room (11 * lineCount text)) 7 0)
+numberOf text room = cond (tooLong text) 6 (cond (ltb room (11 * lineCount text)) 7 0)
 
 -- A refused run answers no line; an accepted one answers every line, and has the number 0.
 abbrev pub refusedRun : ℕ → Ran

@@ -5,11 +5,15 @@ ghost use lib.ListN.{length};
 ghost use Rattle.script.specs.Run.{lineCount, refusedRun, ranOf, filled, outputOf};
 
 mod answer;
+pub mod left;
 mod lines;
 mod writer;
 
 // What ends a line.
 const LF: u8 = 10;
+
+// How many bytes a script may have.
+const LONGEST: usize = 4096;
 
 // The number of a run, and how many lines were answered.
 pub struct Ran {
@@ -56,7 +60,7 @@ fn answer_all(text: &[u8], out: &mut [u8])
 pub fn run(text: &[u8], out: &mut [u8]) -> Ran
     ensures { λ r. ⌜ (r ≡ ranOf (now (text .entry)) (length (now (out .entry)))) × (now (out .exit) ≡ outputOf (now (text .entry)) (now (out .entry))) ⌝ }
 {
-    if 4096 < text.len() {
+    if LONGEST < text.len() {
         return refuse(6);
     }
     let lines = lines::count(text);

@@ -9,6 +9,7 @@ mod edges; // new outside levels, and the falls among them
 mod handshake; // what happens to an offered byte, and the tallies
 mod numbers; // which events are refused, and by which number
 mod pins; // levels, driven pins and read values
+mod reasons; // why INTR is low
 mod signals; // INTR, IBF and OBF
 mod words; // what a mode word makes of the ports
 
@@ -31,6 +32,12 @@ pub struct Answer {
     pub machine: Machine,
     pub number: u8,
     pub byte: u8,
+}
+
+pub struct Explanation {
+    pub number: u8, // 0, or 2 for a group that there is not
+    pub input: u8, // 0 no such half, 1 mode 0, 2 enable off, 3 IBF 0, 4 STB low, 5 being read, 6 high
+    pub output: u8, // 0 no such half, 1 mode 0, 2 enable off, 3 OBF 0, 4 ACK low, 5 being written, 6 high
 }
 
 pub fn power_up_with_levels(a: u8, b: u8, c: u8) -> Machine {
@@ -90,4 +97,13 @@ pub fn levels(machine: Machine, port: u8) -> u8 {
 // A 1 for each pin of port 0, 1 or 2 that the chip drives.
 pub fn driven(machine: Machine, port: u8) -> u8 {
     pins::ask(machine, port, pins::DRIVEN)
+}
+
+// What is said of the two halves of a group's INTR, the input's and the output's, behind the number by which the call is refused.
+pub fn explain(machine: Machine, group: u8) -> Explanation {
+    Explanation {
+        number: digits::pick(group > 1, reasons::NO_SUCH_GROUP, 0),
+        input: reasons::of_input(machine, group),
+        output: reasons::of_output(machine, group),
+    }
 }

@@ -2,6 +2,9 @@
 ghost use mathlib.Core.Path.{_≡_};
 ghost use Rattle.chip.specs.Handshakes.{strobed, lineOf, enableOf, ownAddress, reading, writing, running};
 ghost use Rattle.status.specs.Status.{flagAt, requestOf, intrOf, flagOfB, statusOf};
+
+pub mod reasons;
+
 use channel::Side;
 use chip::Chip;
 use chip::Core;

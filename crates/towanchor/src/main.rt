@@ -1,23 +1,28 @@
-// The program: answers the script that stands on standard input, on standard output.
+// The program: answers the script that stands on standard input, or says why the interrupts are quiet after it, on standard output.
+mod answers;
 mod input;
 mod output;
+mod quiet;
 
-// The room for the text is more than a script may have, so that a longer one shows, and that for the answers is enough for all the
-// lines that a script can have.
+// Whether the program was asked for the second, by the word --quiet.
+fn asked_why() -> bool {
+    let mut word = [0u8; 8];
+    let length = os::arg(1, &mut word);
+    check::same(&word[..length], b"--quiet")
+}
+
+// The room for the text is more than a script may have, so that a longer one shows.
 fn main() {
     let mut text = io::large_buffer();
-    let mut out = io::large_buffer();
     let input = input::read(&mut text);
     if !input.whole {
         os::fail(b"standard input");
         return;
     }
     let length = input.length;
-    let ran = script::run(&text[..length], &mut out);
-    if ran.number != 0 {
-        output::refuse(ran.number);
-        return;
+    if asked_why() {
+        quiet::explain(&text[..length]);
+    } else {
+        answers::answer(&text[..length]);
     }
-    let end = 11 * ran.lines;
-    output::write(&out[..end]);
 }

@@ -1,13 +1,22 @@
-// Standard output: the answers to a script, or the number of its refusal.
+// Standard output: what the program says of a script, or the number of its refusal.
 use libc::STDOUT_FILENO;
 
 const LF: u8 = 10;
 
-pub(super) fn write(bytes: &[u8]) {
-    let written = io::write_all(STDOUT_FILENO, bytes);
+// A part of what is said; whether it was written.
+pub(super) fn put(bytes: &[u8]) -> bool {
+    io::write_all(STDOUT_FILENO, bytes)
+}
+
+// All is said; where a part was not written, that is told once.
+pub(super) fn end(written: bool) {
     if !written {
         os::fail(b"standard output");
     }
+}
+
+pub(super) fn write(bytes: &[u8]) {
+    end(put(bytes));
 }
 
 // Two digits and LF.

@@ -1,44 +1,27 @@
--- `main` is safe and ends: what is printed lies within the output.
--- Rests on the contracts of input::read and script's run, and script's Outcome.
+-- `main` is safe and ends: the text lies within what was read.
+-- Rests on the contract of input::read.
 use mathlib.Core.Path.{sym}
 use lib.Seq.{length-take-le}
-use native.Mathlib.Omega.{arith}
 use borrow.Author.Needs.{needs}
-use Rattle.script.proofs.Outcome.{answers-fit}
 use Rattle.towanchor.proofs.main.Statement.{statement}
 use Rattle.towanchor.proofs.main.Tie as tie
-
-slice-aggregate-run : tie.Need-slice-aggregate-run
-slice-aggregate-run c = sym (length-take-le _ _ (search needs))
-
-mul-end : tie.Need-mul-end
-mul-end c = let ran = c .before .before .before .before in omega (arith, answers-fit _ _ _ (ran .run .ensures .0) (c .before .if2 .left))
-
-array-share-prefix-out : tie.Need-array-share-prefix-out
-array-share-prefix-out c = let ran = c .before .before .before .before in omega (arith, answers-fit _ _ _ (ran .run .ensures .0) (c .before .if2 .left))
-
-slice-aggregate-write : tie.Need-slice-aggregate-write
-slice-aggregate-write c = sym (length-take-le _ _ (array-share-prefix-out (c .before)))
 
 pub main-spec : {M : Type 1} → statement M
 main-spec =
     tie.close
     (tie.spec
     (λ c κs. tt)
-    (λ c κs. tt)
     (λ c. search needs)
     (λ c κs. tt)
     (λ c. search needs)
     (λ c κs. tt)
     (λ c. tt)
-    (λ c. search needs)
-    slice-aggregate-run
-    (λ c. search needs)
     (λ c κs. tt)
+    (λ c. search needs)
+    (λ c. sym (length-take-le _ _ (search needs)))
+    (λ c κs. tt)
+    (λ c. search needs)
+    (λ c. sym (length-take-le _ _ (search needs)))
     (λ c κs. tt)
     (λ c. tt)
-    mul-end
-    array-share-prefix-out
-    slice-aggregate-write
-    (λ c κs. tt)
     (λ c. tt))

@@ -1,0 +1,22 @@
+-- What a script leaves: the chip after its last line ("Script and program", "Why the interrupt is quiet").
+use mathlib.Core.Bool.{cond}
+use mathlib.Core.List.{List, [], _∷_}
+use Prim.Native.Nat.{ℕ}
+use Rattle.chip.specs.declared.Chip.{Chip}
+use Rattle.script.specs.declared.left.Left.{Left}
+use Rattle.script.specs.Lines.{Line, linesOf}
+use Rattle.script.specs.Answers.{atLine, chipAtStart}
+use Rattle.script.specs.Run.{tooLong}
+
+-- The chip that some lines leave: each meets the chip that the one before it left.
+abbrev pub chipAfter : Chip → List Line → Chip
+chipAfter c [] = c
+chipAfter c (l ∷ ls) = chipAfter (atLine c l .chip) ls
+
+-- The chip that the lines of a text leave.
+abbrev pub chipLeft : List ℕ → Chip
+chipLeft text = chipAfter chipAtStart (linesOf text)
+
+-- A text that is too long is not run: it has the number 6, and leaves the chip that it would have met.
+abbrev pub leftBy : List ℕ → Left
+leftBy text = cond (tooLong text) (record { number = 6; chip = chipAtStart }) (record { number = 0; chip = chipLeft text })

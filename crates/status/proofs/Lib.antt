@@ -1,0 +1,2 @@
+pub mod ByReason
+pub mod ByMode

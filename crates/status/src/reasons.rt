@@ -1,0 +1,133 @@
+// Why a group's INTR is low: of each half the first reason, or that it is high; and the numbers of these answers.
+ghost use mathlib.Core.Path.{_≡_};
+ghost use Rattle.status.specs.Reasons.{reasonOf, oneWay, explainedIn, explainedOf, reasonNumber, numbersOf};
+use channel::Side;
+use chip::Chip;
+use control::Group;
+
+// What one half of an INTR is doing: low for one of four reasons, or high.
+pub enum Reason {
+    EnableOff,
+    FlagWrong,
+    LineLow,
+    CycleRuns,
+    High,
+}
+
+// What is said of a group's INTR. A group in mode 0 has none; mode 1 has the half of one side, and mode 2 both, the input's first.
+pub enum Explained {
+    NoGroup,
+    ModeZero,
+    InputHalf(Reason),
+    OutputHalf(Reason),
+    BothHalves(Reason, Reason),
+}
+
+// The same in numbers: 0, or 2 where there is no such group; and what is said of each half.
+pub struct Numbers {
+    pub number: u8,
+    pub input: u8,
+    pub output: u8,
+}
+
+fn half(chip: Chip, group: Group, side: Side) -> Reason
+    ensures { λ r. ⌜ r ≡ reasonOf chip group side ⌝ }
+{
+    let core = chip.core;
+    let inte = core.inte;
+    let phase = chip.phase;
+    if !super::enable(inte, group, side) {
+        return Reason::EnableOff;
+    }
+    if !super::flag(core, group, side) {
+        return Reason::FlagWrong;
+    }
+    if !bits::bit(core.c.outside, super::line(group, side)) {
+        return Reason::LineLow;
+    }
+    if super::running(phase, group, side) {
+        return Reason::CycleRuns;
+    }
+    Reason::High
+}
+
+// In mode 1 a port goes one way.
+fn one_way(chip: Chip, group: Group) -> Explained
+    ensures { λ r. ⌜ r ≡ oneWay chip group ⌝ }
+{
+    if control::mode::output(chip.core.word, group) {
+        Explained::OutputHalf(half(chip, group, Side::Output))
+    } else {
+        Explained::InputHalf(half(chip, group, Side::Input))
+    }
+}
+
+fn in_group(chip: Chip, group: Group) -> Explained
+    ensures { λ r. ⌜ r ≡ explainedIn chip group ⌝ }
+{
+    let mode = control::mode::mode(chip.core.word, group);
+    match mode {
+        0 => Explained::ModeZero,
+        2 => Explained::BothHalves(
+            half(chip, group, Side::Input),
+            half(chip, group, Side::Output),
+        ),
+        _ => one_way(chip, group),
+    }
+}
+
+// Explains the INTR of group 0 or 1, A or B.
+pub fn explain(chip: Chip, group: u8) -> Explained
+    ensures { λ r. ⌜ r ≡ explainedOf chip group ⌝ }
+{
+    match group {
+        0 => in_group(chip, Group::A),
+        1 => in_group(chip, Group::B),
+        _ => Explained::NoGroup,
+    }
+}
+
+fn reason_number(reason: Reason) -> u8
+    ensures { λ r. ⌜ r ≡ reasonNumber reason ⌝ }
+{
+    match reason {
+        Reason::EnableOff => 2,
+        Reason::FlagWrong => 3,
+        Reason::LineLow => 4,
+        Reason::CycleRuns => 5,
+        Reason::High => 6,
+    }
+}
+
+// What is said, in numbers.
+pub fn numbered(explained: Explained) -> Numbers
+    ensures { λ r. ⌜ r ≡ numbersOf explained ⌝ }
+{
+    match explained {
+        Explained::NoGroup => Numbers {
+            number: 2,
+            input: 0,
+            output: 0,
+        },
+        Explained::ModeZero => Numbers {
+            number: 0,
+            input: 1,
+            output: 1,
+        },
+        Explained::InputHalf(reason) => Numbers {
+            number: 0,
+            input: reason_number(reason),
+            output: 0,
+        },
+        Explained::OutputHalf(reason) => Numbers {
+            number: 0,
+            input: 0,
+            output: reason_number(reason),
+        },
+        Explained::BothHalves(input, output) => Numbers {
+            number: 0,
+            input: reason_number(input),
+            output: reason_number(output),
+        },
+    }
+}

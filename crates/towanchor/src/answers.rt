@@ -1,0 +1,14 @@
+// The answers to a script.
+use super::output;
+
+// The room for the answers is enough for all the lines that a script can have.
+pub(super) fn answer(text: &[u8]) {
+    let mut out = io::large_buffer();
+    let ran = script::run(text, &mut out);
+    if ran.number != 0 {
+        output::refuse(ran.number);
+        return;
+    }
+    let end = 11 * ran.lines;
+    output::write(&out[..end]);
+}

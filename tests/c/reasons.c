@@ -1,0 +1,270 @@
+/* What each half of INTR is doing, judged by the rules, and its words. The images are put together byte by byte: every mode word, every
+ * combination of conditions that it allows, of the three enables, of the levels of STB and ACK and of what the bus does. In the rest of
+ * an image stands anything. Where a group has an INTR, the pin view shows it high exactly where a half is. */
+#include "checks.h"
+#include "judgement.h"
+#include "layout.h"
+#include "mode_words.h"
+#include "towanchor.h"
+#include "ways.h"
+
+#include <stdio.h>
+#include <string.h>
+
+#define CHANNELS 4
+#define REASONS 7
+
+/* The mode words allow 868 combinations of conditions: group A 62 under bits 6 to 3, and group B 14 under bits 2 to 0. With each go
+ * eight combinations of enables, eight of levels, and eight phases of the bus. */
+#define FAMILY (868ul * 8 * 8 * 8)
+
+static unsigned long images;
+
+/* How often each reason was judged, by channel. */
+static unsigned long judged[CHANNELS][REASONS];
+
+/* A half goes by a channel of its own. */
+static unsigned char channel_of(unsigned char group, unsigned char half)
+{
+    static const unsigned char channels[][2] = {{TOWANCHOR_A_IN, TOWANCHOR_A_OUT}, {TOWANCHOR_B_IN, TOWANCHOR_B_OUT}};
+
+    return channels[group][half];
+}
+
+static int has_half(unsigned char group, unsigned char half)
+{
+    return strobes(image[MODE_WORD], channel_of(group, half));
+}
+
+static int has_intr(unsigned char group)
+{
+    return has_half(group, TOWANCHOR_INPUT) || has_half(group, TOWANCHOR_OUTPUT);
+}
+
+static int is_enabled(unsigned char channel)
+{
+    static const unsigned char enables[] = {INTE_IN_A, INTE_OUT_A, INTE_B, INTE_B};
+
+    return (image[ENABLES] & enables[channel]) != 0;
+}
+
+/* An input with nothing in it, or an output whose byte waits. */
+static int flag_is_wrong(unsigned char channel)
+{
+    unsigned char condition = image[CONDITION_A_IN + channel];
+
+    return is_input(channel) ? condition == EMPTY : condition == WAITING;
+}
+
+static int line_is_low(unsigned char channel)
+{
+    return (image[LEVELS_C] & TOWANCHOR_PIN(ways[channel].pin)) == 0;
+}
+
+static int own_cycle_runs(unsigned char channel)
+{
+    return image[BUS] == (is_input(channel) ? READ_RUNS : WRITE_RUNS) && image[BUS_PLACE] == ways[channel].port;
+}
+
+static unsigned int reason(unsigned char group, unsigned char half)
+{
+    unsigned char channel = channel_of(group, half);
+
+    if (!has_intr(group))
+        return TOWANCHOR_MODE_ZERO;
+    if (!has_half(group, half))
+        return TOWANCHOR_NO_HALF;
+    if (!is_enabled(channel))
+        return TOWANCHOR_ENABLE_OFF;
+    if (flag_is_wrong(channel))
+        return TOWANCHOR_FLAG_WRONG;
+    if (line_is_low(channel))
+        return TOWANCHOR_LINE_LOW;
+    if (own_cycle_runs(channel))
+        return TOWANCHOR_OWN_CYCLE;
+    return TOWANCHOR_HIGH;
+}
+
+/* A check of the image. The first image of which one does not hold is shown. */
+static void holds_of_image(int holds, const char *what)
+{
+    static int is_shown;
+    int byte;
+
+    check(holds, what, image[MODE_WORD]);
+    if (holds || is_shown)
+        return;
+    is_shown = 1;
+    printf("bytes %d to %d of this image:", LEVELS_C, BUS_BYTE);
+    for (byte = LEVELS_C; byte <= BUS_BYTE; byte++)
+        printf(" %02X", image[byte]);
+    printf("\n");
+}
+
+static void group(unsigned char which, int intr)
+{
+    unsigned int input = reason(which, TOWANCHOR_INPUT), output = reason(which, TOWANCHOR_OUTPUT), answer;
+    unsigned char before[TOWANCHOR_IMAGE_SIZE];
+
+    memcpy(before, image, sizeof image);
+    answer = towanchor_explain(image, sizeof image, which);
+    holds_of_image(memcmp(before, image, sizeof image) == 0, "what is explained is untouched, under mode word");
+    judged[channel_of(which, TOWANCHOR_INPUT)][input]++;
+    judged[channel_of(which, TOWANCHOR_OUTPUT)][output]++;
+    holds_of_image(TOWANCHOR_NUMBER(answer) == TOWANCHOR_ACCEPTED, "the number, under mode word");
+    holds_of_image(TOWANCHOR_REASON(answer, TOWANCHOR_INPUT) == input, "the reason of an input, under mode word");
+    holds_of_image(TOWANCHOR_REASON(answer, TOWANCHOR_OUTPUT) == output, "the reason of an output, under mode word");
+    holds_of_image(answer >> 24 == 0, "what is above the reasons, under mode word");
+    if (has_intr(which))
+        holds_of_image(intr == (input == TOWANCHOR_HIGH || output == TOWANCHOR_HIGH), "INTR on its pin, under mode word");
+}
+
+static void both_groups(void)
+{
+    unsigned int levels = TOWANCHOR_LEVELS(towanchor_pins(image, sizeof image, TOWANCHOR_C));
+
+    images++;
+    group(TOWANCHOR_GROUP_A, (levels & TOWANCHOR_PIN(TOWANCHOR_INTR_A)) != 0);
+    group(TOWANCHOR_GROUP_B, (levels & TOWANCHOR_PIN(TOWANCHOR_INTR_B)) != 0);
+}
+
+static void each_phase(void)
+{
+    static const unsigned char phases[][2] = {{IDLE, 0},
+                                              {READ_RUNS, TOWANCHOR_A},
+                                              {READ_RUNS, TOWANCHOR_B},
+                                              {READ_RUNS, TOWANCHOR_C},
+                                              {WRITE_RUNS, TOWANCHOR_A},
+                                              {WRITE_RUNS, TOWANCHOR_B},
+                                              {WRITE_RUNS, TOWANCHOR_C},
+                                              {WRITE_RUNS, TOWANCHOR_CONTROL}};
+    size_t each;
+
+    for (each = 0; each < sizeof phases / sizeof phases[0]; each++) {
+        image[BUS] = phases[each][0];
+        image[BUS_PLACE] = phases[each][1];
+        image[BUS_BYTE] = image[BUS] == WRITE_RUNS ? image[0] : 0;
+        both_groups();
+    }
+}
+
+/* Puts anything into tallies, levels and latches: bytes of a shift register with a fixed beginning. */
+static void scribble(void)
+{
+    static unsigned int state = 0x8255A;
+    int byte;
+
+    for (byte = 0; byte < CONDITION_A_IN; byte++) {
+        state ^= state << 13;
+        state ^= state >> 17;
+        state ^= state << 5;
+        image[byte] = (unsigned char)state;
+    }
+}
+
+/* One of eight combinations of pins 2, 4 and 6: those of STB and ACK, on which the enables are told too. */
+static unsigned int on_pins(unsigned int combination)
+{
+    return (combination & 1) << 2 | (combination & 2) << 3 | (combination & 4) << 4;
+}
+
+static void each_enable_and_level(void)
+{
+    unsigned int enables, levels;
+
+    for (enables = 0; enables < 8; enables++) {
+        for (levels = 0; levels < 8; levels++) {
+            scribble();
+            image[LEVELS_C] = (unsigned char)((image[LEVELS_C] & ~on_pins(7)) | on_pins(levels));
+            image[ENABLES] = (unsigned char)on_pins(enables);
+            each_phase();
+        }
+    }
+}
+
+/* Of all combinations of conditions those that make the image one of a state. */
+static void each_condition(void)
+{
+    unsigned int combination, rest, channel;
+
+    for (combination = 0; combination < 3 * 3 * 3 * 3; combination++) {
+        rest = combination;
+        for (channel = 0; channel < CHANNELS; channel++) {
+            image[CONDITION_A_IN + channel] = (unsigned char)(rest % 3);
+            rest /= 3;
+        }
+        if (is_image(image))
+            each_enable_and_level();
+    }
+}
+
+/* Each reason has been judged of the half of each channel: none is right because it was never asked for. */
+static void all_judged(void)
+{
+    unsigned long least = images;
+    unsigned int channel, which;
+
+    for (channel = 0; channel < CHANNELS; channel++) {
+        for (which = 0; which < REASONS; which++) {
+            check(judged[channel][which] > 0, "a reason was judged of no image, of channel", channel);
+            if (judged[channel][which] < least)
+                least = judged[channel][which];
+        }
+    }
+    check(images == FAMILY, "the images of the family", (unsigned int)images);
+    printf("%lu images, each reason of each half in %lu of them or more\n", images, least);
+}
+
+static int same(const char *words, const char *others)
+{
+    return strcmp(words, others) == 0;
+}
+
+/* The words of a half tell its reasons apart and say which of them are low; any other number has those of no half. */
+static void words(unsigned int half)
+{
+    unsigned int which, other;
+
+    for (which = 0; which < REASONS; which++) {
+        const char *its = towanchor_words(which, half);
+        int is_low = which >= TOWANCHOR_ENABLE_OFF && which <= TOWANCHOR_OWN_CYCLE;
+
+        check((memcmp(its, "low, ", 5) == 0) == is_low, "words that begin with low, of reason", which);
+        for (other = 0; other < which; other++)
+            check(!same(its, towanchor_words(other, half)), "words of an earlier reason, of reason", which);
+    }
+    check(same(towanchor_words(TOWANCHOR_HIGH, half), "high"), "the words of a high half", half);
+    check(same(towanchor_words(TOWANCHOR_NO_HALF, half), "not in use"), "the words of no half", half);
+    for (which = REASONS; which <= 0x10000; which++)
+        check(same(towanchor_words(which, half), "not in use"), "the words of no reason", which);
+    check(same(towanchor_words(~0u, half), "not in use"), "the words of the highest number", half);
+}
+
+/* The reasons that name a flag, a line or a cycle name another one for each half. */
+static void words_of_halves(void)
+{
+    unsigned int which;
+
+    for (which = 0; which < REASONS; which++) {
+        int differ = which == TOWANCHOR_FLAG_WRONG || which == TOWANCHOR_LINE_LOW || which == TOWANCHOR_OWN_CYCLE;
+
+        check(same(towanchor_words(which, TOWANCHOR_INPUT), towanchor_words(which, TOWANCHOR_OUTPUT)) == !differ,
+              "the words of both halves, of reason", which);
+    }
+    check(same(towanchor_words(TOWANCHOR_LINE_LOW, TOWANCHOR_OUTPUT), "low, the acknowledge line is low"), "the words of ACK", 0);
+}
+
+int main(void)
+{
+    unsigned int word;
+
+    for (word = 0x80; word <= 0xFF; word++) {
+        image[MODE_WORD] = (unsigned char)word;
+        each_condition();
+    }
+    all_judged();
+    words(TOWANCHOR_INPUT);
+    words(TOWANCHOR_OUTPUT);
+    words_of_halves();
+    return checked();
+}
