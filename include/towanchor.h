@@ -87,8 +87,8 @@ extern "C" {
  * has one of them, by the port's direction; mode 2 has both, and either raises the pin; mode 0 has none, and the pin is a plain one. */
 #define TOWANCHOR_GROUP_A 0        /* port A, with TOWANCHOR_INTR_A */
 #define TOWANCHOR_GROUP_B 1        /* port B, with TOWANCHOR_INTR_B */
-#define TOWANCHOR_INPUT 0          /* the half that asks for a read */
-#define TOWANCHOR_OUTPUT 1         /* the half that asks for a write */
+#define TOWANCHOR_INPUT_HALF 0     /* the half that asks for a read; so is any other number where a half is named */
+#define TOWANCHOR_OUTPUT_HALF 1    /* the half that asks for a write */
 
 /* Reasons: what a half is doing. Where several hold by which it is low, the lowest is given. */
 #define TOWANCHOR_NO_HALF 0        /* there is no such half: in mode 1 the port goes the other way */
@@ -106,7 +106,7 @@ extern "C" {
 #define TOWANCHOR_DRIVEN(answer) (((answer) >> 16) & 0xFFu)   /* of towanchor_pins: a one for each pin that the chip drives */
 #define TOWANCHOR_TALLY(answer) (((answer) >> 8) & 0xFFFFu)   /* of towanchor_tally: the count */
 #define TOWANCHOR_REASON(answer, half) \
-    (((answer) >> ((half) == TOWANCHOR_OUTPUT ? 16 : 8)) & 0xFFu) /* of towanchor_explain: what that half is doing */
+    (((answer) >> ((half) == TOWANCHOR_OUTPUT_HALF ? 16 : 8)) & 0xFFu) /* of towanchor_explain: what that half is doing */
 
 /* Makes the image that of a chip just powered up: all ports inputs in mode 0, outside levels low, all tallies 0. What stood in it
  * does not matter. Refuses nothing but a wrong length.
@@ -136,14 +136,14 @@ unsigned int towanchor_tally(const unsigned char *image, size_t length, unsigned
  * is asked first: a refused answer has TOWANCHOR_NO_HALF for both halves. */
 unsigned int towanchor_explain(const unsigned char *image, size_t length, unsigned char group);
 
-/* The words of a reason of TOWANCHOR_INPUT or TOWANCHOR_OUTPUT, as in "low, the acknowledge line is low". A number that is no reason has
- * those of TOWANCHOR_NO_HALF. A host that does not call it gets no warning for it. */
+/* The words of a reason of either half, as in "low, the acknowledge line is low". A number that is no reason has those of
+ * TOWANCHOR_NO_HALF. gcc and clang do not warn a host that has no use for it. */
 #ifdef __GNUC__
 __attribute__((__unused__))
 #endif
 static const char *towanchor_words(unsigned int reason, unsigned int half)
 {
-    int output = half == TOWANCHOR_OUTPUT;
+    int output = half == TOWANCHOR_OUTPUT_HALF;
 
     switch (reason) {
     case TOWANCHOR_MODE_ZERO:

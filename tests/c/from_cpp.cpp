@@ -12,5 +12,5 @@ int main()
     refused |= TOWANCHOR_NUMBER(towanchor_pins(image, sizeof image, TOWANCHOR_A));
     refused |= TOWANCHOR_NUMBER(towanchor_tally(image, sizeof image, TOWANCHOR_A_IN, TOWANCHOR_OFFERED));
     refused |= TOWANCHOR_NUMBER(towanchor_explain(image, sizeof image, TOWANCHOR_GROUP_A));
-    return refused == 0 && towanchor_words(TOWANCHOR_HIGH, TOWANCHOR_INPUT)[0] == 'h' ? 0 : 1;
+    return refused == 0 && towanchor_words(TOWANCHOR_HIGH, TOWANCHOR_INPUT_HALF)[0] == 'h' ? 0 : 1;
 }

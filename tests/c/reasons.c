@@ -38,7 +38,7 @@ static int has_half(unsigned char group, unsigned char half)
 
 static int has_intr(unsigned char group)
 {
-    return has_half(group, TOWANCHOR_INPUT) || has_half(group, TOWANCHOR_OUTPUT);
+    return has_half(group, TOWANCHOR_INPUT_HALF) || has_half(group, TOWANCHOR_OUTPUT_HALF);
 }
 
 static int is_enabled(unsigned char channel)
@@ -103,17 +103,17 @@ static void holds_of_image(int holds, const char *what)
 
 static void group(unsigned char which, int intr)
 {
-    unsigned int input = reason(which, TOWANCHOR_INPUT), output = reason(which, TOWANCHOR_OUTPUT), answer;
+    unsigned int input = reason(which, TOWANCHOR_INPUT_HALF), output = reason(which, TOWANCHOR_OUTPUT_HALF), answer;
     unsigned char before[TOWANCHOR_IMAGE_SIZE];
 
     memcpy(before, image, sizeof image);
     answer = towanchor_explain(image, sizeof image, which);
     holds_of_image(memcmp(before, image, sizeof image) == 0, "what is explained is untouched, under mode word");
-    judged[channel_of(which, TOWANCHOR_INPUT)][input]++;
-    judged[channel_of(which, TOWANCHOR_OUTPUT)][output]++;
+    judged[channel_of(which, TOWANCHOR_INPUT_HALF)][input]++;
+    judged[channel_of(which, TOWANCHOR_OUTPUT_HALF)][output]++;
     holds_of_image(TOWANCHOR_NUMBER(answer) == TOWANCHOR_ACCEPTED, "the number, under mode word");
-    holds_of_image(TOWANCHOR_REASON(answer, TOWANCHOR_INPUT) == input, "the reason of an input, under mode word");
-    holds_of_image(TOWANCHOR_REASON(answer, TOWANCHOR_OUTPUT) == output, "the reason of an output, under mode word");
+    holds_of_image(TOWANCHOR_REASON(answer, TOWANCHOR_INPUT_HALF) == input, "the reason of an input, under mode word");
+    holds_of_image(TOWANCHOR_REASON(answer, TOWANCHOR_OUTPUT_HALF) == output, "the reason of an output, under mode word");
     holds_of_image(answer >> 24 == 0, "what is above the reasons, under mode word");
     if (has_intr(which))
         holds_of_image(intr == (input == TOWANCHOR_HIGH || output == TOWANCHOR_HIGH), "INTR on its pin, under mode word");
@@ -220,38 +220,27 @@ static int same(const char *words, const char *others)
     return strcmp(words, others) == 0;
 }
 
-/* The words of a half tell its reasons apart and say which of them are low; any other number has those of no half. */
+/* The words of each reason, by its number: of an input's half, and of an output's. */
+static const char *const texts[][2] = {
+    {"not in use", "not in use"},
+    {"there is no INTR, the group is in mode 0", "there is no INTR, the group is in mode 0"},
+    {"low, the interrupt is not enabled", "low, the interrupt is not enabled"},
+    {"low, no byte is waiting to be read", "low, the last byte has not been taken"},
+    {"low, the strobe line is low", "low, the acknowledge line is low"},
+    {"low, a read of the port is running", "low, a write to the port is running"},
+    {"high", "high"},
+};
+
+/* Each reason has its words; any other number has those of no half. */
 static void words(unsigned int half)
-{
-    unsigned int which, other;
-
-    for (which = 0; which < REASONS; which++) {
-        const char *its = towanchor_words(which, half);
-        int is_low = which >= TOWANCHOR_ENABLE_OFF && which <= TOWANCHOR_OWN_CYCLE;
-
-        check((memcmp(its, "low, ", 5) == 0) == is_low, "words that begin with low, of reason", which);
-        for (other = 0; other < which; other++)
-            check(!same(its, towanchor_words(other, half)), "words of an earlier reason, of reason", which);
-    }
-    check(same(towanchor_words(TOWANCHOR_HIGH, half), "high"), "the words of a high half", half);
-    check(same(towanchor_words(TOWANCHOR_NO_HALF, half), "not in use"), "the words of no half", half);
-    for (which = REASONS; which <= 0x10000; which++)
-        check(same(towanchor_words(which, half), "not in use"), "the words of no reason", which);
-    check(same(towanchor_words(~0u, half), "not in use"), "the words of the highest number", half);
-}
-
-/* The reasons that name a flag, a line or a cycle name another one for each half. */
-static void words_of_halves(void)
 {
     unsigned int which;
 
-    for (which = 0; which < REASONS; which++) {
-        int differ = which == TOWANCHOR_FLAG_WRONG || which == TOWANCHOR_LINE_LOW || which == TOWANCHOR_OWN_CYCLE;
-
-        check(same(towanchor_words(which, TOWANCHOR_INPUT), towanchor_words(which, TOWANCHOR_OUTPUT)) == !differ,
-              "the words of both halves, of reason", which);
-    }
-    check(same(towanchor_words(TOWANCHOR_LINE_LOW, TOWANCHOR_OUTPUT), "low, the acknowledge line is low"), "the words of ACK", 0);
+    for (which = 0; which < REASONS; which++)
+        check(same(towanchor_words(which, half), texts[which][half]), "the words of reason", which);
+    for (which = REASONS; which <= 0x10000; which++)
+        check(same(towanchor_words(which, half), "not in use"), "the words of no reason", which);
+    check(same(towanchor_words(~0u, half), "not in use"), "the words of the highest number", half);
 }
 
 int main(void)
@@ -263,8 +252,7 @@ int main(void)
         each_condition();
     }
     all_judged();
-    words(TOWANCHOR_INPUT);
-    words(TOWANCHOR_OUTPUT);
-    words_of_halves();
+    words(TOWANCHOR_INPUT_HALF);
+    words(TOWANCHOR_OUTPUT_HALF);
     return checked();
 }

@@ -55,7 +55,7 @@ fn half(reason: Reason) {
         Reason::EnableOff => print::word(b"enable off"),
         Reason::FlagWrong => print::word(b"flag wrong"),
         Reason::LineLow => print::word(b"line low"),
-        Reason::CycleRuns => print::word(b"own cycle"),
+        Reason::OwnCycle => print::word(b"own cycle"),
         Reason::High => print::word(b"high"),
     }
 }

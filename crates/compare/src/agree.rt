@@ -4,8 +4,8 @@ use super::counts::Counts;
 use super::print;
 use super::views::View;
 
-fn same(one: [u8; 16], other: [u8; 16]) -> bool {
-    for at in 0..16 {
+fn same(one: [u8; 21], other: [u8; 21]) -> bool {
+    for at in 0..21 {
         if one[at] != other[at] {
             return false;
         }

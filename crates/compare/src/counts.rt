@@ -43,17 +43,17 @@ fn fates(counts: &mut Counts, before: [u16; 20], after: [u16; 20]) {
 }
 
 // The control word that the event brought into effect, if it did: the end of a write to address 3.
-fn word(counts: &mut Counts, kind: u8, before: [u8; 16]) {
+fn word(counts: &mut Counts, kind: u8, before: [u8; 21]) {
     let ended = (kind == 2) & (before[8] == 2) & (before[9] == 3);
     add(counts, 34, before[10] / 128, flag(ended));
 }
 
 // What is said of each half after the event.
-fn reasons(counts: &mut Counts, after: [u8; 16]) {
-    add(counts, 36, after[12], 1);
+fn reasons(counts: &mut Counts, after: [u8; 21]) {
     add(counts, 36, after[13], 1);
     add(counts, 36, after[14], 1);
-    add(counts, 36, after[15], 1);
+    add(counts, 36, after[16], 1);
+    add(counts, 36, after[17], 1);
 }
 
 pub(super) fn count(counts: &mut Counts, kind: u8, before: View, after: View) {

@@ -4,9 +4,10 @@ use second::Answer;
 use step::Stepped;
 
 // What is shown: 0 the number, 1 the byte; 2 to 4 the levels of A, B and C, 5 to 7 their driven pins; and of what is kept:
-// 8 to 10 the phase, its port or address and its byte, 11 the mode word. 12 to 15 are what is said of INTR: of A's input and output, of B's.
+// 8 to 10 the phase, its port or address and its byte, 11 the mode word. 12 to 20 are what is said of INTR, by three numbers each, the
+// refusal, the input's half and the output's: of A, of B, and of a group that there is not, which is named by the mode word.
 pub(super) struct View {
-    pub(super) shown: [u8; 16],
+    pub(super) shown: [u8; 21],
     pub(super) tally: [u16; 20],
 }
 
@@ -19,6 +20,7 @@ pub(super) fn of_proved(last: Stepped) -> View {
     let bus = twins::running(phase);
     let of_a = status::reasons::numbered(status::reasons::explain(chip, 0));
     let of_b = status::reasons::numbered(status::reasons::explain(chip, 1));
+    let of_none = status::reasons::numbered(status::reasons::explain(chip, chip.core.word | 2));
     let tally = twins::tallies(chip);
     View {
         shown: [
@@ -34,10 +36,15 @@ pub(super) fn of_proved(last: Stepped) -> View {
             bus.place,
             bus.data,
             chip.core.word,
+            of_a.number,
             of_a.input,
             of_a.output,
+            of_b.number,
             of_b.input,
             of_b.output,
+            of_none.number,
+            of_none.input,
+            of_none.output,
         ],
         tally,
     }
@@ -47,6 +54,7 @@ pub(super) fn of_second(last: Answer) -> View {
     let machine = last.machine;
     let of_a = second::explain(machine, 0);
     let of_b = second::explain(machine, 1);
+    let of_none = second::explain(machine, machine.word | 2);
     let tally = machine.tally;
     View {
         shown: [
@@ -62,10 +70,15 @@ pub(super) fn of_second(last: Answer) -> View {
             machine.place,
             machine.data,
             machine.word,
+            of_a.number,
             of_a.input,
             of_a.output,
+            of_b.number,
             of_b.input,
             of_b.output,
+            of_none.number,
+            of_none.input,
+            of_none.output,
         ],
         tally,
     }

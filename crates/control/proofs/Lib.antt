@@ -3,6 +3,6 @@ pub mod SameWords
 pub mod BitSeven
 pub mod ModeTwo
 pub mod PinNamed
-pub mod Strobed
 pub mod AsByte
+pub mod Strobed
 pub mod ByBits

@@ -1,23 +1,25 @@
 -- Strobed ports: in mode 0 a group is not strobed, in mode 1 one way, by the direction of its port, and there is no mode above 2; a
 -- strobed output is an output ("Mode words").
--- Rests on bits' Tested.
+-- Rests on AsByte and on bits' Tested.
 use mathlib.Core.Path.{_≡_, refl, sym, subst}
 use mathlib.Core.Bool.{Bool, true, false, not, _&&_, _||_}
-use mathlib.Core.List.{[], _∷_}
-use Prim.Native.Nat.{ℕ, _/_, _%_, _<_}
+use Prim.Native.Nat.{ℕ, _%_, _<_}
 use native.Mathlib.Omega.{arith}
 use lib.Dec.{T, eqb, ltb}
-use lib.ListN.{getD}
-use borrow.Author.Tests.{ltb-true}
+use borrow.Author.Tests.{ltb-true, ne-eqb}
 use Rattle.bits.proofs.Tested.{bits}
 use Rattle.control.specs.declared.Group.{Group}
 use Rattle.control.specs.declared.Group.the-variants.{A, B}
 use Rattle.control.specs.Mode.{modeOf, inputOf, strobedInput, strobedOutput, outputOf}
+use Rattle.control.proofs.AsByte.{as-byte}
 
 pub mode-below-3 : (w : ℕ) (g : Group) → modeOf w g < 3
 unfolding modeOf
-mode-below-3 w A = ltb-true _ _ (bits 4 (λ k. ltb (getD (0 ∷ 1 ∷ 2 ∷ 2 ∷ []) k 0) 3) (λ k. true) tt (w / 32 % 4) (omega arith))
-mode-below-3 w B = omega arith
+mode-below-3 w g = rw (← as-byte w .mode g) (ltb-true _ _ (of-byte g (w % 256) (omega arith)))
+  where
+    of-byte : (g : Group) (w : ℕ) → w < 256 → ltb (modeOf w g) 3 ≡ true
+    of-byte A = bits 256 (λ w. ltb (modeOf w A) 3) (λ w. true) tt
+    of-byte B = bits 256 (λ w. ltb (modeOf w B) 3) (λ w. true) tt
 
 pub mode-0-takes : (w : ℕ) (g : Group) → modeOf w g ≡ 0 → strobedInput w g ≡ false
 unfolding strobedInput
@@ -35,18 +37,10 @@ pub mode-1-gives : (w : ℕ) (g : Group) → modeOf w g ≡ 1 → strobedOutput 
 unfolding strobedOutput
 mode-1-gives w g one = rw one
 
--- In mode 1 a port that is an output is strobed that way alone, and another the other way alone.
-pub mode-1-output : (w : ℕ) (g : Group) → modeOf w g ≡ 1 → strobedOutput w g ≡ outputOf w g
-unfolding strobedOutput outputOf
-mode-1-output w g one = rw one
-
-pub mode-1-input : (w : ℕ) (g : Group) → modeOf w g ≡ 1 → strobedInput w g ≡ not (outputOf w g)
-unfolding strobedInput outputOf
-mode-1-input w g one = rw one (twice (inputOf w g))
-  where
-    twice : (b : Bool) → b ≡ not (not b)
-    twice true = refl
-    twice false = refl
+-- But for mode 2 a port is an output by its direction.
+pub output-by-direction : (w : ℕ) (g : Group) → ¬ (modeOf w g ≡ 2) → outputOf w g ≡ not (inputOf w g)
+unfolding outputOf
+output-by-direction w g other = rw (ne-eqb (modeOf w g) 2 other)
 
 pub giving-is-output : (w : ℕ) (g : Group) → strobedOutput w g ≡ true → outputOf w g ≡ true
 unfolding strobedOutput outputOf

@@ -1,12 +1,13 @@
 -- What the pins of a strobed channel show: its flag, its line, its group's INTR ("Port C roles", "Reads and pins").
 -- Rests on bits' Tested and BitLaws, on roles' SameWords and PinByMasks, and on chip's StrobedWords.
 use mathlib.Core.Path.{_≡_, _∙_, ap, sym, subst}
-use mathlib.Core.Bool.{Bool, true, not, _||_}
+use mathlib.Core.Bool.{Bool, true, not, _||_, or-true}
 use Prim.Native.Nat.{ℕ, _%_, _<_}
 use native.Mathlib.Omega.{arith}
 use lib.Dec.{T, eqb, eqb→eq, lit<}
+use borrow.Author.Tests.{eqb-true}
 use Rattle.bits.specs.Bit.{bitOf}
-use Rattle.bits.proofs.Tested.{all, each}
+use Rattle.bits.proofs.Tested.{all, each, bits}
 use Rattle.bits.proofs.BitLaws.{bit-of-assembled}
 use Rattle.control.specs.declared.Group.{Group}
 use Rattle.control.specs.declared.Group.the-variants.{A, B}
@@ -57,12 +58,22 @@ flag-role w A Output = role-where A Output 7 OBF tt w
 flag-role w B Input = role-where B Input 1 IBF tt w
 flag-role w B Output = role-where B Output 1 OBF tt w
 
-pub intr-role : (w : ℕ) (g : Group) (s : Side) → strobed w g s ≡ true → roleOf w (intrPin g) ≡ INTR
+-- A group has a pin for INTR exactly where a side of it is strobed.
+pub intr-where : (w : ℕ) (g : Group) → eqb (number (roleOf w (intrPin g))) (number INTR) ≡ (strobed w g Input || strobed w g Output)
 unfolding roleOf usesOf freeRole strobedInput strobedOutput modeOf inputOf upperInput lowerInput bitOf
-intr-role w A Input = role-where A Input 3 INTR tt w
-intr-role w A Output = role-where A Output 3 INTR tt w
-intr-role w B Input = role-where B Input 0 INTR tt w
-intr-role w B Output = role-where B Output 0 INTR tt w
+intr-where w g = rw (← role-as-byte w (intrPin g), ← strobed-as-byte w g Input, ← strobed-as-byte w g Output) (of-byte g (w % 256) (omega arith))
+  where
+    of-byte : (g : Group) (w : ℕ) → w < 256
+        → eqb (number (roleOf w (intrPin g))) (number INTR) ≡ (strobed w g Input || strobed w g Output)
+    of-byte A = bits 256 (λ w. eqb (number (roleOf w 3)) (number INTR)) (λ w. strobed w A Input || strobed w A Output) tt
+    of-byte B = bits 256 (λ w. eqb (number (roleOf w 0)) (number INTR)) (λ w. strobed w B Input || strobed w B Output) tt
+
+pub intr-role : (w : ℕ) (g : Group) (s : Side) → strobed w g s ≡ true → roleOf w (intrPin g) ≡ INTR
+intr-role w g s on = number-one (roleOf w (intrPin g)) INTR (eqb-true _ _ (intr-where w g ∙ either s on))
+  where
+    either : (s : Side) → strobed w g s ≡ true → (strobed w g Input || strobed w g Output) ≡ true
+    either Input on = rw (on)
+    either Output on = rw (on) (or-true (strobed w g Input))
 
 -- Any pin of port C shows, and any bit of its read tells, what its role says.
 pub pin-by-role : (c : Chip) (n : ℕ) → n < 8 → pin c n ≡ levelAs c n (roleOf (c .core .word) n)

@@ -3,11 +3,12 @@
 use mathlib.Core.Path.{_≡_, _∙_, refl, ap, sym}
 use mathlib.Core.Bool.{true, false, not, and-false}
 use Prim.Native.Nat.{ℕ}
+use native.Mathlib.Omega.{arith}
 use lib.Dec.{eqb}
 use Rattle.control.specs.declared.Group.{Group}
 use Rattle.control.specs.declared.Group.the-variants.{A, B}
 use Rattle.control.specs.Mode.{modeOf, inputOf, outputOf}
-use Rattle.control.proofs.Strobed.{mode-0-takes, mode-0-gives}
+use Rattle.control.proofs.Strobed.{mode-0-takes, mode-0-gives, output-by-direction}
 use Rattle.chip.specs.declared.Phase.the-variants.{Writing}
 use Rattle.chip.specs.declared.Port.{Port}
 use Rattle.chip.specs.declared.Core.{Core}
@@ -25,14 +26,13 @@ use Rattle.step.proofs.Ends.{write-ends}
 use Rattle.step.proofs.Outcome.{step-accepts, step-either}
 use Rattle.laws.proofs.OwnPort.{own-accepted, own-pins, own-read}
 
-output-by-direction : (w : ℕ) (g : Group) → modeOf w g ≡ 0 → outputOf w g ≡ not (inputOf w g)
-unfolding outputOf
-output-by-direction w g zero = rw (zero)
+by-direction : (w : ℕ) (g : Group) → modeOf w g ≡ 0 → outputOf w g ≡ not (inputOf w g)
+by-direction w g zero = output-by-direction w g (λ two. omega (arith, zero, two))
 
 driven-by-direction : (c : Core) (g : Group) → modeOf (c .word) g ≡ 0 → drivesPort c g ≡ not (inputOf (c .word) g)
 unfolding drivesPort
-driven-by-direction c A zero = rw (zero) (output-by-direction (c .word) A zero)
-driven-by-direction c B zero = output-by-direction (c .word) B zero
+driven-by-direction c A zero = rw (zero) (by-direction (c .word) A zero)
+driven-by-direction c B zero = by-direction (c .word) B zero
 
 shows-latch : (c : Core) (g : Group) (p : Port) → modeOf (c .word) g ≡ 0 → inputOf (c .word) g ≡ false
     → pinsOfPort p (drivesPort c g) ≡ record { levels = p .output .latch; driven = 0xff }
@@ -44,7 +44,7 @@ stored-latch : (c : Core) (a b : ℕ) (g : Group) → ownAddress a g ≡ true �
     → portOf (written c a b) g .output .latch ≡ b
 stored-latch c a b g own zero out =
     ap (λ ch. ch .latch) (own-stored c a b g own .output g)
-    ∙ rw (own, output-by-direction (c .word) g zero, out, mode-0-gives (c .word) g zero)
+    ∙ rw (own, by-direction (c .word) g zero, out, mode-0-gives (c .word) g zero)
 
 pub output-shows : (c : Chip) (g : Group) (a b x d : ℕ) → c .phase ≡ Writing a b → ownAddress a g ≡ true
     → modeOf (c .core .word) g ≡ 0 → inputOf (c .core .word) g ≡ false
@@ -74,7 +74,7 @@ pub input-reads-outside : (c : Chip) (g : Group) (a : ℕ) → ownAddress a g �
     → readOf c a ≡ portOf (c .core) g .outside
 unfolding readPort
 input-reads-outside c g a own zero taking =
-    rw (own-read c a g own, mode-0-takes (c .core .word) g zero, output-by-direction (c .core .word) g zero, taking)
+    rw (own-read c a g own, mode-0-takes (c .core .word) g zero, by-direction (c .core .word) g zero, taking)
 
 pub input-follows : (c : Chip) (g : Group) (a d : ℕ) → ownAddress a g ≡ true → modeOf (c .core .word) g ≡ 0 → inputOf (c .core .word) g ≡ true
     → readOf (stepOf c 5 a d .chip) a ≡ d

@@ -1,24 +1,18 @@
 -- Why the interrupt is quiet, in every state: the reason given is true, and the first that is; INTR is said to be high exactly where the
 -- pin view shows it; and no group but A and B is explained ("Why the interrupt is quiet").
--- Rests on ChannelPins and Interrupts, on status' ByReason and ByMode, on roles' SameWords, chip's StrobedWords and bits' Tested.
+-- Rests on ChannelPins and Interrupts, and on status' ByReason and ByMode.
 use mathlib.Core.Path.{_≡_, _∙_, refl, ap, sym}
 use mathlib.Core.Bool.{Bool, true, false, cond, not, _&&_, _||_, or-true}
-use Prim.Native.Nat.{ℕ, zero, suc, _%_, _<_}
+use Prim.Native.Nat.{ℕ, zero, suc}
 use native.Mathlib.Omega.{arith}
-use lib.Dec.{eqb, ltb}
+use lib.Dec.{ltb}
 use borrow.Author.Tests.{ne-eqb, lt-ltb}
-use Rattle.bits.specs.Bit.{bitOf}
-use Rattle.bits.proofs.Tested.{bits}
 use Rattle.control.specs.declared.Group.{Group}
 use Rattle.control.specs.declared.Group.the-variants.{A, B}
-use Rattle.control.specs.Mode.{modeOf, inputOf, upperInput, lowerInput, strobedInput, strobedOutput}
-use Rattle.roles.specs.Role.{INTR, number, usesOf, freeRole, roleOf}
-use Rattle.roles.proofs.SameWords.{role-as-byte}
 use Rattle.channel.specs.declared.Side.{Side}
 use Rattle.channel.specs.declared.Side.the-variants.{Input, Output}
 use Rattle.chip.specs.declared.Chip.{Chip}
 use Rattle.chip.specs.Handshakes.{strobed}
-use Rattle.chip.proofs.StrobedWords.{strobed-as-byte}
 use Rattle.status.specs.declared.reasons.Reason.the-variants.{EnableOff, FlagWrong, LineLow, High}
 use Rattle.status.specs.Status.{requestOf, intrOf}
 use Rattle.status.specs.Reasons.{holds, reasonOf, explainedIn, explainedOf, isHigh, saysHigh, numbersOf}
@@ -26,7 +20,7 @@ use Rattle.status.proofs.ByReason.{by-reason, none-asks, named-high, quiet}
 use Rattle.status.proofs.ByMode.{by-mode, says-high}
 use Rattle.laws.specs.Seen.{pin, intrPin}
 use Rattle.laws.specs.Quiet.{seen, TrueOf, TrueOfGroup, intrSeen}
-use Rattle.laws.proofs.ChannelPins.{flag-pin, line-pin, intr-pin, told-enable}
+use Rattle.laws.proofs.ChannelPins.{intr-where, flag-pin, line-pin, intr-pin, told-enable}
 use Rattle.laws.proofs.Interrupts.{half, half-is}
 
 either-raises : (c : Chip) (g : Group) (s : Side) → requestOf c g s ≡ true → intrOf c g ≡ true
@@ -71,16 +65,6 @@ explained-true c g = by-mode c g (λ r. TrueOfGroup c g r)
 -- A half is named high exactly where the pins say that it is, in mode 2 each by itself.
 pub half-named : (c : Chip) (g : Group) (s : Side) → strobed (c .core .word) g s ≡ true → isHigh (reasonOf c g s) ≡ half c g s
 half-named c g s there = named-high c g s there ∙ half-is c g s there
-
--- A group has a pin for INTR exactly where a side of it is strobed, found by trying every byte.
-intr-where : (w : ℕ) (g : Group) → eqb (number (roleOf w (intrPin g))) (number INTR) ≡ (strobed w g Input || strobed w g Output)
-unfolding roleOf usesOf freeRole strobedInput strobedOutput modeOf inputOf upperInput lowerInput bitOf
-intr-where w g = rw (← role-as-byte w (intrPin g), ← strobed-as-byte w g Input, ← strobed-as-byte w g Output) (of-byte g (w % 256) (omega arith))
-  where
-    of-byte : (g : Group) (w : ℕ) → w < 256
-        → eqb (number (roleOf w (intrPin g))) (number INTR) ≡ (strobed w g Input || strobed w g Output)
-    of-byte A = bits 256 (λ w. eqb (number (roleOf w 3)) (number INTR)) (λ w. strobed w A Input || strobed w A Output) tt
-    of-byte B = bits 256 (λ w. eqb (number (roleOf w 0)) (number INTR)) (λ w. strobed w B Input || strobed w B Output) tt
 
 -- High is said of a group exactly where the pin view shows its INTR high.
 pub high-as-shown : (c : Chip) (g : Group) → saysHigh (explainedIn c g) ≡ intrSeen c g

@@ -14,7 +14,7 @@ use Rattle.chip.specs.declared.Chip.{Chip}
 use Rattle.chip.specs.State.{portOf, channelOf, withInput, withOutput, withPort, withEnables}
 use Rattle.chip.specs.Handshakes.{lineOf}
 use Rattle.status.specs.declared.reasons.Reason.{Reason}
-use Rattle.status.specs.declared.reasons.Reason.the-variants.{EnableOff, FlagWrong, LineLow, CycleRuns, High}
+use Rattle.status.specs.declared.reasons.Reason.the-variants.{EnableOff, FlagWrong, LineLow, OwnCycle, High}
 use Rattle.status.specs.Status.{requestOf}
 use Rattle.status.specs.Reasons.{reasonOf}
 use Rattle.settings.specs.Commanded.{enabled}
@@ -25,15 +25,16 @@ abbrev pub rightFill : Side → Fill
 rightFill Input = Waiting
 rightFill Output = Empty
 
--- A channel in that condition, and a chip with it.
+-- A channel in that condition.
 abbrev pub righted : Side → Channel → Channel
 righted s ch = record { fill = rightFill s; latch = ch .latch; tally = ch .tally }
 
+-- A core with another channel of that group and side.
 abbrev pub withChannel : Core → Group → Side → Channel → Core
 withChannel c g Input ch = withPort c g (withInput (portOf c g) ch)
 withChannel c g Output ch = withPort c g (withOutput (portOf c g) ch)
 
--- A core with another level on one line of port C.
+-- A core with the level of STB or ACK raised.
 abbrev pub lineRaised : Core → Group → Side → Core
 lineRaised c g s = record {
   word = c .word;
@@ -48,7 +49,7 @@ abbrev pub altered : Chip → Group → Side → Reason → Chip
 altered c g s EnableOff = record { phase = c .phase; core = withEnables (c .core) (enabled (c .core .inte) g s true) }
 altered c g s FlagWrong = record { phase = c .phase; core = withChannel (c .core) g s (righted s (channelOf (c .core) g s)) }
 altered c g s LineLow = record { phase = c .phase; core = lineRaised (c .core) g s }
-altered c g s CycleRuns = record { phase = Idle; core = c .core }
+altered c g s OwnCycle = record { phase = Idle; core = c .core }
 altered c g s High = c
 
 -- A half that is high: its channel asks for an interrupt, it is named so, and the pin view shows INTR high.

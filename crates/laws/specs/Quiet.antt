@@ -13,25 +13,26 @@ use Rattle.channel.specs.declared.Side.the-variants.{Input, Output}
 use Rattle.chip.specs.declared.Chip.{Chip}
 use Rattle.chip.specs.Handshakes.{strobed, lineOf, running}
 use Rattle.status.specs.declared.reasons.Reason.{Reason}
-use Rattle.status.specs.declared.reasons.Reason.the-variants.{EnableOff, FlagWrong, LineLow, CycleRuns, High}
+use Rattle.status.specs.declared.reasons.Reason.the-variants.{EnableOff, FlagWrong, LineLow, OwnCycle, High}
 use Rattle.status.specs.declared.reasons.Explained.{Explained}
 use Rattle.status.specs.declared.reasons.Explained.the-variants.{NoGroup, ModeZero, InputHalf, OutputHalf, BothHalves}
 use Rattle.status.specs.Reasons.{inOrder, reasonNumber}
 use Rattle.laws.specs.Seen.{pin, told, intrPin, flagPin}
 
--- Each answer as it is seen: a read of port C tells the enable, off, on the pin of STB or ACK; the pin view shows IBF or OBF at 0, STB or
--- ACK low; a read or a write of the port runs on the bus; the pin view shows INTR high.
+-- Each answer as it is seen: a read of port C tells, on the pin of STB or ACK, that the enable is off; the pin view shows IBF or OBF at 0;
+-- it shows STB or ACK low; the bus runs a read or a write of the port; the pin view shows INTR high.
 abbrev pub seen : Chip → Group → Side → Reason → Bool
 seen c g s EnableOff = not (told c (lineOf g s))
 seen c g s FlagWrong = not (pin c (flagPin g s))
 seen c g s LineLow = not (pin c (lineOf g s))
-seen c g s CycleRuns = running (c .phase) g s
+seen c g s OwnCycle = running (c .phase) g s
 seen c g s High = pin c (intrPin g)
 
--- The reasons before one in the order, of which the first has the number 2, and those behind it.
+-- The reasons that come before one. The numbers follow the order, and the first of these has the number 2.
 abbrev pub earlier : Reason → List Reason
 earlier r = take (reasonNumber r - 2) inOrder
 
+-- Those that come behind it.
 abbrev pub later : Reason → List Reason
 later r = drop (reasonNumber r - 1) inOrder
 

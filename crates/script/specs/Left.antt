@@ -1,7 +1,9 @@
--- What a script leaves: the chip after its last line ("Script and program", "Why the interrupt is quiet").
-use mathlib.Core.Bool.{cond}
+-- What a script leaves: the chip after its last line, and how many lines were refused ("Script and program", "Why the interrupt is quiet").
+use mathlib.Core.Bool.{cond, not}
 use mathlib.Core.List.{List, [], _∷_}
-use Prim.Native.Nat.{ℕ}
+use Prim.Native.Nat.{ℕ, _+_}
+use lib.Dec.{eqb}
+use Rattle.bits.specs.Bit.{num}
 use Rattle.chip.specs.declared.Chip.{Chip}
 use Rattle.script.specs.declared.left.Left.{Left}
 use Rattle.script.specs.Lines.{Line, linesOf}
@@ -13,10 +15,19 @@ abbrev pub chipAfter : Chip → List Line → Chip
 chipAfter c [] = c
 chipAfter c (l ∷ ls) = chipAfter (atLine c l .chip) ls
 
+-- How many of some lines are refused, each by the chip that the one before it left.
+abbrev pub refusedAmong : Chip → List Line → ℕ
+refusedAmong c [] = 0
+refusedAmong c (l ∷ ls) = num (not (eqb (atLine c l .number) 0)) + refusedAmong (atLine c l .chip) ls
+
 -- The chip that the lines of a text leave.
 abbrev pub chipLeft : List ℕ → Chip
 chipLeft text = chipAfter chipAtStart (linesOf text)
 
+-- What the lines of a text leave: the chip, and the count of those that were refused.
+abbrev pub walkedThrough : List ℕ → Left
+walkedThrough text = record { number = 0; chip = chipLeft text; refused = refusedAmong chipAtStart (linesOf text) }
+
 -- A text that is too long is not run: it has the number 6, and leaves the chip that it would have met.
 abbrev pub leftBy : List ℕ → Left
-leftBy text = cond (tooLong text) (record { number = 6; chip = chipAtStart }) (record { number = 0; chip = chipLeft text })
+leftBy text = cond (tooLong text) (record { number = 6; chip = chipAtStart; refused = 0 }) (walkedThrough text)

@@ -1,34 +1,51 @@
-// What a script leaves: the chip after its last line.
+// What a script leaves: the chip after its last line, and how many of its lines were refused.
 ghost use mathlib.Core.Path.{_≡_};
-ghost use Rattle.script.specs.Left.{chipLeft, leftBy};
+ghost use mathlib.Core.Bool.{not};
+ghost use lib.Dec.{eqb};
+ghost use Rattle.bits.specs.Bit.{num};
+ghost use Rattle.script.specs.Left.{walkedThrough, leftBy};
 use super::LONGEST;
 use super::answer;
 use super::lines;
 use chip::Chip;
 
-// The number of the text, as a run has it, and the chip.
+// The number of the text, as a run has it, the chip, and the count of lines whose own number is not 0.
 pub struct Left {
     pub number: u8,
     pub chip: Chip,
+    pub refused: usize,
+}
+
+// What a line of that number adds to the count.
+fn refusals(number: u8) -> usize
+    ensures { λ r. ⌜ r ≡ num (not (eqb number 0)) ⌝ }
+{
+    if number == 0 { 0 } else { 1 }
 }
 
 // Every line in turn.
-fn walk(text: &[u8]) -> Chip
-    ensures { λ r. ⌜ r ≡ chipLeft (now (text .entry)) ⌝ }
+fn walk(text: &[u8]) -> Left
+    ensures { λ r. ⌜ r ≡ walkedThrough (now (text .entry)) ⌝ }
 {
     let mut rest = text;
     let mut chip = answer::chip_at_start();
+    let mut refused = 0;
     while rest.len() > 0 {
         let length = lines::first(rest);
+        let next = lines::past(rest, length);
         let last = answer::act(chip, lines::frame(rest, length));
         chip = last.chip;
-        let next = lines::past(rest, length);
+        refused = refused + refusals(last.number);
         rest = &rest[next..];
     }
-    chip
+    Left {
+        number: 0,
+        chip,
+        refused,
+    }
 }
 
-// The chip after the last line of a text. One that is longer than 4,096 bytes has the number 6, and leaves the chip as it was at the start.
+// What a text leaves. One that is longer than 4,096 bytes has the number 6, and leaves the chip as it was at the start.
 pub fn chip_after(text: &[u8]) -> Left
     ensures { λ r. ⌜ r ≡ leftBy (now (text .entry)) ⌝ }
 {
@@ -36,10 +53,8 @@ pub fn chip_after(text: &[u8]) -> Left
         return Left {
             number: 6,
             chip: answer::chip_at_start(),
+            refused: 0,
         };
     }
-    Left {
-        number: 0,
-        chip: walk(text),
-    }
+    walk(text)
 }

@@ -7,8 +7,8 @@ use native.Mathlib.Omega.{arith}
 use lib.Dec.{eqb}
 use borrow.Author.Tests.{eqb-true, eqb-false}
 use Rattle.control.specs.declared.Group.{Group}
-use Rattle.control.specs.Mode.{modeOf, outputOf}
-use Rattle.control.proofs.Strobed.{mode-below-3, mode-0-takes, mode-0-gives, mode-1-input, mode-1-output}
+use Rattle.control.specs.Mode.{modeOf, inputOf}
+use Rattle.control.proofs.Strobed.{mode-below-3, mode-0-takes, mode-0-gives, mode-1-takes, mode-1-gives, output-by-direction}
 use Rattle.control.proofs.ModeTwo.{mode-2-both-ways}
 use Rattle.channel.specs.declared.Side.the-variants.{Input, Output}
 use Rattle.chip.specs.declared.Chip.{Chip}
@@ -16,7 +16,7 @@ use Rattle.chip.specs.Handshakes.{strobed}
 use Rattle.status.specs.declared.reasons.Explained.{Explained}
 use Rattle.status.specs.declared.reasons.Explained.the-variants.{ModeZero, InputHalf, OutputHalf, BothHalves}
 use Rattle.status.specs.Status.{requestOf, intrOf}
-use Rattle.status.specs.Reasons.{reasonOf, explainedIn, saysHigh}
+use Rattle.status.specs.Reasons.{reasonOf, oneWay, explainedIn, saysHigh}
 use Rattle.status.proofs.ByReason.{quiet, named-high}
 
 module _ (c : Chip) (g : Group) where
@@ -34,20 +34,24 @@ module _ (c : Chip) (g : Group) where
       → P (BothHalves (reasonOf c g Input) (reasonOf c g Output)))
       → P (explainedIn c g)
   unfolding explainedIn
-  by-mode P zero input output both =
-      go (eqb (modeOf word g) 0) (eqb (modeOf word g) 2) (outputOf word g) refl refl refl
+  by-mode P zero input output both = go (eqb (modeOf word g) 0) (eqb (modeOf word g) 2) refl refl
     where
-      go : (none two out : Bool) → eqb (modeOf word g) 0 ≡ none → eqb (modeOf word g) 2 ≡ two
-          → outputOf word g ≡ out
-          → P (cond none ModeZero (cond two (BothHalves (reasonOf c g Input) (reasonOf c g Output)) (cond out (OutputHalf (reasonOf c g Output)) (InputHalf (reasonOf c g Input)))))
-      go true two out n t o = let m = eqb-true (modeOf word g) 0 n in zero m (mode-0-takes word g m) (mode-0-gives word g m)
-      go false true out n t o = let m = eqb-true (modeOf word g) 2 t in let ways = mode-2-both-ways word g m in both m (ways .taking) (ways .giving)
-      go false false true n t o =
-          let m : modeOf word g ≡ 1 = omega (arith, mode-below-3 word g, eqb-false (modeOf word g) 0 n, eqb-false (modeOf word g) 2 t) in
-          output m (mode-1-input word g m ∙ ap not o) (mode-1-output word g m ∙ o)
-      go false false false n t o =
-          let m : modeOf word g ≡ 1 = omega (arith, mode-below-3 word g, eqb-false (modeOf word g) 0 n, eqb-false (modeOf word g) 2 t) in
-          input m (mode-1-input word g m ∙ ap not o) (mode-1-output word g m ∙ o)
+      one-way : (i : Bool) → inputOf word g ≡ i → modeOf word g ≡ 1
+          → P (cond (not i) (OutputHalf (reasonOf c g Output)) (InputHalf (reasonOf c g Input)))
+      one-way true is one = input one (mode-1-takes word g one ∙ is) (mode-1-gives word g one ∙ ap not is)
+      one-way false is one = output one (mode-1-takes word g one ∙ is) (mode-1-gives word g one ∙ ap not is)
+
+      go : (none two : Bool) → eqb (modeOf word g) 0 ≡ none → eqb (modeOf word g) 2 ≡ two
+          → P (cond none ModeZero (cond two (BothHalves (reasonOf c g Input) (reasonOf c g Output)) (oneWay c g)))
+      go true two n t = let m = eqb-true (modeOf word g) 0 n in zero m (mode-0-takes word g m) (mode-0-gives word g m)
+      go false true n t =
+          let m = eqb-true (modeOf word g) 2 t in
+          let ways = mode-2-both-ways word g m in
+          both m (ways .taking) (ways .giving)
+      go false false n t =
+          let other : ¬ (modeOf word g ≡ 2) = eqb-false (modeOf word g) 2 t in
+          rw (output-by-direction word g other)
+          (one-way (inputOf word g) refl (omega (arith, mode-below-3 word g, eqb-false (modeOf word g) 0 n, other)))
 
   pub says-high : saysHigh (explainedIn c g) ≡ intrOf c g
   unfolding intrOf

@@ -10,7 +10,7 @@ use Rattle.channel.specs.declared.Side.{Side}
 use Rattle.chip.specs.declared.Chip.{Chip}
 use Rattle.chip.specs.Handshakes.{strobed, lineOf, enableOf}
 use Rattle.status.specs.declared.reasons.Reason.{Reason}
-use Rattle.status.specs.declared.reasons.Reason.the-variants.{EnableOff, FlagWrong, LineLow, CycleRuns, High}
+use Rattle.status.specs.declared.reasons.Reason.the-variants.{EnableOff, FlagWrong, LineLow, OwnCycle, High}
 use Rattle.status.specs.Status.{flagAt, requestOf}
 use Rattle.status.specs.Reasons.{holds, reasonOf, isHigh}
 
@@ -19,7 +19,7 @@ pub record NoneHolds (c : Chip) (g : Group) (s : Side) : Type 0 where
   pub on : holds c g s EnableOff ≡ false
   pub right : holds c g s FlagWrong ≡ false
   pub up : holds c g s LineLow ≡ false
-  pub idle : holds c g s CycleRuns ≡ false
+  pub idle : holds c g s OwnCycle ≡ false
 
 module _ (c : Chip) (g : Group) (s : Side) where
   -- What is so of each answer, where it holds and none before it does, is so of the one that is given.
@@ -27,15 +27,15 @@ module _ (c : Chip) (g : Group) (s : Side) where
       → (holds c g s EnableOff ≡ true → P EnableOff)
       → (holds c g s EnableOff ≡ false → holds c g s FlagWrong ≡ true → P FlagWrong)
       → (holds c g s EnableOff ≡ false → holds c g s FlagWrong ≡ false → holds c g s LineLow ≡ true → P LineLow)
-      → (holds c g s EnableOff ≡ false → holds c g s FlagWrong ≡ false → holds c g s LineLow ≡ false → holds c g s CycleRuns ≡ true → P CycleRuns)
+      → (holds c g s EnableOff ≡ false → holds c g s FlagWrong ≡ false → holds c g s LineLow ≡ false → holds c g s OwnCycle ≡ true → P OwnCycle)
       → (NoneHolds c g s → P High)
       → P (reasonOf c g s)
   unfolding reasonOf
   by-reason P off wrong low runs high =
-      go (holds c g s EnableOff) (holds c g s FlagWrong) (holds c g s LineLow) (holds c g s CycleRuns) refl refl refl refl
+      go (holds c g s EnableOff) (holds c g s FlagWrong) (holds c g s LineLow) (holds c g s OwnCycle) refl refl refl refl
     where
-      go : (e f l r : Bool) → holds c g s EnableOff ≡ e → holds c g s FlagWrong ≡ f → holds c g s LineLow ≡ l → holds c g s CycleRuns ≡ r
-          → P (cond e EnableOff (cond f FlagWrong (cond l LineLow (cond r CycleRuns High))))
+      go : (e f l r : Bool) → holds c g s EnableOff ≡ e → holds c g s FlagWrong ≡ f → holds c g s LineLow ≡ l → holds c g s OwnCycle ≡ r
+          → P (cond e EnableOff (cond f FlagWrong (cond l LineLow (cond r OwnCycle High))))
       go true f l r e₁ e₂ e₃ e₄ = off e₁
       go false true l r e₁ e₂ e₃ e₄ = wrong e₁ e₂
       go false false true r e₁ e₂ e₃ e₄ = low e₁ e₂ e₃

@@ -12,7 +12,7 @@ use Rattle.channel.specs.declared.Side.the-variants.{Input, Output}
 use Rattle.chip.specs.declared.Chip.{Chip}
 use Rattle.chip.specs.Handshakes.{lineOf, enableOf, running}
 use Rattle.status.specs.declared.reasons.Reason.{Reason}
-use Rattle.status.specs.declared.reasons.Reason.the-variants.{EnableOff, FlagWrong, LineLow, CycleRuns, High}
+use Rattle.status.specs.declared.reasons.Reason.the-variants.{EnableOff, FlagWrong, LineLow, OwnCycle, High}
 use Rattle.status.specs.declared.reasons.Explained.{Explained}
 use Rattle.status.specs.declared.reasons.Explained.the-variants.{NoGroup, ModeZero, InputHalf, OutputHalf, BothHalves}
 use Rattle.status.specs.declared.reasons.Numbers.{Numbers}
@@ -24,12 +24,12 @@ abbrev pub holds : Chip → Group → Side → Reason → Bool
 holds c g s EnableOff = not (enableOf (c .core .inte) g s)
 holds c g s FlagWrong = not (flagAt (c .core) g s)
 holds c g s LineLow = not (bitOf (c .core .c .outside) (lineOf g s))
-holds c g s CycleRuns = running (c .phase) g s
+holds c g s OwnCycle = running (c .phase) g s
 holds c g s High = requestOf c g s
 
 -- The reasons for a low half, in the order in which they are asked for.
 abbrev pub inOrder : List Reason
-inOrder = EnableOff ∷ FlagWrong ∷ LineLow ∷ CycleRuns ∷ []
+inOrder = EnableOff ∷ FlagWrong ∷ LineLow ∷ OwnCycle ∷ []
 
 -- The first of some reasons that is so; where none is, the half is high.
 abbrev pub firstThat : (Reason → Bool) → List Reason → Reason
@@ -40,7 +40,7 @@ firstThat so (r ∷ later) = cond (so r) r (firstThat so later)
 unfoldable pub reasonOf : Chip → Group → Side → Reason
 reasonOf c g s = firstThat (holds c g s) inOrder
 
--- What is said of a group in mode 1, whose port goes one way: an output is explained as such, and an input so.
+-- What is said of a group in mode 1, whose port goes one way: of its output where it is one, and else of its input.
 abbrev pub oneWay : Chip → Group → Explained
 oneWay c g = cond (outputOf (c .core .word) g) (OutputHalf (reasonOf c g Output)) (InputHalf (reasonOf c g Input))
 
@@ -55,14 +55,15 @@ explainedIn c g =
 unfoldable pub explainedOf : Chip → ℕ → Explained
 explainedOf c n = cond (eqb n 0) (explainedIn c A) (cond (eqb n 1) (explainedIn c B) NoGroup)
 
--- A half that is high is named so; the group's INTR is said to be high where one of its halves is.
+-- That a half is high is one of the five answers.
 abbrev pub isHigh : Reason → Bool
 isHigh EnableOff = false
 isHigh FlagWrong = false
 isHigh LineLow = false
-isHigh CycleRuns = false
+isHigh OwnCycle = false
 isHigh High = true
 
+-- A group's INTR is said to be high where one of its halves is.
 abbrev pub saysHigh : Explained → Bool
 saysHigh NoGroup = false
 saysHigh ModeZero = false
@@ -75,7 +76,7 @@ abbrev pub reasonNumber : Reason → ℕ
 reasonNumber EnableOff = 2
 reasonNumber FlagWrong = 3
 reasonNumber LineLow = 4
-reasonNumber CycleRuns = 5
+reasonNumber OwnCycle = 5
 reasonNumber High = 6
 
 -- Three numbers, by name: a refusal, and what is said of the input's half and of the output's.

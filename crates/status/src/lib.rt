@@ -1,4 +1,4 @@
-// The interrupt requests, and the status word: what port C tells of both handshakes.
+// The interrupt requests, why one is not made, and the status word: what port C tells of both handshakes.
 ghost use mathlib.Core.Path.{_≡_};
 ghost use Rattle.chip.specs.Handshakes.{strobed, lineOf, enableOf, ownAddress, reading, writing, running};
 ghost use Rattle.status.specs.Status.{flagAt, requestOf, intrOf, flagOfB, statusOf};

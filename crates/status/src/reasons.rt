@@ -10,7 +10,7 @@ pub enum Reason {
     EnableOff,
     FlagWrong,
     LineLow,
-    CycleRuns,
+    OwnCycle,
     High,
 }
 
@@ -46,7 +46,7 @@ fn half(chip: Chip, group: Group, side: Side) -> Reason
         return Reason::LineLow;
     }
     if super::running(phase, group, side) {
-        return Reason::CycleRuns;
+        return Reason::OwnCycle;
     }
     Reason::High
 }
@@ -94,7 +94,7 @@ fn reason_number(reason: Reason) -> u8
         Reason::EnableOff => 2,
         Reason::FlagWrong => 3,
         Reason::LineLow => 4,
-        Reason::CycleRuns => 5,
+        Reason::OwnCycle => 5,
         Reason::High => 6,
     }
 }

@@ -1,12 +1,12 @@
-// The program: answers the script that stands on standard input, or says why the interrupts are quiet after it, on standard output.
+// The program: answers the script that stands on standard input or, by the word --quiet, says why the interrupts are quiet after it.
 mod answers;
 mod input;
 mod output;
 mod quiet;
 
-// Whether the program was asked for the second, by the word --quiet.
+// The room is just that word's: a longer one does not fit, and comes as none.
 fn asked_why() -> bool {
-    let mut word = [0u8; 8];
+    let mut word = [0u8; 7];
     let length = os::arg(1, &mut word);
     check::same(&word[..length], b"--quiet")
 }

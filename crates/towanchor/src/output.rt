@@ -8,6 +8,10 @@ pub(super) fn put(bytes: &[u8]) -> bool {
     io::write_all(STDOUT_FILENO, bytes)
 }
 
+pub(super) fn put_number(number: u64) -> bool {
+    io::print_decimal(STDOUT_FILENO, number)
+}
+
 // All is said; where a part was not written, that is told once.
 pub(super) fn end(written: bool) {
     if !written {

@@ -25,7 +25,7 @@ fn words(side: Side, reason: Reason) -> bool {
             b"low, the strobe line is low\n",
             b"low, the acknowledge line is low\n",
         ),
-        Reason::CycleRuns => either(
+        Reason::OwnCycle => either(
             side,
             b"low, a read of the port is running\n",
             b"low, a write to the port is running\n",
@@ -56,6 +56,16 @@ fn group(letter: u8, said: Explained) -> bool {
     }
 }
 
+// A script that was refused in part has left another chip than its writer had in mind.
+fn refused(lines: usize) -> bool {
+    if lines == 0 {
+        return true;
+    }
+    output::put(b"lines that were refused, and changed nothing: ")
+        & output::put_number(lines as u64)
+        & output::put(b"\n")
+}
+
 pub(super) fn explain(text: &[u8]) {
     let left = script::left::chip_after(text);
     if left.number != 0 {
@@ -65,5 +75,6 @@ pub(super) fn explain(text: &[u8]) {
     let chip = left.chip;
     let a = group(b'A', status::reasons::explain(chip, 0));
     let b = group(b'B', status::reasons::explain(chip, 1));
-    output::end(a & b);
+    let lines = refused(left.refused);
+    output::end(a & b & lines);
 }
