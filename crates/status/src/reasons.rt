@@ -1,5 +1,6 @@
 // Why a group's INTR is low: of each half the first reason, or that it is high; and the numbers of these answers.
 ghost use mathlib.Core.Path.{_≡_};
+ghost use mathlib.Core.Bool.{cond};
 ghost use Rattle.status.specs.Reasons.{reasonOf, oneWay, explainedIn, explainedOf, reasonNumber, numbersOf};
 use channel::Side;
 use chip::Chip;
@@ -30,25 +31,37 @@ pub struct Numbers {
     pub output: u8,
 }
 
+// The first of the four that holds.
+fn first(off: bool, wrong: bool, low: bool, runs: bool) -> Reason
+    ensures { λ r. ⌜ r ≡ cond off Reason.EnableOff (cond wrong Reason.FlagWrong (cond low Reason.LineLow (cond runs Reason.OwnCycle Reason.High))) ⌝ }
+{
+    if off {
+        return Reason::EnableOff;
+    }
+    if wrong {
+        return Reason::FlagWrong;
+    }
+    if low {
+        return Reason::LineLow;
+    }
+    if runs {
+        return Reason::OwnCycle;
+    }
+    Reason::High
+}
+
 fn half(chip: Chip, group: Group, side: Side) -> Reason
     ensures { λ r. ⌜ r ≡ reasonOf chip group side ⌝ }
 {
     let core = chip.core;
     let inte = core.inte;
     let phase = chip.phase;
-    if !super::enable(inte, group, side) {
-        return Reason::EnableOff;
-    }
-    if !super::flag(core, group, side) {
-        return Reason::FlagWrong;
-    }
-    if !bits::bit(core.c.outside, super::line(group, side)) {
-        return Reason::LineLow;
-    }
-    if super::running(phase, group, side) {
-        return Reason::OwnCycle;
-    }
-    Reason::High
+    first(
+        !super::enable(inte, group, side),
+        !super::flag(core, group, side),
+        !bits::bit(core.c.outside, super::line(group, side)),
+        super::running(phase, group, side),
+    )
 }
 
 // In mode 1 a port goes one way.
