@@ -56,7 +56,7 @@ fn group(letter: u8, said: Explained) -> bool {
     }
 }
 
-// A script that was refused in part has left another chip than its writer had in mind.
+// A script that was refused in part may have left another chip than its writer had in mind.
 fn refused(lines: usize) -> bool {
     if lines == 0 {
         return true;
