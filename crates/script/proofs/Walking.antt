@@ -1,6 +1,6 @@
 -- A walk through the lines of a text: each line changes the chip and the count, and what they will be at the end stays the same.
 -- Rests on LineCount.
-use mathlib.Core.Path.{_≡_, refl, sym, subst}
+use mathlib.Core.Path.{_≡_, refl, subst}
 use mathlib.Core.Bool.{Bool, true, false, not}
 use mathlib.Core.List.{List, [], _∷_}
 use Prim.Native.Nat.{ℕ, _+_, _≤_}
@@ -11,7 +11,6 @@ use lib.ListN.{length}
 use Rattle.bits.specs.Bit.{num}
 use Rattle.chip.specs.declared.Chip.{Chip}
 use Rattle.step.specs.declared.Stepped.{Stepped}
-use Rattle.script.specs.declared.left.Left.{Left}
 use Rattle.script.specs.Lines.{Line, linesOf}
 use Rattle.script.specs.Answers.{atLine, chipAtStart}
 use Rattle.script.specs.Left.{chipAfter, refusedAmong, chipLeft, walkedThrough}
@@ -25,7 +24,7 @@ pub record Walking (text : List ℕ) (ls : List Line) (c : Chip) (n : ℕ) : Typ
 pub sets-out : (text : List ℕ) → Walking text (linesOf text) chipAtStart 0
 sets-out text = record { leads = refl; counts = zero-add (refusedAmong chipAtStart (linesOf text)) }
 
--- A line refuses itself at most.
+-- What a line adds to the count is at most one, and so no more lines are refused than there are.
 pub one-at-most : (k : ℕ) (b : Bool) → k ≡ num b → k ≤ 1
 one-at-most k true is = omega (arith, is)
 one-at-most k false is = omega (arith, is)
