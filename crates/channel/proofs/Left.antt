@@ -7,7 +7,7 @@ use Rattle.channel.specs.declared.Fill.{Fill}
 use Rattle.channel.specs.declared.Fill.the-variants.{Empty, Waiting, Fetching}
 use Rattle.channel.specs.declared.Channel.{Channel}
 use Rattle.channel.specs.Channel.{isWaiting, offered, handed, overwritten, swallowed, cleared, counted}
-use Rattle.channel.specs.Moves.{afterOffer, afterHandOver, afterEndRead, afterClear}
+use Rattle.channel.specs.Moves.{afterOffer, afterFollow, afterHandOver, afterEndRead, afterClear}
 
 -- A byte offered waits in the latch.
 pub offer-waits : (ch : Channel) (b : ℕ) → afterOffer ch b .fill ≡ Waiting
@@ -22,6 +22,19 @@ pub offer-counts : (ch : Channel) (b : ℕ)
     → afterOffer ch b .tally ≡ counted overwritten (isWaiting (ch .fill)) (counted offered true (ch .tally))
 unfolding afterOffer
 offer-counts ch b = refl
+
+-- Levels that follow stand in the latch, and are all that changes.
+pub follow-stays : (ch : Channel) (b : ℕ) → afterFollow ch b .fill ≡ ch .fill
+unfolding afterFollow
+follow-stays ch b = refl
+
+pub follow-latches : (ch : Channel) (b : ℕ) → afterFollow ch b .latch ≡ b
+unfolding afterFollow
+follow-latches ch b = refl
+
+pub follow-counts : (ch : Channel) (b : ℕ) → afterFollow ch b .tally ≡ ch .tally
+unfolding afterFollow
+follow-counts ch b = refl
 
 -- What handing over leaves of a condition.
 abbrev pub leaves : Fill → Fill → Fill

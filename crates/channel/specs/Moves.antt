@@ -1,4 +1,4 @@
--- The four things that can happen to a channel, and what each leaves of it ("Handshake").
+-- The five things that can happen to a channel, and what each leaves of it ("Handshake").
 use mathlib.Core.Bool.{true, cond}
 use Prim.Native.Nat.{ℕ}
 use Rattle.channel.specs.declared.Fill.{Fill}
@@ -14,6 +14,11 @@ afterOffer ch b = record {
   latch = b;
   tally = counted overwritten (isWaiting (ch .fill)) (counted offered true (ch .tally));
 }
+
+-- While STB is low the latch stands open: what comes onto an input's lines then stands in it at once. A byte that waits has changed its
+-- value; whether or not one does, none is offered and nothing is counted.
+unfoldable pub afterFollow : Channel → ℕ → Channel
+afterFollow ch b = record { fill = ch .fill; latch = b; tally = ch .tally }
 
 -- The byte is taken, by a read that begins or by ACK. What that leaves is for the caller to say: an input is fetched from until
 -- the read ends, an output has room again. Where no byte waits, nothing is taken.

@@ -3,7 +3,7 @@
 ghost use mathlib.Core.Path.{_≡_};
 ghost use mathlib.Core.Bool.{cond};
 ghost use Rattle.channel.specs.Channel.{isWaiting, isEmpty, flagOf, next};
-ghost use Rattle.channel.specs.Moves.{afterOffer, afterHandOver, afterEndRead, afterClear};
+ghost use Rattle.channel.specs.Moves.{afterOffer, afterFollow, afterHandOver, afterEndRead, afterClear};
 
 // Which way a channel's bytes go: an input takes them in by STB, an output gives them out by ACK.
 pub enum Side {
@@ -86,6 +86,16 @@ pub fn offer(channel: Channel, byte: u8) -> Channel
         latch: byte,
         tally,
     }
+}
+
+// The levels go through to the latch, where the channel takes part in it. The condition and the tallies stay, whatever they are.
+pub fn follow(mut channel: Channel, through: bool, levels: u8) -> Channel
+    ensures { λ r. ⌜ r ≡ cond through (afterFollow channel levels) channel ⌝ }
+{
+    if through {
+        channel.latch = levels;
+    }
+    channel
 }
 
 // A byte that waits is handed over, and the channel is left as named: fetching by a read that begins, empty by ACK.

@@ -8,14 +8,14 @@ use Rattle.control.specs.Word.{controlOf}
 use Rattle.roles.specs.Role.{usesOf, freeRole, roleOf}
 use Rattle.channel.specs.declared.Side.the-variants.{Input, Output}
 use Rattle.channel.specs.Channel.{flagOf}
-use Rattle.channel.specs.Moves.{afterOffer, afterHandOver, afterEndRead, afterClear}
+use Rattle.channel.specs.Moves.{afterOffer, afterFollow, afterHandOver, afterEndRead, afterClear}
 use Rattle.chip.specs.State.{allHigh, powerUpWith}
 use Rattle.status.specs.Status.{requestOf, intrOf}
 use Rattle.settings.specs.Renewed.{clearedPort, renewed}
 use Rattle.settings.specs.Commanded.{pinSet, commanded}
 use Rattle.reads.specs.Read.{begunRead, endedRead}
 use Rattle.writes.specs.Write.{storedBy, latchWritten, written}
-use Rattle.levels.specs.Levels.{fallen, edged, levelledLines, levelled}
+use Rattle.levels.specs.Levels.{fallen, edged, levelledLines, levelledPort, levelled}
 use Rattle.ports.specs.Reads.{readPort, readLines, readOf}
 use Rattle.ports.specs.Pins.{drivesPort, pinsOfPort, pinsOfLines, pinsOf}
 use Rattle.step.specs.Numbers.{numberOf}
@@ -26,15 +26,15 @@ use Rattle.fates.specs.Examples.{lostBale, inAndWritten, baleTally, befo
 
 -- The lost digit is counted as swallowed.
 pub bale-counted : tallies A Input (powerUpWith allHigh) lostBale ≡ baleTally
-unfolding bitOf valueOf withBit modeOf inputOf upperInput lowerInput strobedInput strobedOutput outputOf controlOf usesOf freeRole roleOf flagOf afterOffer afterHandOver afterEndRead afterClear requestOf intrOf clearedPort renewed pinSet commanded begunRead endedRead storedBy latchWritten written fallen edged levelledLines levelled readPort readLines readOf drivesPort pinsOfPort pinsOfLines pinsOf numberOf stepOf
+unfolding bitOf valueOf withBit modeOf inputOf upperInput lowerInput strobedInput strobedOutput outputOf controlOf usesOf freeRole roleOf flagOf afterOffer afterFollow afterHandOver afterEndRead afterClear requestOf intrOf clearedPort renewed pinSet commanded begunRead endedRead storedBy latchWritten written fallen edged levelledLines levelledPort levelled readPort readLines readOf drivesPort pinsOfPort pinsOfLines pinsOf numberOf stepOf
 bale-counted = refl
 
 -- The byte written in mode 2 does not show before ACK falls.
 pub not-before : pinsOf (run (powerUpWith allHigh) inAndWritten) 0 ≡ beforeAck
-unfolding bitOf valueOf withBit modeOf inputOf upperInput lowerInput strobedInput strobedOutput outputOf controlOf usesOf freeRole roleOf flagOf afterOffer afterHandOver afterEndRead afterClear requestOf intrOf clearedPort renewed pinSet commanded begunRead endedRead storedBy latchWritten written fallen edged levelledLines levelled readPort readLines readOf drivesPort pinsOfPort pinsOfLines pinsOf numberOf stepOf
+unfolding bitOf valueOf withBit modeOf inputOf upperInput lowerInput strobedInput strobedOutput outputOf controlOf usesOf freeRole roleOf flagOf afterOffer afterFollow afterHandOver afterEndRead afterClear requestOf intrOf clearedPort renewed pinSet commanded begunRead endedRead storedBy latchWritten written fallen edged levelledLines levelledPort levelled readPort readLines readOf drivesPort pinsOfPort pinsOfLines pinsOf numberOf stepOf
 not-before = refl
 
 -- It shows as ACK falls.
 pub ack-shows : Shows A Output (run (powerUpWith allHigh) inAndWritten) (event 5 2 0xbf) 0x55
-unfolding bitOf valueOf withBit modeOf inputOf upperInput lowerInput strobedInput strobedOutput outputOf controlOf usesOf freeRole roleOf flagOf afterOffer afterHandOver afterEndRead afterClear requestOf intrOf clearedPort renewed pinSet commanded begunRead endedRead storedBy latchWritten written fallen edged levelledLines levelled readPort readLines readOf drivesPort pinsOfPort pinsOfLines pinsOf numberOf stepOf
+unfolding bitOf valueOf withBit modeOf inputOf upperInput lowerInput strobedInput strobedOutput outputOf controlOf usesOf freeRole roleOf flagOf afterOffer afterFollow afterHandOver afterEndRead afterClear requestOf intrOf clearedPort renewed pinSet commanded begunRead endedRead storedBy latchWritten written fallen edged levelledLines levelledPort levelled readPort readLines readOf drivesPort pinsOfPort pinsOfLines pinsOf numberOf stepOf
 ack-shows = (refl, refl)

@@ -16,7 +16,7 @@ use Rattle.chip.specs.declared.Chip.{Chip}
 use Rattle.chip.specs.State.{tallyOf}
 use Rattle.laws.specs.History.{Event}
 use Rattle.fates.specs.Around.{aroundNext}
-use Rattle.fates.specs.Deeds.{Deed, offered, taken, ended, clearedAway, nothing, deeds}
+use Rattle.fates.specs.Deeds.{Deed, offered, followed, taken, ended, clearedAway, nothing, deeds}
 use Rattle.fates.specs.Bytes.{Fate, handedOver, overwritten, swallowed, cleared, waiting, Offer, Byte, bytes, same, count}
 use Rattle.fates.specs.Promise.{run, tallies, aroundOf}
 use Rattle.fates.proofs.Story.{fateBy, heldAfter, story, fated, decided}
@@ -58,6 +58,7 @@ unfolding decided fated
 count-decided f tallied Empty h n d bs = rw (and-false (same f (fateBy d))) (omega arith)
 count-decided f tallied Fetching h n d bs = rw (and-false (same f (fateBy d))) (omega arith)
 count-decided f tallied Waiting h n (offered v) bs = rw (and-true (same f overwritten))
+count-decided f tallied Waiting h n (followed v) bs = rw (tallied) (omega arith)
 count-decided f tallied Waiting h n taken bs = rw (and-true (same f handedOver))
 count-decided f tallied Waiting h n ended bs = rw (and-true (same f swallowed))
 count-decided f tallied Waiting h n clearedAway bs = rw (and-true (same f cleared))
@@ -79,6 +80,7 @@ unfolding decided fated
 none-decided-waits Empty h n d bs = refl
 none-decided-waits Fetching h n d bs = refl
 none-decided-waits Waiting h n (offered v) bs = omega arith
+none-decided-waits Waiting h n (followed v) bs = refl
 none-decided-waits Waiting h n taken bs = omega arith
 none-decided-waits Waiting h n ended bs = omega arith
 none-decided-waits Waiting h n clearedAway bs = omega arith
@@ -86,6 +88,7 @@ none-decided-waits Waiting h n nothing bs = refl
 
 offers-counted : (d : Deed) (n : ℕ) (later : List Deed) → length (bytes n (d ∷ later)) ≡ num (offers d) + length (bytes (suc n) later)
 offers-counted (offered v) n later = omega arith
+offers-counted (followed v) n later = omega arith
 offers-counted taken n later = omega arith
 offers-counted ended n later = omega arith
 offers-counted clearedAway n later = omega arith

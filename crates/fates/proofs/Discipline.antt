@@ -16,7 +16,7 @@ use Rattle.chip.specs.declared.Chip.{Chip}
 use Rattle.laws.specs.History.{Event}
 use Rattle.laws.proofs.ChannelPins.{flag-pin}
 use Rattle.fates.specs.Around.{aroundNext}
-use Rattle.fates.specs.Deeds.{Deed, offered, taken, ended, clearedAway, nothing, strobes}
+use Rattle.fates.specs.Deeds.{Deed, offered, followed, taken, ended, clearedAway, nothing, strobes}
 use Rattle.fates.specs.Bytes.{Fate, overwritten, swallowed, waiting, Offer, offeredAt, same, count}
 use Rattle.fates.specs.Promise.{aroundOf, newBytes, oldByte}
 use Rattle.fates.specs.Discipline.{ibf, strobedReadRuns, HasFound, Minds, Disciplined, NoneLost}
@@ -45,6 +45,7 @@ module _ (level on r r′ : Bool) where
   }
   minded Waiting (offered v) flag found reads minds = absurd (subst T (sym (flag (reads .0)) ∙ minds) tt)
   minded Fetching (offered v) flag found reads minds = absurd (subst T (sym (flag (reads .0)) ∙ minds) tt)
+  minded f (followed v) flag found reads minds = record { notOverwritten = refl; notSwallowed = refl; found = λ e. found (sym reads ∙ e) }
   minded Empty taken flag found reads minds = absurd (subst T (sym minds ∙ flag reads) tt)
   minded Waiting taken flag found reads minds = record { notOverwritten = refl; notSwallowed = refl; found = λ e. refl }
   minded Fetching taken flag found reads minds = record { notOverwritten = refl; notSwallowed = refl; found = λ e. refl }

@@ -9,14 +9,14 @@ use Rattle.control.specs.Mode.{modeOf, inputOf, upperInput, lowerInput, strobed
 use Rattle.control.specs.Word.{controlOf}
 use Rattle.roles.specs.Role.{usesOf, freeRole, roleOf}
 use Rattle.channel.specs.Channel.{flagOf}
-use Rattle.channel.specs.Moves.{afterOffer, afterHandOver, afterEndRead, afterClear}
+use Rattle.channel.specs.Moves.{afterOffer, afterFollow, afterHandOver, afterEndRead, afterClear}
 use Rattle.chip.specs.State.{allHigh, powerUpWith}
 use Rattle.status.specs.Status.{requestOf, intrOf}
 use Rattle.settings.specs.Renewed.{clearedPort, renewed}
 use Rattle.settings.specs.Commanded.{pinSet, commanded}
 use Rattle.reads.specs.Read.{begunRead, endedRead}
 use Rattle.writes.specs.Write.{storedBy, latchWritten, written}
-use Rattle.levels.specs.Levels.{fallen, edged, levelledLines, levelled}
+use Rattle.levels.specs.Levels.{fallen, edged, levelledLines, levelledPort, levelled}
 use Rattle.ports.specs.Reads.{readPort, readLines, readOf}
 use Rattle.ports.specs.Pins.{drivesPort, pinsOfPort, pinsOfLines, pinsOf}
 use Rattle.step.specs.Numbers.{numberOf}
@@ -26,10 +26,10 @@ use Rattle.fates.specs.Examples.{lostBale, twoDigits}
 use Rattle.fates.specs.Discipline.{Disciplined}
 
 pub two-digits-disciplined : Disciplined A (atPowerUp allHigh) (powerUpWith allHigh) twoDigits
-unfolding bitOf valueOf withBit modeOf inputOf upperInput lowerInput strobedInput strobedOutput outputOf controlOf usesOf freeRole roleOf flagOf afterOffer afterHandOver afterEndRead afterClear requestOf intrOf clearedPort renewed pinSet commanded begunRead endedRead storedBy latchWritten written fallen edged levelledLines levelled readPort readLines readOf drivesPort pinsOfPort pinsOfLines pinsOf numberOf stepOf
+unfolding bitOf valueOf withBit modeOf inputOf upperInput lowerInput strobedInput strobedOutput outputOf controlOf usesOf freeRole roleOf flagOf afterOffer afterFollow afterHandOver afterEndRead afterClear requestOf intrOf clearedPort renewed pinSet commanded begunRead endedRead storedBy latchWritten written fallen edged levelledLines levelledPort levelled readPort readLines readOf drivesPort pinsOfPort pinsOfLines pinsOf numberOf stepOf
 two-digits-disciplined = (tt, (tt, (tt, (refl, (tt, (refl, (tt, (tt, (refl, (tt, (refl, (tt, tt))))))))))))
 
 -- The second digit of the lost bale comes while IBF is high.
 pub lost-bale-undisciplined : ¬ Disciplined A (atPowerUp allHigh) (powerUpWith allHigh) lostBale
-unfolding bitOf valueOf withBit modeOf inputOf upperInput lowerInput strobedInput strobedOutput outputOf controlOf usesOf freeRole roleOf flagOf afterOffer afterHandOver afterEndRead afterClear requestOf intrOf clearedPort renewed pinSet commanded begunRead endedRead storedBy latchWritten written fallen edged levelledLines levelled readPort readLines readOf drivesPort pinsOfPort pinsOfLines pinsOf numberOf stepOf
+unfolding bitOf valueOf withBit modeOf inputOf upperInput lowerInput strobedInput strobedOutput outputOf controlOf usesOf freeRole roleOf flagOf afterOffer afterFollow afterHandOver afterEndRead afterClear requestOf intrOf clearedPort renewed pinSet commanded begunRead endedRead storedBy latchWritten written fallen edged levelledLines levelledPort levelled readPort readLines readOf drivesPort pinsOfPort pinsOfLines pinsOf numberOf stepOf
 lost-bale-undisciplined kept = subst T (kept .1 .1 .1 .1 .1 .1 .1 .0) tt

@@ -1,7 +1,7 @@
 -- A channel that moves as a deed says: the shapes in which the step's rules say it, beside the deeds of the history.
 -- Rests on Moved.
 use mathlib.Core.Path.{_≡_, refl, ap, sym, subst}
-use mathlib.Core.Bool.{Bool, true, false, cond, _&&_}
+use mathlib.Core.Bool.{Bool, true, false, cond, _&&_, and-false}
 use Prim.Native.Nat.{ℕ}
 use lib.Dec.{T}
 use Rattle.channel.specs.declared.Side.{Side}
@@ -26,18 +26,23 @@ pub at-rest : (s : Side) (ch : Channel) (on : Bool) → ch ≡ moved s ch (when 
 at-rest s ch true = refl
 at-rest s ch false = refl
 
--- A move under two conditions is a deed under both.
+-- A move under a condition is a deed under it, and so is one under two.
+gated : (s : Side) (ch : Channel) (d : Deed) (own : Bool) → cond own (moved s ch d) ch ≡ moved s ch (when own d)
+gated s ch d true = refl
+gated s ch d false = refl
+
 pub moves : (s : Side) (ch : Channel) (d : Deed) (on own : Bool) → cond (on && own) (moved s ch d) ch ≡ moved s ch (when on (when own d))
-moves s ch d true true = refl
-moves s ch d true false = refl
+moves s ch d true own = gated s ch d own
 moves s ch d false own = refl
 
--- So is the fall of a line, of which port C alone has any.
-pub falling : (s : Side) (ch : Channel) (d : Deed) (lines on fell : Bool)
-    → cond (lines && (on && fell)) (moved s ch d) ch ≡ moved s ch (when on (when (lines && fell) d))
-falling s ch d true on fell = moves s ch d on fell
-falling s ch d false true fell = refl
-falling s ch d false false fell = refl
+-- So are the fall of a line, of which port C alone has any, and else the levels on the port's own lines while that line is low.
+pub levelling : (s : Side) (ch : Channel) (d e : Deed) (lines on fell own low : Bool)
+    → cond (lines && (on && fell)) (moved s ch d) (cond (own && (on && low)) (moved s ch e) ch)
+    ≡ moved s ch (when on (cond (lines && fell) d (when (own && low) e)))
+levelling s ch d e lines false fell own low = rw (and-false lines, and-false own)
+levelling s ch d e true true true own low = refl
+levelling s ch d e true true false own low = gated s ch e (own && low)
+levelling s ch d e false true fell own low = gated s ch e (own && low)
 
 -- The end of a write moves an output that is strobed; of a plain output it writes the latch.
 pub writing : (ch : Channel) (d : ℕ) (out on own : Bool) → (on ≡ true → out ≡ true)

@@ -14,7 +14,7 @@ use Rattle.chip.specs.State.{powerUpWith}
 use Rattle.laws.specs.History.{Event}
 use Rattle.fates.specs.Kinds.{Named, reset, cycleEnded, unknown, readBegun, writeBegun, newLevels, named, accepts}
 use Rattle.fates.specs.Around.{Around, levelsAfter, aroundAfter, aroundNext, atPowerUp}
-use Rattle.fates.specs.Deeds.{Deed, offered, taken, ended, clearedAway, nothing, portNumber, strobePin, strobes, readRuns, writeRuns, when, ownDeed, clears, deedOf, deed, deeds}
+use Rattle.fates.specs.Deeds.{Deed, offered, followed, taken, ended, clearedAway, nothing, portNumber, strobePin, strobes, readRuns, writeRuns, when, ownDeed, clears, deedOf, deed, deeds}
 use Rattle.fates.specs.Bytes.{handedOver, outcomeOf, bytes, bytesOf, same, count}
 use Rattle.fates.specs.Promise.{tallies}
 use Rattle.fates.specs.Raised.{raises, NeverRaised}
@@ -24,6 +24,7 @@ use Rattle.fates.proofs.Demand.{fates}
 abbrev byLine : Deed → Side → Bool
 byLine (offered v) Input = true
 byLine (offered v) Output = false
+byLine (followed v) s = false
 byLine taken Input = false
 byLine taken Output = true
 byLine ended s = false
@@ -69,7 +70,7 @@ module _ (g : Group) (a : Around) where
   own-unmoved Input cycleEnded low = under Input (readRuns g (a .phase)) ended refl
   own-unmoved Output cycleEnded low = under Output (writeRuns g (a .phase)) _ refl
   own-unmoved s (writeBegun x d) low = refl
-  own-unmoved Input (newLevels x d) low = rw (low, and-false (eqb x 2))
+  own-unmoved Input (newLevels x d) low = rw (low, and-false (eqb x 2)) (under Input (eqb x (portNumber g) && true) (followed d) refl)
   own-unmoved Output (newLevels x d) low = rw (low, and-false (eqb x 2))
   own-unmoved s unknown low = refl
 
@@ -90,6 +91,7 @@ deeds-unmoved g s a (e ∷ es) low kept =
 none-offered : (n : ℕ) (ds : List Deed) → Unmoved Input ds → bytes n ds ≡ []
 none-offered n [] still = refl
 none-offered n (offered v ∷ ds) still = absurd (subst T (still .0) tt)
+none-offered n (followed v ∷ ds) still = none-offered (suc n) ds (still .1)
 none-offered n (taken ∷ ds) still = none-offered (suc n) ds (still .1)
 none-offered n (ended ∷ ds) still = none-offered (suc n) ds (still .1)
 none-offered n (clearedAway ∷ ds) still = none-offered (suc n) ds (still .1)
@@ -99,6 +101,7 @@ none-offered n (nothing ∷ ds) still = none-offered (suc n) ds (still .1)
 fate-other : (n : ℕ) (ds : List Deed) → Unmoved Output ds → same handedOver (outcomeOf n ds .fate) ≡ false
 fate-other n [] still = refl
 fate-other n (offered v ∷ ds) still = refl
+fate-other n (followed v ∷ ds) still = fate-other (suc n) ds (still .1)
 fate-other n (taken ∷ ds) still = absurd (subst T (still .0) tt)
 fate-other n (ended ∷ ds) still = refl
 fate-other n (clearedAway ∷ ds) still = refl
@@ -107,6 +110,7 @@ fate-other n (nothing ∷ ds) still = fate-other (suc n) ds (still .1)
 none-handed : (n : ℕ) (ds : List Deed) → Unmoved Output ds → count handedOver (bytes n ds) ≡ 0
 none-handed n [] still = refl
 none-handed n (offered v ∷ ds) still = rw (fate-other (suc n) ds (still .1), none-handed (suc n) ds (still .1))
+none-handed n (followed v ∷ ds) still = none-handed (suc n) ds (still .1)
 none-handed n (taken ∷ ds) still = none-handed (suc n) ds (still .1)
 none-handed n (ended ∷ ds) still = none-handed (suc n) ds (still .1)
 none-handed n (clearedAway ∷ ds) still = none-handed (suc n) ds (still .1)

@@ -5,7 +5,7 @@ use Prim.Native.Nat.{ℕ, suc, _<_, _≤_}
 use native.Mathlib.Omega.{arith}
 use Rattle.channel.specs.declared.Fill.{Fill}
 use Rattle.channel.specs.declared.Fill.the-variants.{Empty, Waiting, Fetching}
-use Rattle.fates.specs.Deeds.{Deed, offered, taken, ended, clearedAway, nothing}
+use Rattle.fates.specs.Deeds.{Deed, offered, followed, taken, ended, clearedAway, nothing}
 use Rattle.fates.specs.Bytes.{Offer, outcomeOf, bytes}
 use Rattle.fates.specs.Promise.{heldByte, InOrder}
 
@@ -13,6 +13,7 @@ use Rattle.fates.specs.Promise.{heldByte, InOrder}
 decided-later : (n : ℕ) (later : List Deed) → n ≤ outcomeOf n later .place
 decided-later n [] = omega arith
 decided-later n (offered v ∷ later) = omega arith
+decided-later n (followed v ∷ later) = let h = decided-later (suc n) later in omega (arith, h)
 decided-later n (taken ∷ later) = omega arith
 decided-later n (ended ∷ later) = omega arith
 decided-later n (clearedAway ∷ later) = omega arith
@@ -22,6 +23,7 @@ mutual
   in-order : (m n : ℕ) (later : List Deed) → m ≤ n → InOrder m (bytes n later)
   in-order m n [] h = tt
   in-order m n (offered v ∷ later) h = (h, decided-later (suc n) later, next-in-order (suc n) later)
+  in-order m n (followed v ∷ later) h = in-order m (suc n) later (omega (arith, h))
   in-order m n (taken ∷ later) h = in-order m (suc n) later (omega (arith, h))
   in-order m n (ended ∷ later) h = in-order m (suc n) later (omega (arith, h))
   in-order m n (clearedAway ∷ later) h = in-order m (suc n) later (omega (arith, h))
@@ -31,6 +33,7 @@ mutual
   next-in-order : (n : ℕ) (later : List Deed) → InOrder (outcomeOf n later .place) (bytes n later)
   next-in-order n [] = tt
   next-in-order n (offered v ∷ later) = (omega arith, decided-later (suc n) later, next-in-order (suc n) later)
+  next-in-order n (followed v ∷ later) = next-in-order (suc n) later
   next-in-order n (taken ∷ later) = in-order n (suc n) later (omega arith)
   next-in-order n (ended ∷ later) = in-order n (suc n) later (omega arith)
   next-in-order n (clearedAway ∷ later) = in-order n (suc n) later (omega arith)

@@ -3,9 +3,10 @@
 -- Rests on Tables, Accepted, Moved and Moving, and on what the crates below say of each event: settings' After, reads' and
 -- writes' After, levels' After, chip's Surrounded, control's Strobed, the step's ByKind.
 use mathlib.Core.Path.{_≡_, refl}
-use mathlib.Core.Bool.{Bool, true, false}
+use mathlib.Core.Bool.{Bool, true, false, not}
 use Prim.Native.Nat.{ℕ}
 use lib.Dec.{eqb}
+use Rattle.bits.specs.Bit.{bitOf}
 use Rattle.control.specs.declared.Group.{Group}
 use Rattle.control.specs.declared.Group.the-variants.{A, B}
 use Rattle.control.specs.Mode.{strobedInput, strobedOutput, outputOf}
@@ -30,12 +31,12 @@ use Rattle.step.specs.Step.{onBus, afterEnd, afterOf}
 use Rattle.step.proofs.ByKind.{by-kind}
 use Rattle.laws.specs.History.{Event, event, stepped}
 use Rattle.fates.specs.Kinds.{Named, readBegun, cycleEnded, newLevels, named, accepts}
-use Rattle.fates.specs.Deeds.{offered, taken, ended, nothing, levelsOn, strobes, when, ownDeed, deedOf, deed}
+use Rattle.fates.specs.Deeds.{offered, followed, taken, ended, nothing, levelsOn, strobes, when, ownDeed, deedOf, deed}
 use Rattle.fates.specs.Promise.{aroundOf}
 use Rattle.fates.proofs.Tables.{own-same, line-same, strobes-same}
 use Rattle.fates.proofs.Accepted.{no-kind-accepted, by-outcome}
 use Rattle.fates.proofs.Moved.{moved}
-use Rattle.fates.proofs.Moving.{Goes, goes, at-rest, moves, falling, writing}
+use Rattle.fates.proofs.Moving.{Goes, goes, at-rest, moves, levelling, writing}
 
 module _ (c : Core) (g : Group) where
   abbrev on : Side → Bool
@@ -95,11 +96,15 @@ module _ (c : Core) (g : Group) where
   levels-set : (ph : Phase) (s : Side) (x d : ℕ) → After ph s (newLevels x d) (levelled c x d)
   unfolding fallen
   levels-set ph Input x d =
-      rw (levelled-input c x d g, strobes-same (c .word) g Input, line-same g Input, ← levels-same ph)
-      (goes (falling Input (channelOf c g Input) (offered (portOf c g .outside)) (eqb x 2) (strobedInput (c .word) g) (fallen (c .c .outside) d (lineOf g Input))))
+      rw (levelled-input c x d g, strobes-same (c .word) g Input, line-same g Input, own-same x g, ← levels-same ph)
+      (goes
+      (levelling Input (channelOf c g Input) (offered (portOf c g .outside)) (followed d) (eqb x 2) (strobedInput (c .word) g)
+      (fallen (c .c .outside) d (lineOf g Input)) (ownAddress x g) (not (bitOf (c .c .outside) (lineOf g Input)))))
   levels-set ph Output x d =
       rw (levelled-output c x d g, strobes-same (c .word) g Output, line-same g Output)
-      (goes (falling Output (channelOf c g Output) taken (eqb x 2) (strobedOutput (c .word) g) (fallen (c .c .outside) d (lineOf g Output))))
+      (goes
+      (levelling Output (channelOf c g Output) taken nothing (eqb x 2) (strobedOutput (c .word) g) (fallen (c .c .outside) d (lineOf g Output))
+      false false))
 
 module _ (c : Chip) (g : Group) (s : Side) where
   abbrev Follows : Event → Type 0

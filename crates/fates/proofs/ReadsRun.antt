@@ -11,13 +11,14 @@ use Rattle.chip.specs.declared.Phase.the-variants.{Idle, Reading, Writing}
 use Rattle.laws.specs.History.{Event}
 use Rattle.fates.specs.Kinds.{Named, reset, readBegun, cycleEnded, writeBegun, newLevels, unknown, named, accepts}
 use Rattle.fates.specs.Around.{Around, ofModeWord, aroundAfter, aroundNext}
-use Rattle.fates.specs.Deeds.{Deed, offered, taken, ended, clearedAway, nothing, portNumber, levelsOn, strobes, readRuns, falls, when, deedOf, deed}
+use Rattle.fates.specs.Deeds.{Deed, offered, followed, taken, ended, clearedAway, nothing, portNumber, levelsOn, strobes, readRuns, falls, underLow, when, deedOf, deed}
 use Rattle.fates.specs.Discipline.{strobedReadRuns}
 
 -- What a deed tells of a read of the strobed port before it (r) and after it (r′), where `on` is whether the port is strobed: only a
 -- byte taken begins such a read, and nothing ends it but its end, a mode word and a reset.
 abbrev pub Reads : Bool → Bool → Bool → Deed → Type 0
 Reads on r r′ (offered v) = (on ≡ true) × (r′ ≡ r)
+Reads on r r′ (followed v) = r′ ≡ r
 Reads on r r′ taken = on ≡ true
 Reads on r r′ ended = (r ≡ true) × (r′ ≡ false)
 Reads on r r′ clearedAway = r′ ≡ false
@@ -37,10 +38,11 @@ rests : (on : Bool) → Reads on (on && false) (on && false) (when on nothing)
 rests true = refl
 rests false = refl
 
-strobe : (on r fell : Bool) (v : ℕ) → Reads on r r (when on (when fell (offered v)))
-strobe true r true v = (refl, refl)
-strobe true r false v = refl
-strobe false r fell v = refl
+levels-come : (on r fell low : Bool) (v u : ℕ) → Reads on r r (when on (cond fell (offered v) (when low (followed u))))
+levels-come true r true low v u = (refl, refl)
+levels-come true r false true v u = refl
+levels-come true r false false v u = refl
+levels-come false r fell low v u = refl
 
 write-ends : (mode on on′ : Bool) → Reads on (on && false) (on′ && false) (cond mode clearedAway (when on nothing))
 write-ends true on on′ = and-false on′
@@ -72,7 +74,8 @@ module _ (g : Group) (w x y z : ℕ) where
   reads-on Idle (writeBegun p u) ok = rests on
   reads-on (Reading q) (writeBegun p u) ok = absurd (refused (ltb p 4) ok)
   reads-on (Writing q d) (writeBegun p u) ok = absurd (refused (ltb p 4) ok)
-  reads-on ph (newLevels p u) ok = strobe on (on && readRuns g ph) (falls g Input (around ph w x y z) p u) (levelsOn g (around ph w x y z))
+  reads-on ph (newLevels p u) ok =
+      levels-come on (on && readRuns g ph) (falls g Input (around ph w x y z) p u) (underLow g (around ph w x y z) p) (levelsOn g (around ph w x y z)) u
   reads-on ph unknown ok = absurd (subst T (sym ok) tt)
 
 -- The same of every event, accepted or refused.

@@ -19,7 +19,7 @@ use Rattle.chip.specs.declared.Chip.{Chip}
 use Rattle.laws.specs.History.{Event}
 use Rattle.fates.specs.Kinds.{Named, reset, readBegun, cycleEnded, writeBegun, newLevels, unknown, named, accepts}
 use Rattle.fates.specs.Around.{Around, wordAfter, aroundAfter}
-use Rattle.fates.specs.Deeds.{Deed, offered, taken, ended, clearedAway, nothing, strobes, when, ownDeed, clears, deedOf}
+use Rattle.fates.specs.Deeds.{Deed, offered, followed, taken, ended, clearedAway, nothing, strobes, when, ownDeed, clears, deedOf}
 use Rattle.fates.specs.Bytes.{Fate, handedOver, overwritten, swallowed, cleared, waiting, Offer, offeredAt, Byte, same}
 use Rattle.fates.specs.Promise.{aroundOf, Each, Shows, ShownAt}
 use Rattle.fates.proofs.Story.{emptied, fillAfter, heldAfter, story, fated, decided}
@@ -60,6 +60,7 @@ none-left s Fetching = tt
 held-value : (s : Side) (f : Fill) (l : ℕ) (h : Offer) (n : ℕ) (d : Deed) → fillAfter s f d ≡ Waiting → (f ≡ Waiting → l ≡ h .value)
     → latchAfter l d ≡ heldAfter h n d .value
 held-value s f l h n (offered v) waits held = refl
+held-value s f l h n (followed v) waits held = refl
 held-value s f l h n taken waits held = absurd (subst (λ f. T (not (isWaiting f))) waits (none-left s f))
 held-value s f l h n ended waits held = absurd (subst (λ f. T (not (isWaiting f))) waits tt)
 held-value s f l h n clearedAway waits held = absurd (subst (λ f. T (not (isWaiting f))) waits tt)
@@ -88,6 +89,7 @@ HandedOver P b = b .outcome .fate ≡ handedOver → P (b .outcome .place) (b .o
 -- What follows where a byte is taken.
 for-taken : {P Q : Type 0} (d : Deed) → (P → Q) → WhereTaken P d → WhereTaken Q d
 for-taken (offered v) h p = tt
+for-taken (followed v) h p = tt
 for-taken taken h p = h p
 for-taken ended h p = tt
 for-taken clearedAway h p = tt
@@ -100,6 +102,7 @@ unfolding decided fated
 decided-each P Empty h n d bs here rest = rest
 decided-each P Fetching h n d bs here rest = rest
 decided-each P Waiting h n (offered v) bs here rest = (λ e. absurd (other overwritten e refl), rest)
+decided-each P Waiting h n (followed v) bs here rest = rest
 decided-each P Waiting h n taken bs here rest = (λ e. here refl, rest)
 decided-each P Waiting h n ended bs here rest = (λ e. absurd (other swallowed e refl), rest)
 decided-each P Waiting h n clearedAway bs here rest = (λ e. absurd (other cleared e refl), rest)

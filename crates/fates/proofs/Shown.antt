@@ -27,7 +27,7 @@ use Rattle.laws.specs.History.{Event, event}
 use Rattle.laws.proofs.OwnPort.{own-pins, own-read}
 use Rattle.fates.specs.Kinds.{named, accepts}
 use Rattle.fates.specs.Around.{brought}
-use Rattle.fates.specs.Deeds.{Deed, offered, taken, ended, clearedAway, nothing, portNumber, levelsOn, strobePin, strobes, readRuns, writeRuns, falls, when, ownDeed, clears, deed}
+use Rattle.fates.specs.Deeds.{Deed, offered, followed, taken, ended, clearedAway, nothing, portNumber, levelsOn, strobePin, strobes, readRuns, writeRuns, falls, underLow, when, ownDeed, clears, deed}
 use Rattle.fates.specs.Promise.{aroundOf, Shows}
 use Rattle.fates.proofs.Tables.{own-same, line-same, strobes-same}
 use Rattle.fates.proofs.Accepted.{no-kind-accepted, accepted-number}
@@ -37,6 +37,7 @@ use Rattle.fates.proofs.Followed.{after, latch, next-latch}
 -- What holds where a byte is taken.
 abbrev pub WhereTaken : Type 0 → Deed → Type 0
 WhereTaken P (offered v) = Unit {0}
+WhereTaken P (followed v) = Unit {0}
 WhereTaken P taken = P
 WhereTaken P ended = Unit {0}
 WhereTaken P clearedAway = Unit {0}
@@ -59,6 +60,11 @@ both false b h = absurd (subst T (sym h) tt)
 -- A deed that takes no byte is one of those in any case.
 never : (P : Type 0) (b : Bool) (d : Deed) → WhereTaken P d → WhereTaken P (when b d)
 never P b d h = under-condition P b d (λ e. h)
+
+-- Levels take no byte from an input.
+levels-take-none : (P : Type 0) (fell low : Bool) (v u : ℕ) → WhereTaken P (cond fell (offered v) (when low (followed u)))
+levels-take-none P true low v u = tt
+levels-take-none P false low v u = never P low (followed u) tt
 
 module _ (c : Chip) (g : Group) where
   abbrev word : ℕ
@@ -88,7 +94,7 @@ module _ (c : Chip) (g : Group) where
       (λ ok on. under-condition _ (eqb x (portNumber g)) taken (begun-shows x d ok on))
       (λ ok on. never _ (readRuns g (c .phase)) ended tt)
       (λ ok on. tt)
-      (λ ok on. never _ (falls g Input (aroundOf c) x d) (offered (levelsOn g (aroundOf c))) tt)
+      (λ ok on. levels-take-none _ (falls g Input (aroundOf c) x d) (underLow g (aroundOf c) x) (levelsOn g (aroundOf c)) d)
       (λ k none ok on. absurd (no-kind-accepted (c .phase) k x d none ok))
       k
 

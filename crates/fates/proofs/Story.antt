@@ -8,7 +8,7 @@ use Rattle.channel.specs.declared.Side.the-variants.{Input, Output}
 use Rattle.channel.specs.declared.Fill.{Fill}
 use Rattle.channel.specs.declared.Fill.the-variants.{Empty, Waiting, Fetching}
 use Rattle.channel.proofs.Left.{leaves}
-use Rattle.fates.specs.Deeds.{Deed, offered, taken, ended, clearedAway, nothing}
+use Rattle.fates.specs.Deeds.{Deed, offered, followed, taken, ended, clearedAway, nothing}
 use Rattle.fates.specs.Bytes.{Fate, handedOver, overwritten, swallowed, cleared, waiting, Offer, Byte, offeredAt, decidedAt, bytes}
 use Rattle.fates.specs.Promise.{heldByte}
 
@@ -20,14 +20,16 @@ emptied Output = Empty
 -- The condition after a deed.
 abbrev pub fillAfter : Side → Fill → Deed → Fill
 fillAfter s f (offered v) = Waiting
+fillAfter s f (followed v) = f
 fillAfter s f taken = leaves f (emptied s)
 fillAfter s f ended = Empty
 fillAfter s f clearedAway = Empty
 fillAfter s f nothing = f
 
--- The byte last offered, where the deed is at place n.
+-- The byte last offered, where the deed is at place n; levels that follow change its value.
 abbrev pub heldAfter : Offer → ℕ → Deed → Offer
 heldAfter h n (offered v) = offeredAt n v
+heldAfter h n (followed v) = offeredAt (h .place) v
 heldAfter h n taken = h
 heldAfter h n ended = h
 heldAfter h n clearedAway = h
@@ -40,6 +42,7 @@ story f h n later = heldByte f h n later ++ bytes n later
 -- What a deed makes of a byte that waits.
 abbrev pub fateBy : Deed → Fate
 fateBy (offered v) = overwritten
+fateBy (followed v) = waiting
 fateBy taken = handedOver
 fateBy ended = swallowed
 fateBy clearedAway = cleared
@@ -53,6 +56,7 @@ fated h n f = record { offer = h; outcome = decidedAt n f } ∷ []
 unfoldable pub decided : Fill → Offer → ℕ → Deed → List Byte
 decided Empty h n d = []
 decided Waiting h n (offered v) = fated h n (fateBy (offered v))
+decided Waiting h n (followed v) = []
 decided Waiting h n taken = fated h n (fateBy taken)
 decided Waiting h n ended = fated h n (fateBy ended)
 decided Waiting h n clearedAway = fated h n (fateBy clearedAway)
@@ -65,16 +69,19 @@ pub story-step : (s : Side) (f : Fill) (h : Offer) (n : ℕ) (d : Deed) (later :
     → story f h n (d ∷ later) ≡ decided f h n d ++ story (fillAfter s f d) (heldAfter h n d) (suc n) later
 unfolding decided fated
 story-step s Empty h n (offered v) later = refl
+story-step s Empty h n (followed v) later = refl
 story-step s Empty h n taken later = refl
 story-step s Empty h n ended later = refl
 story-step s Empty h n clearedAway later = refl
 story-step s Empty h n nothing later = refl
 story-step s Fetching h n (offered v) later = refl
+story-step s Fetching h n (followed v) later = refl
 story-step s Fetching h n taken later = refl
 story-step s Fetching h n ended later = refl
 story-step s Fetching h n clearedAway later = refl
 story-step s Fetching h n nothing later = refl
 story-step s Waiting h n (offered v) later = refl
+story-step s Waiting h n (followed v) later = refl
 story-step Input Waiting h n taken later = refl
 story-step Output Waiting h n taken later = refl
 story-step s Waiting h n ended later = refl

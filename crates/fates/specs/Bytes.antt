@@ -10,13 +10,13 @@ use Rattle.channel.specs.declared.Side.{Side}
 use Rattle.chip.specs.declared.Levels.{Levels}
 use Rattle.laws.specs.History.{Event}
 use Rattle.fates.specs.Around.{atPowerUp}
-use Rattle.fates.specs.Deeds.{Deed, offered, taken, ended, clearedAway, nothing, deeds}
+use Rattle.fates.specs.Deeds.{Deed, offered, followed, taken, ended, clearedAway, nothing, deeds}
 
 -- What becomes of a byte.
 pub data Fate : Type 0 where
   handedOver overwritten swallowed cleared waiting : Fate
 
--- A byte as it is offered: the place of that event in the history, and the value.
+-- A byte: the place in the history of the event that offers it, and its value.
 pub record Offer : Type 0 where
   pub place : ℕ
   pub value : ℕ
@@ -26,7 +26,7 @@ pub record Outcome : Type 0 where
   pub fate : Fate
   pub place : ℕ
 
--- Both together.
+-- All of it together.
 pub record Byte : Type 0 where
   pub offer : Offer
   pub outcome : Outcome
@@ -39,24 +39,37 @@ offeredAt n v = record { place = n; value = v }
 abbrev pub decidedAt : ℕ → Fate → Outcome
 decidedAt n f = record { fate = f; place = n }
 
--- What becomes of a byte that waits before these deeds, the first of which is at place n: the first that is not `nothing` decides. Where
--- there is none the byte goes on waiting, and the place is the one after the last event.
+-- What becomes of a byte that waits before these deeds, the first of which is at place n: the first that is neither `nothing` nor
+-- `followed` decides. Where there is none the byte goes on waiting, and the place is the one after the last event.
 abbrev pub outcomeOf : ℕ → List Deed → Outcome
 outcomeOf n [] = decidedAt n waiting
 outcomeOf n (offered v ∷ later) = decidedAt n overwritten
+outcomeOf n (followed v ∷ later) = outcomeOf (suc n) later
 outcomeOf n (taken ∷ later) = decidedAt n handedOver
 outcomeOf n (ended ∷ later) = decidedAt n swallowed
 outcomeOf n (clearedAway ∷ later) = decidedAt n cleared
 outcomeOf n (nothing ∷ later) = outcomeOf (suc n) later
 
--- A byte offered before the deeds that begin at place n.
+-- The value that a byte of value v has in the end: the levels that last came while it waited and STB was low, where any did. Levels that
+-- come once its fate is decided are not its own.
+abbrev pub settled : ℕ → List Deed → ℕ
+settled v [] = v
+settled v (offered u ∷ later) = v
+settled v (followed u ∷ later) = settled u later
+settled v (taken ∷ later) = v
+settled v (ended ∷ later) = v
+settled v (clearedAway ∷ later) = v
+settled v (nothing ∷ later) = settled v later
+
+-- A byte that waits before the deeds that begin at place n.
 abbrev pub byteOf : Offer → ℕ → List Deed → Byte
-byteOf o n later = record { offer = o; outcome = outcomeOf n later }
+byteOf o n later = record { offer = offeredAt (o .place) (settled (o .value) later); outcome = outcomeOf n later }
 
 -- The bytes that the deeds from place n on offer, in their order.
 abbrev pub bytes : ℕ → List Deed → List Byte
 bytes n [] = []
 bytes n (offered v ∷ later) = byteOf (offeredAt n v) (suc n) later ∷ bytes (suc n) later
+bytes n (followed v ∷ later) = bytes (suc n) later
 bytes n (taken ∷ later) = bytes (suc n) later
 bytes n (ended ∷ later) = bytes (suc n) later
 bytes n (clearedAway ∷ later) = bytes (suc n) later

@@ -15,11 +15,12 @@ use Rattle.laws.specs.History.{Event}
 use Rattle.fates.specs.Kinds.{Named, reset, cycleEnded, unknown, readBegun, writeBegun, newLevels, named, accepts}
 use Rattle.fates.specs.Around.{Around, ofModeWord, brought, aroundNext}
 
--- What an event can be to a channel. `offered v`: the byte v comes in by STB, or is written. `taken`: a read of the port begins, or ACK
--- falls, whether or not a byte is there to be had. `ended`: that read is over. `clearedAway`: all channels are wiped. `nothing`: the
--- event is for others.
+-- What an event can be to a channel. `offered v`: the byte v comes in by STB, or is written. `followed v`: the levels v come onto the lines
+-- of an input whose STB is low, whether or not a byte waits there to take that value. `taken`: a read of the port begins, or ACK falls,
+-- whether or not a byte is there to be had. `ended`: that read is over. `clearedAway`: all channels are wiped. `nothing`: the event is for
+-- others.
 pub data Deed : Type 0 where
-  offered : ℕ → Deed
+  offered followed : ℕ → Deed
   taken ended clearedAway nothing : Deed
 
 -- A channel's port, on the bus and among the ports.
@@ -76,6 +77,10 @@ writeRuns g (Writing x d) = eqb x (portNumber g)
 abbrev pub falls : Group → Side → Around → ℕ → ℕ → Bool
 falls g s a x d = eqb x 2 && (bitOf (a .levelsC) (strobePin g s) && not (bitOf d (strobePin g s)))
 
+-- Levels on port x come onto the port's own lines while its STB is low.
+abbrev pub underLow : Group → Around → ℕ → Bool
+underLow g a x = eqb x (portNumber g) && not (bitOf (a .levelsC) (strobePin g Input))
+
 -- A deed under a condition.
 abbrev pub when : Bool → Deed → Deed
 when holds d = cond holds d nothing
@@ -89,7 +94,7 @@ ownDeed g Output a (readBegun x) = nothing
 ownDeed g Input a cycleEnded = when (readRuns g (a .phase)) ended
 ownDeed g Output a cycleEnded = when (writeRuns g (a .phase)) (offered (brought (a .phase)))
 ownDeed g s a (writeBegun x d) = nothing
-ownDeed g Input a (newLevels x d) = when (falls g Input a x d) (offered (levelsOn g a))
+ownDeed g Input a (newLevels x d) = cond (falls g Input a x d) (offered (levelsOn g a)) (when (underLow g a x) (followed d))
 ownDeed g Output a (newLevels x d) = when (falls g Output a x d) taken
 ownDeed g s a unknown = nothing
 

@@ -11,7 +11,7 @@ use Rattle.chip.specs.State.{channelOf}
 use Rattle.laws.specs.Seen.{pin, flagPin}
 use Rattle.laws.specs.History.{Event, stepped}
 use Rattle.fates.specs.Around.{Around, aroundNext}
-use Rattle.fates.specs.Deeds.{Deed, offered, taken, ended, clearedAway, nothing, strobes, readRuns, deed}
+use Rattle.fates.specs.Deeds.{Deed, offered, followed, taken, ended, clearedAway, nothing, strobes, readRuns, deed}
 use Rattle.fates.specs.Promise.{aroundOf}
 use Rattle.fates.specs.Bytes.{Byte, overwritten, swallowed, count}
 
@@ -31,6 +31,7 @@ HasFound g c = strobedReadRuns g (aroundOf c) ≡ true → channelOf (c .core) g
 -- `nothing` to the channel, and so is free.
 abbrev pub Minds : Bool → Deed → Type 0
 Minds level (offered v) = level ≡ false
+Minds level (followed v) = Unit {0}
 Minds level taken = level ≡ true
 Minds level ended = Unit {0}
 Minds level clearedAway = Unit {0}

@@ -1,34 +1,72 @@
--- Only the fall of a channel's line acts on the channel: in every state, new levels that make none leave it alone ("Handshake").
--- Rests on levels' After and the step's Outcome.
-use mathlib.Core.Path.{_≡_, _∙_, refl}
-use mathlib.Core.Bool.{Bool, true, false, _&&_, and-false}
+-- Only the fall of a channel's line offers a byte or takes one: in every state, new levels that make none leave the channel's condition and
+-- its tallies, and those of an output its latch too ("Handshake").
+-- Rests on the channel's Left, levels' After and the step's Outcome.
+use mathlib.Core.Path.{_≡_, _∙_, refl, ap}
+use mathlib.Core.Bool.{Bool, true, false, cond, _&&_, and-false}
 use Prim.Native.Nat.{ℕ}
 use lib.Dec.{eqb}
 use Rattle.control.specs.declared.Group.{Group}
 use Rattle.channel.specs.declared.Side.{Side}
 use Rattle.channel.specs.declared.Side.the-variants.{Input, Output}
+use Rattle.channel.specs.declared.Fill.the-variants.{Empty}
+use Rattle.channel.specs.declared.Channel.{Channel}
+use Rattle.channel.specs.Moves.{afterFollow, afterHandOver}
+use Rattle.channel.proofs.Left.{follow-stays, follow-counts, hand-over-keeps}
 use Rattle.chip.specs.declared.Core.{Core}
 use Rattle.chip.specs.declared.Chip.{Chip}
 use Rattle.chip.specs.State.{channelOf}
-use Rattle.chip.specs.Handshakes.{strobed, lineOf}
-use Rattle.levels.specs.Levels.{fallen, levelled}
+use Rattle.chip.specs.Handshakes.{strobed, lineOf, ownAddress}
+use Rattle.levels.specs.Levels.{fallen, lineFalls, letsThrough, levelled}
 use Rattle.levels.proofs.After.{levelled-input, levelled-output}
 use Rattle.step.specs.Step.{stepOf}
 use Rattle.step.proofs.Outcome.{step-either}
+
+-- Condition and tallies as they were. The latch may change: levels go through to an input's, and a mode 0 write changes an output's.
+pub record Kept (before after : Channel) : Type 0 where
+  pub fill : after .fill ≡ before .fill
+  pub tally : after .tally ≡ before .tally
+
+-- A channel that is the same is kept.
+pub kept : {before after : Channel} → after ≡ before → Kept before after
+kept same = record { fill = ap (λ ch. ch .fill) same; tally = ap (λ ch. ch .tally) same }
+
+-- So is one whose latch follows.
+pub levelled-kept : (c : Core) (g : Group) (s : Side) (x d : ℕ) → (eqb x 2 && lineFalls c d g s) ≡ false
+    → Kept (channelOf c g s) (channelOf (levelled c x d) g s)
+levelled-kept c g Input x d still = rw (levelled-input c x d g, still) (go (ownAddress x g && letsThrough c g))
+  where
+    channel : Channel
+    channel = channelOf c g Input
+
+    go : (through : Bool) → Kept channel (cond through (afterFollow channel d) channel)
+    go true = record { fill = follow-stays channel d; tally = follow-counts channel d }
+    go false = kept refl
+levelled-kept c g Output x d still = kept (levelled-output c x d g ∙ rw (still))
 
 -- Where there is no fall there is none that a handshake would see.
 unless : (lines on fell : Bool) → (lines && fell) ≡ false → (lines && (on && fell)) ≡ false
 unless true on fell still = rw (still) (and-false on)
 unless false on fell still = refl
 
-levelled-still : (c : Core) (g : Group) (s : Side) (x d : ℕ) → (eqb x 2 && fallen (c .c .outside) d (lineOf g s)) ≡ false
-    → channelOf (levelled c x d) g s ≡ channelOf c g s
-levelled-still c g Input x d still =
-    levelled-input c x d g ∙ rw (unless (eqb x 2) (strobed (c .word) g Input) (fallen (c .c .outside) d (lineOf g Input)) still)
-levelled-still c g Output x d still =
-    levelled-output c x d g ∙ rw (unless (eqb x 2) (strobed (c .word) g Output) (fallen (c .c .outside) d (lineOf g Output)) still)
-
 pub only-a-fall : (c : Chip) (g : Group) (s : Side) (x d : ℕ) → (eqb x 2 && fallen (c .core .c .outside) d (lineOf g s)) ≡ false
-    → channelOf (stepOf c 5 x d .chip .core) g s ≡ channelOf (c .core) g s
+    → Kept (channelOf (c .core) g s) (channelOf (stepOf c 5 x d .chip .core) g s)
 only-a-fall c g s x d still =
-    step-either (λ c′. channelOf (c′ .core) g s ≡ channelOf (c .core) g s) c 5 x d refl (λ ok. levelled-still (c .core) g s x d still)
+    step-either (λ c′. Kept (channelOf (c .core) g s) (channelOf (c′ .core) g s)) c 5 x d (kept refl)
+    (λ ok. levelled-kept (c .core) g s x d (unless (eqb x 2) (strobed (c .core .word) g s) (fallen (c .core .c .outside) d (lineOf g s)) still))
+
+-- No levels touch an output's latch, nor does the fall of ACK.
+given-latch : (c : Core) (g : Group) (x d : ℕ) → channelOf (levelled c x d) g Output .latch ≡ channelOf c g Output .latch
+given-latch c g x d = rw (levelled-output c x d g) (go (eqb x 2 && lineFalls c d g Output))
+  where
+    channel : Channel
+    channel = channelOf c g Output
+
+    go : (falls : Bool) → cond falls (afterHandOver channel Empty) channel .latch ≡ channel .latch
+    go true = hand-over-keeps channel Empty
+    go false = refl
+
+pub output-latch-stays : (c : Chip) (g : Group) (x d : ℕ)
+    → channelOf (stepOf c 5 x d .chip .core) g Output .latch ≡ channelOf (c .core) g Output .latch
+output-latch-stays c g x d =
+    step-either (λ c′. channelOf (c′ .core) g Output .latch ≡ channelOf (c .core) g Output .latch) c 5 x d refl
+    (λ ok. given-latch (c .core) g x d)

@@ -2,7 +2,7 @@
 -- Rests on FlagAfter, Refusals, ChannelPins, the channel's Left, reads' After, levels' After, and the step's ByKind, Ends and
 -- Outcome.
 use mathlib.Core.Path.{_≡_, _∙_, refl, sym}
-use mathlib.Core.Bool.{true, false, _&&_}
+use mathlib.Core.Bool.{Bool, true, false, _&&_}
 use Prim.Native.Nat.{ℕ}
 use lib.Dec.{eqb}
 use Rattle.bits.specs.Bit.{bitOf}
@@ -13,8 +13,8 @@ use Rattle.channel.specs.declared.Fill.{Fill}
 use Rattle.channel.specs.declared.Fill.the-variants.{Empty, Waiting, Fetching}
 use Rattle.channel.specs.declared.Channel.{Channel}
 use Rattle.channel.specs.Channel.{flagOf}
-use Rattle.channel.specs.Moves.{afterOffer, afterHandOver}
-use Rattle.channel.proofs.Left.{leaves, offer-waits, hand-over-leaves, end-read-empties}
+use Rattle.channel.specs.Moves.{afterOffer, afterFollow, afterHandOver}
+use Rattle.channel.proofs.Left.{leaves, offer-waits, follow-stays, hand-over-leaves, end-read-empties}
 use Rattle.chip.specs.declared.Phase.{Phase}
 use Rattle.chip.specs.declared.Phase.the-variants.{Idle, Reading, Writing}
 use Rattle.chip.specs.declared.Core.{Core}
@@ -24,7 +24,7 @@ use Rattle.chip.specs.Handshakes.{strobed, lineOf, ownAddress, reading}
 use Rattle.status.specs.Status.{flagAt}
 use Rattle.reads.specs.Read.{begunRead, endedRead}
 use Rattle.reads.proofs.After.{begun-input, begun-around, ended-input, ended-around}
-use Rattle.levels.specs.Levels.{lineFalls, levelled}
+use Rattle.levels.specs.Levels.{lineFalls, letsThrough, levelled}
 use Rattle.levels.proofs.After.{levelled-input, levelled-word}
 use Rattle.step.specs.Numbers.{isBusy}
 use Rattle.step.specs.Step.{stepOf}
@@ -52,15 +52,17 @@ begun-keeps c x g set =
     go Waiting e = refl
     go Fetching e = refl
 
--- So do outside levels, whether or not they strobe.
+-- So do outside levels, whether they strobe, go through to the latch, or neither.
 levels-keep : (c : Core) (x d : ℕ) (g : Group) → flagAt c g Input ≡ true → flagAt (levelled c x d) g Input ≡ true
 unfolding flagOf
 levels-keep c x d g set =
     let channel = channelOf c g Input in
     let levels = portOf c g .outside in
+    let level : Channel → Bool = λ ch. flagOf Input (ch .fill) in
     rw (levelled-input c x d g)
-    (either-way (λ ch. flagOf Input (ch .fill)) true (eqb x 2 && lineFalls c d g Input) (afterOffer channel levels) channel
-    (rw (offer-waits channel levels)) set)
+    (either-way level true (eqb x 2 && lineFalls c d g Input) (afterOffer channel levels) _
+    (rw (offer-waits channel levels))
+    (either-way level true (ownAddress x g && letsThrough c g) (afterFollow channel d) channel (rw (follow-stays channel d) (set)) set))
 
 strobe-sets : (c : Core) (d : ℕ) (g : Group) → lineFalls c d g Input ≡ true → flagAt (levelled c 2 d) g Input ≡ true
 unfolding flagOf

@@ -11,6 +11,7 @@ pub mod ModeWords
 pub mod Falls
 pub mod PowerUp
 pub mod OwnPort
+pub mod InputLatch
 pub mod ModeZero
 pub mod ModeTwo
 pub mod OnePin

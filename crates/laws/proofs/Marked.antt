@@ -8,13 +8,13 @@ use Rattle.control.specs.Mode.{modeOf, inputOf, upperInput, lowerInput, strobed
 use Rattle.control.specs.Word.{controlOf}
 use Rattle.roles.specs.Role.{usesOf, freeRole, roleOf}
 use Rattle.channel.specs.Channel.{flagOf}
-use Rattle.channel.specs.Moves.{afterOffer, afterHandOver, afterEndRead, afterClear}
+use Rattle.channel.specs.Moves.{afterOffer, afterFollow, afterHandOver, afterEndRead, afterClear}
 use Rattle.status.specs.Status.{requestOf, intrOf}
 use Rattle.settings.specs.Renewed.{clearedPort, renewed}
 use Rattle.settings.specs.Commanded.{pinSet, commanded}
 use Rattle.reads.specs.Read.{begunRead, endedRead}
 use Rattle.writes.specs.Write.{storedBy, latchWritten, written}
-use Rattle.levels.specs.Levels.{fallen, edged, levelledLines, levelled}
+use Rattle.levels.specs.Levels.{fallen, edged, levelledLines, levelledPort, levelled}
 use Rattle.ports.specs.Reads.{readPort, readLines, readOf}
 use Rattle.ports.specs.Pins.{drivesPort, pinsOfPort, pinsOfLines, pinsOf}
 use Rattle.step.specs.Numbers.{numberOf}
@@ -31,5 +31,5 @@ stated [] = []
 stated (c ∷ cs) = c .results ∷ stated cs
 
 pub marked : modelled cases ≡ stated cases
-unfolding bitOf valueOf withBit modeOf inputOf upperInput lowerInput strobedInput strobedOutput outputOf controlOf usesOf freeRole roleOf flagOf afterOffer afterHandOver afterEndRead afterClear requestOf intrOf clearedPort renewed pinSet commanded begunRead endedRead storedBy latchWritten written fallen edged levelledLines levelled readPort readLines readOf drivesPort pinsOfPort pinsOfLines pinsOf numberOf stepOf
+unfolding bitOf valueOf withBit modeOf inputOf upperInput lowerInput strobedInput strobedOutput outputOf controlOf usesOf freeRole roleOf flagOf afterOffer afterFollow afterHandOver afterEndRead afterClear requestOf intrOf clearedPort renewed pinSet commanded begunRead endedRead storedBy latchWritten written fallen edged levelledLines levelledPort levelled readPort readLines readOf drivesPort pinsOfPort pinsOfLines pinsOf numberOf stepOf
 marked = refl

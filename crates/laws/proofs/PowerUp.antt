@@ -16,7 +16,7 @@ use Rattle.chip.specs.declared.Chip.{Chip}
 use Rattle.chip.specs.declared.Levels.{Levels}
 use Rattle.chip.specs.State.{noTally, noByte, powerUpWith, channelOf}
 use Rattle.chip.specs.Handshakes.{strobed, lineOf}
-use Rattle.levels.specs.Levels.{edged, levelledLines, levelled}
+use Rattle.levels.specs.Levels.{edged, levelledLines, levelledPort, levelled}
 use Rattle.ports.specs.Pins.{levelAs, drivesPort, pinsOfPort, pinsOfLines, pinsOf}
 use Rattle.step.specs.Numbers.{numberOf}
 use Rattle.step.specs.Step.{accepted, stepOf}
@@ -45,7 +45,7 @@ power-up-shows l = record {
 -- To name levels is to put them on the ports right after a power-up under any others: in mode 0 none of them is an edge.
 pub named-is-put : (k l : Levels)
     → after (accepted (powerUpWith k) 0) (levels 0 (l .a) ++ levels 1 (l .b) ++ levels 2 (l .c)) .chip ≡ powerUpWith l
-unfolding stepOf numberOf levelled levelledLines edged strobedInput strobedOutput modeOf inputOf bitOf
+unfolding stepOf numberOf levelled levelledLines levelledPort edged strobedInput strobedOutput modeOf inputOf bitOf
 named-is-put k l = refl
 
 -- A mode word finds the lines as they were named, and takes no level for a fall: no channel has had a byte.

@@ -1,6 +1,6 @@
 -- A channel that the mode word does not strobe takes no part in edges and cycles: it keeps its condition and its tallies through
 -- every event but a reset and a mode word ("Events and numbers").
--- Rests on Refusals, chip's Surrounded, reads' and writes' After, levels' After, and the step's ByKind, Ends and Outcome.
+-- Rests on Refusals, Falls, chip's Surrounded, reads' and writes' After, and the step's ByKind, Ends and Outcome.
 use mathlib.Core.Path.{_≡_, _∙_, refl, ap, sym, subst}
 use mathlib.Core.Bool.{Bool, true, false, cond, and-false}
 use Prim.Native.Nat.{ℕ}
@@ -21,22 +21,13 @@ use Rattle.writes.specs.Write.{storedIn, written}
 use Rattle.reads.proofs.After.{begun-input, begun-output, ended-input, ended-output}
 use Rattle.writes.proofs.After.{Stored, by-address}
 use Rattle.levels.specs.Levels.{levelled}
-use Rattle.levels.proofs.After.{levelled-input, levelled-output}
 use Rattle.step.specs.Step.{stepOf}
 use Rattle.step.proofs.ByKind.{by-kind}
 use Rattle.step.proofs.Ends.{by-phase}
 use Rattle.step.proofs.Outcome.{step-either}
 use Rattle.laws.specs.Seen.{makesAnew}
 use Rattle.laws.proofs.Refusals.{no-kind-refused}
-
--- Condition and tallies as they were; the latch may change, as a mode 0 write changes it.
-pub record Kept (before after : Channel) : Type 0 where
-  pub fill : after .fill ≡ before .fill
-  pub tally : after .tally ≡ before .tally
-
--- A channel that is the same is kept.
-kept : {before after : Channel} → after ≡ before → Kept before after
-kept same = record { fill = ap (λ ch. ch .fill) same; tally = ap (λ ch. ch .tally) same }
+use Rattle.laws.proofs.Falls.{Kept, kept, levelled-kept}
 
 module _ (c : Core) (g : Group) where
   kept-begun : (s : Side) → strobed (c .word) g s ≡ false → (x : ℕ) → Kept (channelOf c g s) (channelOf (begunRead c x) g s)
@@ -48,8 +39,7 @@ module _ (c : Core) (g : Group) where
   kept-ended Output off x = kept (ended-output c x g)
 
   kept-levelled : (s : Side) → strobed (c .word) g s ≡ false → (x d : ℕ) → Kept (channelOf c g s) (channelOf (levelled c x d) g s)
-  kept-levelled Input off x d = kept (levelled-input c x d g ∙ rw (off, and-false (eqb x 2)))
-  kept-levelled Output off x d = kept (levelled-output c x d g ∙ rw (off, and-false (eqb x 2)))
+  kept-levelled s off x d = levelled-kept c g s x d (rw (off) (and-false (eqb x 2)))
 
   kept-stored : (s : Side) → strobed (c .word) g s ≡ false → (x d : ℕ) (c′ : Core) → Stored c′ c x d → Kept (channelOf c g s) (channelOf c′ g s)
   kept-stored Input off x d c′ k = kept (k .input g)

@@ -6,74 +6,78 @@ use Prim.Native.Nat.{ℕ}
 use lib.Dec.{eqb}
 use Rattle.control.specs.declared.Group.{Group}
 use Rattle.control.specs.declared.Group.the-variants.{A, B}
-use Rattle.channel.specs.declared.Side.{Side}
 use Rattle.channel.specs.declared.Side.the-variants.{Input, Output}
 use Rattle.channel.specs.declared.Fill.the-variants.{Empty}
-use Rattle.channel.specs.Moves.{afterOffer, afterHandOver}
+use Rattle.channel.specs.Moves.{afterOffer, afterFollow, afterHandOver}
 use Rattle.chip.specs.declared.Port.{Port}
 use Rattle.chip.specs.declared.Core.{Core}
-use Rattle.chip.specs.State.{sideOf, portOf, channelOf, onPort}
+use Rattle.chip.specs.State.{portOf, channelOf, onPort}
 use Rattle.chip.specs.Handshakes.{ownAddress}
 use Rattle.chip.proofs.OnPort.{lines-not-own, port-on, word-on, lines-on}
-use Rattle.levels.specs.Levels.{edged, lineFalls, edgesOn, levelledLines, levelled}
-
-abbrev under : ℕ → Group → Port → Port
-under d g p = record { input = p .input; output = p .output; outside = d }
+use Rattle.levels.specs.Levels.{edged, lineFalls, edgesOn, letsThrough, levelledPort, levelledLines, levelled}
 
 edges-of : (c : Core) (d : ℕ) (g : Group) → portOf (levelledLines c d) g ≡ edgesOn c d g
 unfolding levelledLines
 edges-of c d A = refl
 edges-of c d B = refl
 
--- What is so of the lines of port C, and of any other port.
-by-port : (P : Core → Bool → Type 0) (c : Core) (x d : ℕ) → P (levelledLines c d) true → P (onPort c x (under d)) false → P (levelled c x d) (eqb x 2)
-unfolding levelled
-by-port P c x d lines port = go (eqb x 2)
-  where
-    go : (b : Bool) → P (cond b (levelledLines c d) (onPort c x (under d))) b
-    go true = lines
-    go false = port
-
 module _ (c : Core) (x d : ℕ) where
-  port-channel : (g : Group) (s : Side) → channelOf (onPort c x (under d)) g s ≡ channelOf c g s
-  port-channel g s = rw (port-on c x (under d) g) (go s (ownAddress x g))
+  -- A port under levels on its own lines.
+  abbrev under : Group → Port → Port
+  under g p = levelledPort p (letsThrough c g) d
+
+  -- What is so of a port where the levels are on the lines of port C, where they are on its own, and where they are on neither.
+  by-port : (g : Group) (P : Port → Bool → Bool → Type 0)
+      → P (edgesOn c d g) true false → P (under g (portOf c g)) false true → P (portOf c g) false false
+      → P (portOf (levelled c x d) g) (eqb x 2) (ownAddress x g)
+  unfolding levelled
+  by-port g P lines own other = go (eqb x 2) (lines-not-own x)
     where
-      go : (s : Side) (own : Bool) → sideOf (cond own (under d g (portOf c g)) (portOf c g)) s ≡ sideOf (portOf c g) s
-      go Input true = refl
-      go Output true = refl
-      go s false = refl
+      outside-c : (mine : Bool) → P (cond mine (under g (portOf c g)) (portOf c g)) false mine
+      outside-c true = own
+      outside-c false = other
+
+      go : (two : Bool) → (two ≡ true → (g : Group) → ownAddress x g ≡ false)
+          → P (portOf (cond two (levelledLines c d) (onPort c x under)) g) two (ownAddress x g)
+      go true not-own = rw (edges-of c d g, not-own refl g) (lines)
+      go false not-own = rw (port-on c x under g) (outside-c (ownAddress x g))
 
   pub levelled-input : (g : Group)
-      → channelOf (levelled c x d) g Input ≡ cond (eqb x 2 && lineFalls c d g Input) (afterOffer (channelOf c g Input) (portOf c g .outside)) (channelOf c g Input)
-  unfolding edged
+      → channelOf (levelled c x d) g Input
+      ≡ cond (eqb x 2 && lineFalls c d g Input) (afterOffer (channelOf c g Input) (portOf c g .outside))
+      (cond (ownAddress x g && letsThrough c g) (afterFollow (channelOf c g Input) d) (channelOf c g Input))
+  unfolding edged levelledPort
   levelled-input g =
-      by-port (λ c′ two. channelOf c′ g Input ≡ cond (two && lineFalls c d g Input) (afterOffer (channelOf c g Input) (portOf c g .outside)) (channelOf c g Input)) c x d
-      (rw (edges-of c d g)) (port-channel g Input)
+      by-port g
+      (λ p lines own. p .input
+      ≡ cond (lines && lineFalls c d g Input) (afterOffer (channelOf c g Input) (portOf c g .outside))
+      (cond (own && letsThrough c g) (afterFollow (channelOf c g Input) d) (channelOf c g Input)))
+      refl refl refl
 
   pub levelled-output : (g : Group)
       → channelOf (levelled c x d) g Output ≡ cond (eqb x 2 && lineFalls c d g Output) (afterHandOver (channelOf c g Output) Empty) (channelOf c g Output)
-  unfolding edged
+  unfolding edged levelledPort
   levelled-output g =
-      by-port (λ c′ two. channelOf c′ g Output ≡ cond (two && lineFalls c d g Output) (afterHandOver (channelOf c g Output) Empty) (channelOf c g Output)) c x d
-      (rw (edges-of c d g)) (port-channel g Output)
-
-  pub levelled-word : levelled c x d .word ≡ c .word
-  unfolding levelledLines
-  levelled-word = by-port (λ c′ two. c′ .word ≡ c .word) c x d refl (word-on c x (under d))
-
-  pub levelled-lines : levelled c x d .c .outside ≡ cond (eqb x 2) d (c .c .outside)
-  unfolding levelledLines
-  levelled-lines = by-port (λ c′ two. c′ .c .outside ≡ cond two d (c .c .outside)) c x d refl (rw (lines-on c x (under d)))
+      by-port g
+      (λ p lines own. p .output ≡ cond (lines && lineFalls c d g Output) (afterHandOver (channelOf c g Output) Empty) (channelOf c g Output))
+      refl refl refl
 
   pub levelled-ports : (g : Group) → portOf (levelled c x d) g .outside ≡ cond (ownAddress x g) d (portOf c g .outside)
-  unfolding levelled edged
-  levelled-ports g = go (eqb x 2) refl
-    where
-      own : (b : Bool) → cond b (under d g (portOf c g)) (portOf c g) .outside ≡ cond b d (portOf c g .outside)
-      own true = refl
-      own false = refl
+  unfolding edged levelledPort
+  levelled-ports g = by-port g (λ p lines own. p .outside ≡ cond own d (portOf c g .outside)) refl refl refl
 
-      go : (lines : Bool) → eqb x 2 ≡ lines
-          → portOf (cond lines (levelledLines c d) (onPort c x (under d))) g .outside ≡ cond (ownAddress x g) d (portOf c g .outside)
-      go true e = rw (edges-of c d g, lines-not-own x e g)
-      go false e = rw (port-on c x (under d) g) (own (ownAddress x g))
+  pub levelled-word : levelled c x d .word ≡ c .word
+  unfolding levelled levelledLines
+  levelled-word = go (eqb x 2)
+    where
+      go : (two : Bool) → cond two (levelledLines c d) (onPort c x under) .word ≡ c .word
+      go true = refl
+      go false = word-on c x under
+
+  pub levelled-lines : levelled c x d .c .outside ≡ cond (eqb x 2) d (c .c .outside)
+  unfolding levelled levelledLines
+  levelled-lines = go (eqb x 2)
+    where
+      go : (two : Bool) → cond two (levelledLines c d) (onPort c x under) .c .outside ≡ cond two d (c .c .outside)
+      go true = refl
+      go false = rw (lines-on c x under)

@@ -1,4 +1,4 @@
--- Outside levels, and what their falling edges do ("Handshake").
+-- Outside levels: what their falling edges do, and what goes through to a latch while STB is low ("Handshake").
 use mathlib.Core.Bool.{Bool, cond, not, _&&_}
 use Prim.Native.Nat.{ℕ}
 use lib.Dec.{eqb}
@@ -9,7 +9,7 @@ use Rattle.channel.specs.declared.Side.{Side}
 use Rattle.channel.specs.declared.Side.the-variants.{Input, Output}
 use Rattle.channel.specs.declared.Fill.the-variants.{Empty}
 use Rattle.channel.specs.declared.Channel.{Channel}
-use Rattle.channel.specs.Moves.{afterOffer, afterHandOver}
+use Rattle.channel.specs.Moves.{afterOffer, afterFollow, afterHandOver}
 use Rattle.chip.specs.declared.Port.{Port}
 use Rattle.chip.specs.declared.Core.{Core}
 use Rattle.chip.specs.State.{portOf, onPort}
@@ -53,8 +53,14 @@ levelledLines c d = record {
   inte = c .inte;
 }
 
+-- A group's input lets levels through to its latch: the mode word strobes it, and its STB is low.
+abbrev pub letsThrough : Core → Group → Bool
+letsThrough c g = strobed (c .word) g Input && not (bitOf (c .c .outside) (lineOf g Input))
+
+-- New levels on a port's own eight lines, which may go through to its input latch; they do so also where they are those already there.
+unfoldable pub levelledPort : Port → Bool → ℕ → Port
+levelledPort p through d = record { input = cond through (afterFollow (p .input) d) (p .input); output = p .output; outside = d }
+
 -- New levels on a port; on port C they may be edges.
 unfoldable pub levelled : Core → ℕ → ℕ → Core
-levelled c x d =
-    cond (eqb x 2) (levelledLines c d)
-    (onPort c x (λ g p. record { input = p .input; output = p .output; outside = d }))
+levelled c x d = cond (eqb x 2) (levelledLines c d) (onPort c x (λ g p. levelledPort p (letsThrough c g) d))

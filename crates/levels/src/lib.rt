@@ -1,6 +1,7 @@
-// Levels put on the pins from outside: a fall of STB offers a byte, and a fall of ACK hands one over.
+// Levels put on the pins from outside: a fall of STB offers a byte, and a fall of ACK hands one over. While STB is low, levels on the
+// port itself go through to its input latch.
 ghost use mathlib.Core.Path.{_≡_};
-ghost use Rattle.levels.specs.Levels.{fallen, strobedWith, acknowledged, edged, levelledLines, levelled};
+ghost use Rattle.levels.specs.Levels.{fallen, strobedWith, acknowledged, edged, levelledLines, levelledPort, levelled};
 use channel::Channel;
 use channel::Fill;
 use chip::Core;
@@ -62,17 +63,31 @@ fn lines(mut core: Core, levels: u8) -> Core
     core
 }
 
-// The outside levels of port 0, 1 or 2 become these. There is no other port, and nothing happens.
+// The port after new levels on its own lines, whether or not they go through to its input latch.
+fn put(mut port: Port, through: bool, levels: u8) -> Port
+    ensures { λ r. ⌜ r ≡ levelledPort port through levels ⌝ }
+{
+    port.input = channel::follow(port.input, through, levels);
+    port.outside = levels;
+    port
+}
+
+// The outside levels of port 0, 1 or 2 become these. There is no other port, and nothing happens. A strobed input
+// lets them through to its latch while its STB, which is pin 4 for A and pin 2 for B, is low.
 pub fn set(mut core: Core, port: u8, levels: u8) -> Core
     ensures { λ r. ⌜ r ≡ levelled core port levels ⌝ }
 {
+    let word = core.word;
+    let lines_high = core.c.outside;
     match port {
         0 => {
-            core.a.outside = levels;
+            let through = control::mode::strobed_input(word, Group::A) & !bits::bit(lines_high, 4);
+            core.a = put(core.a, through, levels);
             core
         }
         1 => {
-            core.b.outside = levels;
+            let through = control::mode::strobed_input(word, Group::B) & !bits::bit(lines_high, 2);
+            core.b = put(core.b, through, levels);
             core
         }
         2 => lines(core, levels),

@@ -20,7 +20,7 @@ use Rattle.laws.specs.History.{Event}
 use Rattle.fates.specs.Kinds.{Named, reset, cycleEnded, unknown, readBegun, writeBegun, newLevels, free, accepts}
 use Rattle.fates.specs.Kinds.{named as byName}
 use Rattle.fates.specs.Around.{Around, ofModeWord, brought, phaseAfter, wordAfter, aroundAfter, aroundNext}
-use Rattle.fates.specs.Deeds.{Deed, offered, taken, ended, clearedAway, nothing, strobes, when, ownDeed, clears, deedOf}
+use Rattle.fates.specs.Deeds.{Deed, offered, followed, taken, ended, clearedAway, nothing, strobes, when, ownDeed, clears, deedOf}
 use Rattle.fates.specs.Promise.{run, aroundOf}
 use Rattle.fates.proofs.Story.{fillAfter}
 use Rattle.fates.proofs.Tables.{strobes-same}
@@ -62,6 +62,7 @@ bit-7-stays ph w unknown was = was
 -- No deed leaves a strobed output fetching.
 deed-keeps : (s : Side) (f : Fill) (d : Deed) → kept true s f ≡ true → kept true s (fillAfter s f d) ≡ true
 deed-keeps s f (offered v) was = refl
+deed-keeps s f (followed v) was = was
 deed-keeps s Empty taken was = refl
 deed-keeps Input Waiting taken was = refl
 deed-keeps Output Waiting taken was = refl

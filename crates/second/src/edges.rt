@@ -1,4 +1,4 @@
-// New outside levels, and the falls of STB and ACK among them.
+// New outside levels, the falls of STB and ACK among them, and the input latches that follow them while STB is low.
 
 use super::Machine;
 use super::channels;
@@ -10,8 +10,14 @@ use super::words;
 pub(super) fn moved(mut machine: Machine, port: u8, level: u8) -> Machine {
     let fell = machine.outside_c & !level;
     match port {
-        0 => machine.outside_a = level,
-        1 => machine.outside_b = level,
+        0 => {
+            machine.outside_a = level;
+            machine = follow(machine, channels::A_IN, level, 4);
+        }
+        1 => {
+            machine.outside_b = level;
+            machine = follow(machine, channels::B_IN, level, 2);
+        }
         _ => {
             machine.outside_c = level;
             machine = edge(machine, channels::A_IN, fell, 4);
@@ -19,6 +25,15 @@ pub(super) fn moved(mut machine: Machine, port: u8, level: u8) -> Machine {
             machine = edge(machine, channels::B_IN, fell, 2);
             machine = edge(machine, channels::B_OUT, fell, 2);
         }
+    }
+    machine
+}
+
+// While its STB is low the latch of a strobed input takes what its port is given, whatever the channel's mark. That is no new byte, so
+// only the latch moves. Levels equal to the last are taken too: a mode word may have cleared the latch under a low STB.
+fn follow(mut machine: Machine, channel: usize, level: u8, pin: usize) -> Machine {
+    if words::strobed(machine.word, channel) & !digits::bit(machine.outside_c, pin) {
+        machine.latch[channel % 4] = level;
     }
     machine
 }

@@ -5,7 +5,7 @@ mod bus; // reset, the beginnings of reads and writes, and the end of either
 mod channels; // the four handshake channels by number
 mod commands; // mode words and bit set/reset
 mod digits; // single bits of a byte
-mod edges; // new outside levels, and the falls among them
+mod edges; // new outside levels, the falls among them, and the latches that follow them
 mod handshake; // what happens to an offered byte, and the tallies
 mod numbers; // which events are refused, and by which number
 mod pins; // levels, driven pins and read values
