@@ -74,6 +74,7 @@ static const struct {
     { "end write of a mode word", STEP, A_BYTE_WAITS "0303B4", "02", 0 },
     { "end write of a bit set/reset", STEP, SCALE_AND_PRINTER "030308", "02", 0 },
     { "levels on A", STEP, SCALE_AND_PRINTER, "050041", 0 },
+    { "levels on A, STB low", STEP, SCALE_AND_PRINTER "0502EF", "050041", 0 },
     { "levels on C, STB falls", STEP, SCALE_AND_PRINTER, "0502EF", 0 },
     { "levels on C, ACK falls", STEP, SCALE_AND_PRINTER "030154 02", "0502FB", 0 },
     { "levels on C, three edges", STEP, BYTES_WAIT_IN_MODE_2, "0502AB", 0 },

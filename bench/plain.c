@@ -258,6 +258,13 @@ static void offer(struct chip *chip, int channel, unsigned char data)
     chip->latches[channel] = data;
 }
 
+/* While its STB is low, a strobed input's latch takes what comes onto the lines; no byte is offered by that. */
+static void follow(struct chip *chip, int in, unsigned char line, unsigned char levels)
+{
+    if (strobed(chip->word, in) && !(chip->outside[PORT_C] & line))
+        chip->latches[in] = levels;
+}
+
 static void hand_over(struct chip *chip, int channel, unsigned char afterwards)
 {
     if (chip->conditions[channel] == WAITING) {
@@ -407,20 +414,26 @@ static unsigned int end_cycle(struct chip *chip)
     return ACCEPTED;
 }
 
+static void falls(struct chip *chip, unsigned char fell)
+{
+    unsigned char word = chip->word;
+    if ((fell & STB_A) && strobed(word, A_IN))
+        offer(chip, A_IN, chip->outside[PORT_A]);
+    if ((fell & ACK_A) && strobed(word, A_OUT))
+        hand_over(chip, A_OUT, EMPTY);
+    if ((fell & STB_ACK_B) && strobed(word, B_IN))
+        offer(chip, B_IN, chip->outside[PORT_B]);
+    if ((fell & STB_ACK_B) && strobed(word, B_OUT))
+        hand_over(chip, B_OUT, EMPTY);
+}
+
 static unsigned int outside_levels(struct chip *chip, unsigned char port, unsigned char levels)
 {
-    if (port > PORT_C)
-        return OUT_OF_RANGE;
-    if (port == PORT_C) {
-        unsigned char word = chip->word, fell = chip->outside[PORT_C] & ~levels;
-        if ((fell & STB_A) && strobed(word, A_IN))
-            offer(chip, A_IN, chip->outside[PORT_A]);
-        if ((fell & ACK_A) && strobed(word, A_OUT))
-            hand_over(chip, A_OUT, EMPTY);
-        if ((fell & STB_ACK_B) && strobed(word, B_IN))
-            offer(chip, B_IN, chip->outside[PORT_B]);
-        if ((fell & STB_ACK_B) && strobed(word, B_OUT))
-            hand_over(chip, B_OUT, EMPTY);
+    switch (port) {
+    case PORT_A: follow(chip, A_IN, STB_A, levels); break;
+    case PORT_B: follow(chip, B_IN, STB_ACK_B, levels); break;
+    case PORT_C: falls(chip, chip->outside[PORT_C] & ~levels); break;
+    default: return OUT_OF_RANGE;
     }
     chip->outside[port] = levels;
     return ACCEPTED;

@@ -12,7 +12,7 @@ struct machine {
 };
 
 /* Switches the machine on, with a bale on the scale and no text on the paper. */
-void machine_start(struct machine *machine, pin_view view, const char *digits);
+void machine_start(struct machine *machine, pin_view view, enum scale_kind kind, const char *digits);
 
 /* Gives the outside a moment: the scale and the printer. */
 void machine_outside(struct machine *machine);

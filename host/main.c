@@ -1,5 +1,5 @@
-/* One bale is weighed three times: on this card, on this card with its image saved and restored at every turn, and on last
- * season's card. Scale, printer and program are the same. */
+/* One bale is weighed four times: on this card, on this card with its image saved and restored at every turn, on this card by a scale that
+ * strobes too early, and on last season's card. Printer and program are the same. */
 #include "old_card.h"
 #include "program.h"
 
@@ -31,12 +31,12 @@ static void save_and_restore(struct bus *bus, struct restorations *restorations)
 }
 
 /* Weighs the bale and prints its ticket; on the way the card is saved and restored, unless 'restorations' is NULL. */
-static void weigh(struct machine *machine, pin_view view, struct restorations *restorations)
+static void weigh(struct machine *machine, pin_view view, enum scale_kind kind, struct restorations *restorations)
 {
     struct program program;
     int turn;
 
-    machine_start(machine, view, WEIGHT);
+    machine_start(machine, view, kind, WEIGHT);
     program_start(&program, machine);
     for (turn = 0; turn < MOST_TURNS && !program_done(&program, machine); turn++) {
         if (restorations != NULL)
@@ -65,19 +65,22 @@ static const char *compared(const struct machine *machine, const struct machine 
 
 int main(void)
 {
-    struct machine plain, restored, old;
+    struct machine plain, restored, hasty, old;
     struct restorations restorations = {0, 0};
 
-    weigh(&plain, towanchor_pins, NULL);
-    weigh(&restored, towanchor_pins, &restorations);
-    weigh(&old, old_card_pins, NULL);
+    weigh(&plain, towanchor_pins, SCALE_STEADY, NULL);
+    weigh(&restored, towanchor_pins, SCALE_STEADY, &restorations);
+    weigh(&hasty, towanchor_pins, SCALE_HASTY, NULL);
+    weigh(&old, old_card_pins, SCALE_STEADY, NULL);
 
     printf("the scale sends: %s\n", WEIGHT);
     report("this card", &plain);
     report("this card, saved and restored", &restored);
     printf("    restored %u times; refused while scribbled over: %u times\n", restorations.made, restorations.refused);
-    printf("    its ticket and the one before: %s\n", compared(&plain, &restored));
+    printf("    its ticket and the first: %s\n", compared(&plain, &restored));
+    report("this card, a scale that lowers STB before its digit has settled", &hasty);
+    printf("    its ticket and the first: %s\n", compared(&plain, &hasty));
     report("last season's card", &old);
-    printf("    its ticket and this card's: %s\n", compared(&plain, &old));
+    printf("    its ticket and the first: %s\n", compared(&plain, &old));
     return 0;
 }

@@ -7,7 +7,11 @@
 /* A pin of port C that no handshake uses: high until the scale has sent its last digit. */
 #define SCALE_SENDS 7
 
+/* A steady scale puts its digit on the lines before it lowers STB. A hasty one lowers STB first, and the digit settles while it is low. */
+enum scale_kind { SCALE_STEADY, SCALE_HASTY };
+
 struct scale {
+    enum scale_kind kind;
     const char *digits; /* those that it has not sent yet */
 };
 

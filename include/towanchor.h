@@ -53,7 +53,9 @@ extern "C" {
 #define TOWANCHOR_CONTROL 3        /* for writes alone: mode words, and the setting of one pin of port C or of one enable */
 
 /* The pins of port C that handshakes use, as numbers of pins; see TOWANCHOR_PIN. STB and ACK come from outside, and act when they
- * fall; the chip drives the others. STB, ACK and OBF are low when they say something, IBF and INTR are high. Which of them are in
+ * fall; the chip drives the others. While STB is low, levels put on its port go through to the port's input latch, and a byte that waits
+ * there is of that value from then on, which it was not before this edition: a device that has sent its byte raises STB before it changes
+ * the lines. STB, ACK and OBF are low when they say something, IBF and INTR are high. Which of them are in
  * use depends on the mode word: the input pins of A in mode 1 input, its output pins in mode 1 output, all five in mode 2. */
 #define TOWANCHOR_INTR_A 3         /* port A asks the processor: a byte has come in, or the last one was taken */
 #define TOWANCHOR_STB_A 4          /* the outside has put a byte on port A */

@@ -3,7 +3,10 @@
 #ifndef TESTS_LAYOUT_H
 #define TESTS_LAYOUT_H
 
+#define LEVELS_A 40
 #define LEVELS_C 42
+#define LATCH_C 43
+#define LATCH_A_IN 44
 #define CONDITION_A_IN 48
 #define CONDITION_A_OUT 49
 #define CONDITION_B_IN 50

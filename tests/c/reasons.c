@@ -1,8 +1,7 @@
-/* What each half of INTR is doing, judged by the rules, and its words. The images are put together byte by byte: every mode word, every
- * combination of conditions that it allows, of the three enables, of the levels of STB and ACK and of what the bus does. In the rest of
- * an image stands anything. Where a group has an INTR, the pin view shows it high exactly where a half is. */
+/* What each half of INTR is doing, judged by the rules of every image of the family, and its words. Where a group has an INTR, the pin view
+ * shows it high exactly where a half is. */
 #include "checks.h"
-#include "judgement.h"
+#include "family.h"
 #include "layout.h"
 #include "mode_words.h"
 #include "towanchor.h"
@@ -13,10 +12,6 @@
 
 #define CHANNELS 4
 #define REASONS 7
-
-/* The mode words allow 868 combinations of conditions: group A 62 under bits 6 to 3, and group B 14 under bits 2 to 0. With each go
- * eight combinations of enables, eight of levels, and eight phases of the bus. */
-#define FAMILY (868ul * 8 * 8 * 8)
 
 static unsigned long images;
 
@@ -128,76 +123,6 @@ static void both_groups(void)
     group(TOWANCHOR_GROUP_B, (levels & TOWANCHOR_PIN(TOWANCHOR_INTR_B)) != 0);
 }
 
-static void each_phase(void)
-{
-    static const unsigned char phases[][2] = {{IDLE, 0},
-                                              {READ_RUNS, TOWANCHOR_A},
-                                              {READ_RUNS, TOWANCHOR_B},
-                                              {READ_RUNS, TOWANCHOR_C},
-                                              {WRITE_RUNS, TOWANCHOR_A},
-                                              {WRITE_RUNS, TOWANCHOR_B},
-                                              {WRITE_RUNS, TOWANCHOR_C},
-                                              {WRITE_RUNS, TOWANCHOR_CONTROL}};
-    size_t each;
-
-    for (each = 0; each < sizeof phases / sizeof phases[0]; each++) {
-        image[BUS] = phases[each][0];
-        image[BUS_PLACE] = phases[each][1];
-        image[BUS_BYTE] = image[BUS] == WRITE_RUNS ? image[0] : 0;
-        both_groups();
-    }
-}
-
-/* Puts anything into tallies, levels and latches: bytes of a shift register with a fixed beginning. */
-static void scribble(void)
-{
-    static unsigned int state = 0x8255A;
-    int byte;
-
-    for (byte = 0; byte < CONDITION_A_IN; byte++) {
-        state ^= state << 13;
-        state ^= state >> 17;
-        state ^= state << 5;
-        image[byte] = (unsigned char)state;
-    }
-}
-
-/* One of eight combinations of pins 2, 4 and 6: those of STB and ACK, on which the enables are told too. */
-static unsigned int on_pins(unsigned int combination)
-{
-    return (combination & 1) << 2 | (combination & 2) << 3 | (combination & 4) << 4;
-}
-
-static void each_enable_and_level(void)
-{
-    unsigned int enables, levels;
-
-    for (enables = 0; enables < 8; enables++) {
-        for (levels = 0; levels < 8; levels++) {
-            scribble();
-            image[LEVELS_C] = (unsigned char)((image[LEVELS_C] & ~on_pins(7)) | on_pins(levels));
-            image[ENABLES] = (unsigned char)on_pins(enables);
-            each_phase();
-        }
-    }
-}
-
-/* Of all combinations of conditions those that make the image one of a state. */
-static void each_condition(void)
-{
-    unsigned int combination, rest, channel;
-
-    for (combination = 0; combination < 3 * 3 * 3 * 3; combination++) {
-        rest = combination;
-        for (channel = 0; channel < CHANNELS; channel++) {
-            image[CONDITION_A_IN + channel] = (unsigned char)(rest % 3);
-            rest /= 3;
-        }
-        if (is_image(image))
-            each_enable_and_level();
-    }
-}
-
 /* Each reason has been judged of the half of each channel: none is right because it was never asked for. */
 static void all_judged(void)
 {
@@ -245,12 +170,7 @@ static void words(unsigned int half)
 
 int main(void)
 {
-    unsigned int word;
-
-    for (word = 0x80; word <= 0xFF; word++) {
-        image[MODE_WORD] = (unsigned char)word;
-        each_condition();
-    }
+    each_image(both_groups);
     all_judged();
     words(TOWANCHOR_INPUT_HALF);
     words(TOWANCHOR_OUTPUT_HALF);

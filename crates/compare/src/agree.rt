@@ -4,8 +4,8 @@ use super::counts::Counts;
 use super::print;
 use super::views::View;
 
-fn same(one: [u8; 21], other: [u8; 21]) -> bool {
-    for at in 0..21 {
+fn same(one: [u8; 23], other: [u8; 23]) -> bool {
+    for at in 0..23 {
         if one[at] != other[at] {
             return false;
         }

@@ -2,16 +2,17 @@
 //
 //     0 histories, 1 events, 2 to 7 by kind, of which the last is for numbers that are none, 8 to 13 by number
 //     14 to 33 what became of bytes, in the order of the tallies; 34 bit words, 35 mode words
-//     36 to 42 what was said of the halves of INTR, by its number; 43 differences
+//     36 to 42 what was said of the halves of INTR, by its number; 43 and 44 levels that went through to the input latches of A and B,
+//     where they were others than stood there; 45 differences
 use super::views::View;
 
-pub(super) type Counts = [u64; 44];
+pub(super) type Counts = [u64; 46];
 
-pub(super) const DIFFERENCES: usize = 43;
+pub(super) const DIFFERENCES: usize = 45;
 
 // Adds to the count that stands so far behind the first of its kind.
 pub(super) fn add(counts: &mut Counts, first: usize, behind: u8, by: u16) {
-    let place = (first % 44 + behind as usize) % 44;
+    let place = (first % 46 + behind as usize) % 46;
     counts[place] = std::num::wrapping_add_u64(counts[place], by as u64);
 }
 
@@ -43,17 +44,42 @@ fn fates(counts: &mut Counts, before: [u16; 20], after: [u16; 20]) {
 }
 
 // The control word that the event brought into effect, if it did: the end of a write to address 3.
-fn word(counts: &mut Counts, kind: u8, before: [u8; 21]) {
+fn word(counts: &mut Counts, kind: u8, before: [u8; 23]) {
     let ended = (kind == 2) & (before[8] == 2) & (before[9] == 3);
     add(counts, 34, before[10] / 128, flag(ended));
 }
 
 // What is said of each half after the event.
-fn reasons(counts: &mut Counts, after: [u8; 21]) {
+fn reasons(counts: &mut Counts, after: [u8; 23]) {
     add(counts, 36, after[13], 1);
     add(counts, 36, after[14], 1);
     add(counts, 36, after[16], 1);
     add(counts, 36, after[17], 1);
+}
+
+// Whether an input latch changed and no byte was offered: a mode word's end, which changes it too, is no levels.
+fn through(kind: u8, was: u8, is: u8, offered_was: u16, offered_is: u16) -> u16 {
+    flag((kind == 5) & (was != is) & (offered_was == offered_is))
+}
+
+// The levels that went through to the latches of A and B.
+fn followed(counts: &mut Counts, kind: u8, before: View, after: View) {
+    let was = before.shown;
+    let is = after.shown;
+    let tally_was = before.tally;
+    let tally_is = after.tally;
+    add(
+        counts,
+        43,
+        0,
+        through(kind, was[21], is[21], tally_was[0], tally_is[0]),
+    );
+    add(
+        counts,
+        43,
+        1,
+        through(kind, was[22], is[22], tally_was[10], tally_is[10]),
+    );
 }
 
 pub(super) fn count(counts: &mut Counts, kind: u8, before: View, after: View) {
@@ -64,5 +90,6 @@ pub(super) fn count(counts: &mut Counts, kind: u8, before: View, after: View) {
     event(counts, kind, is[0]);
     word(counts, kind, was);
     reasons(counts, is);
+    followed(counts, kind, before, after);
     fates(counts, tally_was, tally_is);
 }

@@ -1,8 +1,8 @@
 // Exchanges: six events each in their proper order, so that bytes meet every fate. An event is eight digits, two each: its
 // kind, its first operand, the bits of its second operand that are drawn, and the bits that are set.
-pub(super) const COUNT: u64 = 14;
+pub(super) const COUNT: u64 = 19;
 
-pub(super) const EVENTS: [u64; 84] = [
+pub(super) const EVENTS: [u64; 114] = [
     // A byte comes in at A and is read.
     0x0500ff00, // any levels
     0x050200ef, // STB falls, the other pins high
@@ -101,4 +101,39 @@ pub(super) const EVENTS: [u64; 84] = [
     0x02000000, // takes effect
     0x01020000, // a read of C begins
     0x02000000, // and ends
+    // STB of A falls before the byte has settled.
+    0x050200ef, // STB falls
+    0x0500ff00, // any levels
+    0x0500ff00, // and others
+    0x0502ef10, // STB rises
+    0x0500ff00, // levels that are too late
+    0x01000000, // a read begins
+    // Levels come on A within a read, and behind it.
+    0x050200ef, // STB falls
+    0x01000000, // a read begins
+    0x0500ff00, // any levels
+    0x02000000, // the read ends
+    0x0500ff00, // others
+    0x01000000, // a read of what no byte has brought begins
+    // STB of B falls before the byte has settled.
+    0x050200fb, // STB falls
+    0x0501ff00, // any levels
+    0x0501ff00, // and others
+    0x0502fb04, // STB rises
+    0x0501ff00, // levels that are too late
+    0x01010000, // a read begins
+    // Levels come on B within a read, and behind it.
+    0x050200fb, // STB falls
+    0x01010000, // a read begins
+    0x0501ff00, // any levels
+    0x02000000, // the read ends
+    0x0501ff00, // others
+    0x01010000, // a read of what no byte has brought begins
+    // A mode word of those four finds STB of both low.
+    0x050200eb, // both fall
+    0x030312a4, // a mode word
+    0x02000000, // takes effect
+    0x01000000, // a read of A begins
+    0x02000000, // and ends
+    0x0500ff00, // any levels
 ];

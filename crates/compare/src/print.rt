@@ -42,8 +42,8 @@ fn wide_tally(tally: u16) -> u64 {
     tally as u64
 }
 
-pub(super) fn bytes(row: [u8; 21]) {
-    for at in 0..21 {
+pub(super) fn bytes(row: [u8; 23]) {
+    for at in 0..23 {
         item(wide(row[at]));
     }
 }

@@ -5,9 +5,10 @@ use step::Stepped;
 
 // What is shown: 0 the number, 1 the byte; 2 to 4 the levels of A, B and C, 5 to 7 their driven pins; and of what is kept:
 // 8 to 10 the phase, its port or address and its byte, 11 the mode word. 12 to 20 are what is said of INTR, by three numbers each, the
-// refusal, the input's half and the output's: of A, of B, and of a group that there is not, which is named by the mode word.
+// refusal, the input's half and the output's: of A, of B, and of a group that there is not, which is named by the mode word. 21 and 22 are
+// the input latches of A and B, so that what goes through to one is seen at once, and not only by the next read.
 pub(super) struct View {
-    pub(super) shown: [u8; 21],
+    pub(super) shown: [u8; 23],
     pub(super) tally: [u16; 20],
 }
 
@@ -45,6 +46,8 @@ pub(super) fn of_proved(last: Stepped) -> View {
             of_none.number,
             of_none.input,
             of_none.output,
+            chip.core.a.input.latch,
+            chip.core.b.input.latch,
         ],
         tally,
     }
@@ -55,6 +58,7 @@ pub(super) fn of_second(last: Answer) -> View {
     let of_a = second::explain(machine, 0);
     let of_b = second::explain(machine, 1);
     let of_none = second::explain(machine, machine.word | 2);
+    let latch = machine.latch;
     let tally = machine.tally;
     View {
         shown: [
@@ -79,6 +83,8 @@ pub(super) fn of_second(last: Answer) -> View {
             of_none.number,
             of_none.input,
             of_none.output,
+            latch[0],
+            latch[2],
         ],
         tally,
     }

@@ -74,7 +74,20 @@ notForIt =
 abbrev pub raisedFirst : List Event
 raisedFirst = write 3 0xb0 ++ levels 0 0x41 ++ levels 2 0xef ++ levels 2 0xff ++ levels 2 0xef ++ beginRead 0
 
--- Each of the five fates, each side, both groups, mode 2, a port without a handshake, which has no bytes, and lines that start low.
+-- A scale that lowers STB before its digit has settled: 40 passes by, 41 is there as STB rises, and 42 comes too late.
+abbrev pub settling : List Event
+settling = write 3 0xb0 ++ levels 2 0xef ++ levels 0 0x40 ++ levels 0 0x41 ++ levels 2 0xff ++ levels 0 0x42 ++ beginRead 0
+
+-- The same scale, and nobody reads: 41 has settled before it is overwritten, and of the next digit 43 is what stands there so far.
+abbrev pub settlingTwice : List Event
+settlingTwice = write 3 0xb0 ++ levels 2 0xef ++ levels 0 0x41 ++ levels 2 0xff ++ levels 0 0x42 ++ levels 2 0xef ++ levels 0 0x43
+
+-- Levels that come while STB is still low, but once the read has begun, are no byte's.
+abbrev pub tooLate : List Event
+tooLate = write 3 0xb0 ++ levels 0 0x41 ++ levels 2 0xef ++ beginRead 0 ++ levels 0 0x42 ++ endCycle ++ levels 0 0x43
+
+-- Each of the five fates, each side, both groups, mode 2, a port without a handshake, which has no bytes, lines that start low, and levels
+-- that come while STB is low.
 abbrev pub examples : List Example
 examples =
     example allHigh lostBale A Input (0x41 at 4 is handedOver at 6 ∷ 0x42 at 8 is swallowed at 10 ∷ [])
@@ -88,6 +101,9 @@ examples =
     ∷ example allHigh plain A Input []
     ∷ example allHigh notForIt B Input (0x41 at 4 is waiting at 13 ∷ [])
     ∷ example allLow raisedFirst A Input (0x41 at 6 is handedOver at 7 ∷ [])
+    ∷ example allHigh settling A Input (0x41 at 3 is handedOver at 8 ∷ [])
+    ∷ example allHigh settlingTwice A Input (0x41 at 3 is overwritten at 7 ∷ 0x43 at 7 is waiting at 9 ∷ [])
+    ∷ example allHigh tooLate A Input (0x41 at 4 is handedOver at 5 ∷ [])
     ∷ []
 
 -- The same events n times over.
@@ -99,7 +115,7 @@ times (suc n) es = es ++ times n es
 abbrev pub strobedTimes : ℕ → ℕ → List Event
 strobedTimes n v = write 3 0xb0 ++ times n (strobe v)
 
--- What the chip is said to count and to show in two of the examples. The lost bale: both digits were offered, one was handed over and
+-- What the chip is said to count and to show in some of the examples. The lost bale: both digits were offered, one was handed over and
 -- one swallowed.
 abbrev pub baleTally : Tally
 baleTally = record { offered = 2; handed = 1; overwritten = 0; swallowed = 1; cleared = 0 }

@@ -1,17 +1,18 @@
 -- What loads an input latch, in every state: the fall of STB, and levels on the port's own lines while STB is low. A mode word or a reset
 -- zeroes it, and nothing else touches it ("Handshake").
--- Rests on ChannelPins, OwnPort, Refusals, the channel's Left, ports' Strobed, chip's Surrounded, reads', writes' and levels' After, and
--- the step's ByKind, Ends and Outcome.
+-- Rests on ChannelPins, OwnPort, Refusals, the channel's Left, ports' Strobed, chip's OnPort and Surrounded, reads', writes' and levels'
+-- After, and the step's ByKind, Ends and Outcome.
 use mathlib.Core.Path.{_≡_, _∙_, refl, ap, sym, subst}
-use mathlib.Core.Bool.{Bool, true, false, cond, not, _&&_, _||_}
+use mathlib.Core.Bool.{Bool, true, false, cond, _&&_, _||_}
 use Prim.Native.Nat.{ℕ}
 use lib.Dec.{T, eqb}
 use Rattle.control.specs.declared.Group.{Group}
+use Rattle.control.specs.Mode.{strobedInput}
 use Rattle.channel.specs.declared.Side.the-variants.{Input}
 use Rattle.channel.specs.declared.Fill.the-variants.{Fetching}
 use Rattle.channel.specs.declared.Channel.{Channel}
 use Rattle.channel.specs.Moves.{afterOffer, afterFollow, afterHandOver, afterEndRead}
-use Rattle.channel.proofs.Left.{offer-latches, follow-latches, hand-over-keeps, end-read-keeps}
+use Rattle.channel.proofs.Left.{follow-latches, hand-over-keeps, end-read-keeps}
 use Rattle.chip.specs.declared.Phase.the-variants.{Writing}
 use Rattle.chip.specs.declared.Core.{Core}
 use Rattle.chip.specs.declared.Chip.{Chip}
@@ -19,7 +20,6 @@ use Rattle.chip.specs.State.{portOf, channelOf}
 use Rattle.chip.specs.Handshakes.{strobed, lineOf, ownAddress}
 use Rattle.chip.proofs.OnPort.{lines-not-own}
 use Rattle.chip.proofs.Surrounded.{spared-port}
-use Rattle.control.specs.Mode.{strobedInput}
 use Rattle.reads.specs.Read.{begunRead, endedRead}
 use Rattle.reads.proofs.After.{begun-input, ended-input}
 use Rattle.writes.specs.Write.{written}
@@ -33,17 +33,10 @@ use Rattle.step.proofs.ByKind.{by-kind}
 use Rattle.step.proofs.Ends.{by-phase}
 use Rattle.step.proofs.Outcome.{step-accepts, step-either}
 use Rattle.laws.specs.Seen.{pin, makesAnew}
+use Rattle.laws.specs.Loads.{loads}
 use Rattle.laws.proofs.Refusals.{no-kind-refused}
 use Rattle.laws.proofs.ChannelPins.{line-pin}
 use Rattle.laws.proofs.OwnPort.{own-accepted, own-read}
-
--- An input latch, in a core.
-abbrev latchIn : Core → Group → ℕ
-latchIn c g = channelOf c g Input .latch
-
--- Levels d on port x load a group's input latch: they make its STB fall, or they are on its own lines and go through.
-abbrev pub loads : Core → Group → ℕ → ℕ → Bool
-loads c g x d = (eqb x 2 && lineFalls c d g Input) || (ownAddress x g && letsThrough c g)
 
 -- Either way the latch is as it was.
 same-latch : (b : Bool) (moved ch : Channel) → moved .latch ≡ ch .latch → cond b moved ch .latch ≡ ch .latch
@@ -54,24 +47,28 @@ module _ (c : Core) (g : Group) where
   abbrev channel : Channel
   channel = channelOf c g Input
 
-  begun : (x : ℕ) → latchIn (begunRead c x) g ≡ latchIn c g
+  -- The latch in another core is the one in this.
+  abbrev Same : Core → Type 0
+  Same c′ = channelOf c′ g Input .latch ≡ channel .latch
+
+  begun : (x : ℕ) → Same (begunRead c x)
   begun x =
       ap (λ ch. ch .latch) (begun-input c x g)
       ∙ same-latch (strobedInput (c .word) g && ownAddress x g) (afterHandOver channel Fetching) channel (hand-over-keeps channel Fetching)
 
-  ended : (x : ℕ) → latchIn (endedRead c x) g ≡ latchIn c g
+  ended : (x : ℕ) → Same (endedRead c x)
   ended x =
       ap (λ ch. ch .latch) (ended-input c x g)
       ∙ same-latch (strobedInput (c .word) g && ownAddress x g) (afterEndRead channel) channel (end-read-keeps channel)
 
-  stored : (x d : ℕ) → makesAnew (Writing x d) ≡ false → latchIn (written c x d) g ≡ latchIn c g
+  stored : (x d : ℕ) → makesAnew (Writing x d) ≡ false → Same (written c x d)
   stored x d other =
-      by-address (λ c′. latchIn c′ g ≡ latchIn c g) c x d
+      by-address Same c x d
       (λ mode. absurd (subst T (sym mode ∙ other) tt))
       (λ mode own c′ k. ap (λ p. p .input .latch) (spared-port k g))
       (λ mode c′ k. ap (λ ch. ch .latch) (k .input g))
 
-  unloaded : (x d : ℕ) → loads c g x d ≡ false → latchIn (levelled c x d) g ≡ latchIn c g
+  unloaded : (x d : ℕ) → loads c g x d ≡ false → Same (levelled c x d)
   unloaded x d none =
       ap (λ ch. ch .latch) (levelled-input c x d g)
       ∙ go (eqb x 2 && lineFalls c d g Input) (ownAddress x g && letsThrough c g) none
@@ -82,10 +79,29 @@ module _ (c : Core) (g : Group) where
       go false true e = absurd (subst T e tt)
       go false false e = refl
 
--- Every other event leaves it, strobed or not; so a latch that a mode word zeroed while STB was low is 00 until the next of those two.
+  through-latch : (x d : ℕ) → ownAddress x g ≡ true → letsThrough c g ≡ true → channelOf (levelled c x d) g Input .latch ≡ d
+  through-latch x d own through = ap (λ ch. ch .latch) (levelled-input c x d g) ∙ go (eqb x 2) refl
+    where
+      go : (two : Bool) → eqb x 2 ≡ two
+          → cond (two && lineFalls c d g Input) (afterOffer channel (portOf c g .outside))
+          (cond (ownAddress x g && letsThrough c g) (afterFollow channel d) channel) .latch ≡ d
+      go true two = absurd (subst T (sym own ∙ lines-not-own x two g) tt)
+      go false two = rw (own, through, follow-latches channel d)
+
 module _ (c : Chip) (g : Group) where
+  -- While the pins show STB low, a read of the port answers the levels that were put last on its lines, whatever the channel's condition
+  -- and whatever runs on the bus.
+  pub low-follows : (x d : ℕ) → strobed (c .core .word) g Input ≡ true → pin c (lineOf g Input) ≡ false → ownAddress x g ≡ true
+      → readOf (stepOf c 5 x d .chip) x ≡ d
+  low-follows x d on low own =
+      let through : letsThrough (c .core) g ≡ true = rw (on, sym (line-pin c g Input on) ∙ low) in
+      rw (step-accepts c 5 x d (own-accepted (c .phase) x g own))
+      (own-read _ x g own ∙ strobed-reads _ g _ (rw (levelled-word (c .core) x d) (on)) ∙ through-latch (c .core) g x d own through)
+
+  -- Whatever is not said to load the latch leaves it, strobed or not, but for a mode word and a reset. So a rise of STB loads nothing, and
+  -- a latch that a mode word zeroed while STB was low is 00 until the next levels or the next fall.
   abbrev Still : Chip → Type 0
-  Still c′ = latchIn (c′ .core) g ≡ latchIn (c .core) g
+  Still c′ = Same (c .core) g (c′ .core)
 
   pub latch-stays : (k x d : ℕ) → ¬ (k ≡ 0) → (k ≡ 2 → makesAnew (c .phase) ≡ false) → (k ≡ 5 → loads (c .core) g x d ≡ false)
       → Still (stepOf c k x d .chip)
@@ -101,21 +117,3 @@ module _ (c : Chip) (g : Group) where
       (λ reset renewal load. step-either Still c 5 x d refl (λ ok. unloaded (c .core) g x d (load refl)))
       (λ k none reset renewal load. rw (no-kind-refused c k x d none))
       k
-
--- While the pins show STB low, a read of the port answers the levels that came last onto its lines, whatever the channel's condition and
--- whatever runs on the bus.
-through-latch : (c : Core) (g : Group) (x d : ℕ) → ownAddress x g ≡ true → letsThrough c g ≡ true → latchIn (levelled c x d) g ≡ d
-through-latch c g x d own through = ap (λ ch. ch .latch) (levelled-input c x d g) ∙ go (eqb x 2) refl
-  where
-    go : (two : Bool) → eqb x 2 ≡ two
-        → cond (two && lineFalls c d g Input) (afterOffer (channelOf c g Input) (portOf c g .outside))
-        (cond (ownAddress x g && letsThrough c g) (afterFollow (channelOf c g Input) d) (channelOf c g Input)) .latch ≡ d
-    go true two = absurd (subst T (sym own ∙ lines-not-own x two g) tt)
-    go false two = rw (own, through, follow-latches (channelOf c g Input) d)
-
-pub low-follows : (c : Chip) (g : Group) (x d : ℕ) → strobed (c .core .word) g Input ≡ true → pin c (lineOf g Input) ≡ false → ownAddress x g ≡ true
-    → readOf (stepOf c 5 x d .chip) x ≡ d
-low-follows c g x d on low own =
-    let through : letsThrough (c .core) g ≡ true = rw (on, sym (line-pin c g Input on) ∙ low) in
-    rw (step-accepts c 5 x d (own-accepted (c .phase) x g own))
-    (own-read _ x g own ∙ strobed-reads _ g _ (rw (levelled-word (c .core) x d) (on)) ∙ through-latch (c .core) g x d own through)

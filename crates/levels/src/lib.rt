@@ -77,16 +77,16 @@ fn put(mut port: Port, through: bool, levels: u8) -> Port
 pub fn set(mut core: Core, port: u8, levels: u8) -> Core
     ensures { λ r. ⌜ r ≡ levelled core port levels ⌝ }
 {
-    let word = core.word;
-    let lines_high = core.c.outside;
     match port {
         0 => {
-            let through = control::mode::strobed_input(word, Group::A) & !bits::bit(lines_high, 4);
+            let through = control::mode::strobed_input(core.word, Group::A)
+                & !bits::bit(core.c.outside, 4);
             core.a = put(core.a, through, levels);
             core
         }
         1 => {
-            let through = control::mode::strobed_input(word, Group::B) & !bits::bit(lines_high, 2);
+            let through = control::mode::strobed_input(core.word, Group::B)
+                & !bits::bit(core.c.outside, 2);
             core.b = put(core.b, through, levels);
             core
         }
