@@ -129,11 +129,11 @@ pub(super) const EVENTS: [u64; 114] = [
     0x02000000, // the read ends
     0x0501ff00, // others
     0x01010000, // a read of what no byte has brought begins
-    // A mode word of those four finds STB of both low.
+    // A mode word of those four finds STB of both low, and the levels that were on A come once more.
+    0x05000055, // levels
     0x050200eb, // both fall
     0x030312a4, // a mode word
     0x02000000, // takes effect
+    0x05000055, // the same levels
     0x01000000, // a read of A begins
-    0x02000000, // and ends
-    0x0500ff00, // any levels
 ];

@@ -9,7 +9,6 @@ use Rattle.control.specs.declared.Group.{Group}
 use Rattle.control.specs.Mode.{outputOf}
 use Rattle.channel.specs.declared.Side.{Side}
 use Rattle.channel.specs.declared.Side.the-variants.{Input, Output}
-use Rattle.channel.specs.declared.Channel.{Channel}
 use Rattle.chip.specs.declared.Phase.the-variants.{Writing}
 use Rattle.chip.specs.declared.Core.{Core}
 use Rattle.chip.specs.declared.Chip.{Chip}

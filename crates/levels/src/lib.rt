@@ -72,8 +72,8 @@ fn put(mut port: Port, through: bool, levels: u8) -> Port
     port
 }
 
-// The outside levels of port 0, 1 or 2 become these. There is no other port, and nothing happens. A strobed input
-// lets them through to its latch while its STB, which is pin 4 for A and pin 2 for B, is low.
+// The outside levels of port 0, 1 or 2 become these; on any other number, which is no port, nothing happens. A strobed input lets levels on
+// its own port through to its latch while its STB, pin 4 for A and pin 2 for B, is low.
 pub fn set(mut core: Core, port: u8, levels: u8) -> Core
     ensures { λ r. ⌜ r ≡ levelled core port levels ⌝ }
 {
