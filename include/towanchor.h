@@ -54,11 +54,11 @@ extern "C" {
 
 /* The pins of port C that handshakes use, as numbers of pins; see TOWANCHOR_PIN. STB and ACK come from outside, and act when they
  * fall; the chip drives the others. While STB is low, levels put on its port go through to the port's input latch, and a byte that waits
- * there is of that value from then on, which it was not before this edition: a device that has sent its byte raises STB before it changes
- * the lines. STB, ACK and OBF are low when they say something, IBF and INTR are high. Which of them are in
- * use depends on the mode word: the input pins of A in mode 1 input, its output pins in mode 1 output, all five in mode 2. */
+ * there has that value from then on; in earlier editions it kept what stood there at the fall. So a device that has sent its byte raises STB
+ * before it changes the lines. STB, ACK and OBF are low when they say something, IBF and INTR are high. Which of them are in use depends on
+ * the mode word: the input pins of A in mode 1 input, its output pins in mode 1 output, all five in mode 2. */
 #define TOWANCHOR_INTR_A 3         /* port A asks the processor: a byte has come in, or the last one was taken */
-#define TOWANCHOR_STB_A 4          /* the outside has put a byte on port A */
+#define TOWANCHOR_STB_A 4          /* the outside puts a byte on port A */
 #define TOWANCHOR_IBF_A 5          /* that byte has not been fetched yet; it is high until the read ends */
 #define TOWANCHOR_ACK_A 6          /* the outside takes the byte of port A */
 #define TOWANCHOR_OBF_A 7          /* a byte waits in port A to be taken */

@@ -1,4 +1,4 @@
-/* What each half of INTR is doing, judged by the rules of every image of the family, and its words. Where a group has an INTR, the pin view
+/* What each half of INTR is doing in every image of the family, judged by the rules, and its words. Where a group has an INTR, the pin view
  * shows it high exactly where a half is. */
 #include "checks.h"
 #include "family.h"

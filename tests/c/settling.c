@@ -96,7 +96,7 @@ static void shows(unsigned char port, unsigned int levels, unsigned int driven)
 }
 
 /* What is on the lines when STB rises is what is read. A fall during the read offers another byte, to which the next levels add nothing in
- * any tally; the end of the read swallows it, and what it followed last is read once more. */
+ * any tally; the end of the read swallows it, and what the latch took last is read once more. */
 static void until_strobe_rises(void)
 {
     switch_on(0xFF, 0xFF, 0xFF, 0xB0, "00000 00000 00000 00000 FFFFFF 00 00000000 00000000 B0 00 000000");

@@ -15,8 +15,8 @@ afterOffer ch b = record {
   tally = counted overwritten (isWaiting (ch .fill)) (counted offered true (ch .tally));
 }
 
--- While STB is low the latch stands open: what comes onto an input's lines then stands in it at once. A byte that waits has changed its
--- value; whether or not one does, none is offered and nothing is counted.
+-- While STB is low the latch stands open: what comes onto an input's lines then stands in it at once, and a byte that waits there has that
+-- value from then on. None is offered by it, and nothing is counted.
 unfoldable pub afterFollow : Channel → ℕ → Channel
 afterFollow ch b = record { fill = ch .fill; latch = b; tally = ch .tally }
 

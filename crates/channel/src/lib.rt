@@ -88,7 +88,7 @@ pub fn offer(channel: Channel, byte: u8) -> Channel
     }
 }
 
-// The levels go through to the latch, where the channel takes part in it. The condition and the tallies stay, whatever they are.
+// Where levels go through, they stand in the latch. The condition and the tallies stay, whatever they are.
 pub fn follow(mut channel: Channel, through: bool, levels: u8) -> Channel
     ensures { λ r. ⌜ r ≡ cond through (afterFollow channel levels) channel ⌝ }
 {

@@ -104,36 +104,36 @@ pub(super) const EVENTS: [u64; 114] = [
     // STB of A falls before the byte has settled.
     0x050200ef, // STB falls
     0x0500ff00, // any levels
-    0x0500ff00, // and others
     0x0502ef10, // STB rises
     0x0500ff00, // levels that are too late
     0x01000000, // a read begins
-    // Levels come on A within a read, and behind it.
+    0x02000000, // and ends
+    // Levels come on A within a read, and the next one finds no byte.
     0x050200ef, // STB falls
     0x01000000, // a read begins
     0x0500ff00, // any levels
     0x02000000, // the read ends
-    0x0500ff00, // others
-    0x01000000, // a read of what no byte has brought begins
+    0x01000000, // another begins
+    0x02000000, // and ends
     // STB of B falls before the byte has settled.
     0x050200fb, // STB falls
     0x0501ff00, // any levels
-    0x0501ff00, // and others
     0x0502fb04, // STB rises
     0x0501ff00, // levels that are too late
     0x01010000, // a read begins
-    // Levels come on B within a read, and behind it.
+    0x02000000, // and ends
+    // Levels come on B within a read, and the next one finds no byte.
     0x050200fb, // STB falls
     0x01010000, // a read begins
     0x0501ff00, // any levels
     0x02000000, // the read ends
-    0x0501ff00, // others
-    0x01010000, // a read of what no byte has brought begins
-    // A mode word of those four finds STB of both low, and the levels that were on A come once more.
+    0x01010000, // another begins
+    0x02000000, // and ends
+    // One of the four words of mode 1 in both groups finds pins 4 and 2 low, and the levels that were on A come once more.
     0x05000055, // levels
-    0x050200eb, // both fall
+    0x050200eb, // pins 4 and 2 fall
     0x030312a4, // a mode word
     0x02000000, // takes effect
     0x05000055, // the same levels
-    0x01000000, // a read of A begins
+    0x050200ff, // the pins rise
 ];

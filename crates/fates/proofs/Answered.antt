@@ -1,4 +1,5 @@
--- The chip in some of the examples: what it counts and what it shows there, computed by the checker.
+-- The chip in some of the examples, and after a mode word that finds STB low: what it counts and what it shows there, computed by the
+-- checker.
 -- Rests on nothing.
 use mathlib.Core.Path.{_≡_, refl}
 use mathlib.Core.List.{_++_}

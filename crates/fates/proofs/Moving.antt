@@ -35,7 +35,7 @@ pub moves : (s : Side) (ch : Channel) (d : Deed) (on own : Bool) → cond (on &&
 moves s ch d true own = gated s ch d own
 moves s ch d false own = refl
 
--- So are the fall of a line, of which port C alone has any, and else the levels on the port's own lines while that line is low.
+-- So is the fall of a line, which port C alone has, or else levels on the port's own lines while that line is low.
 pub levelling : (s : Side) (ch : Channel) (d e : Deed) (lines on fell own low : Bool)
     → cond (lines && (on && fell)) (moved s ch d) (cond (own && (on && low)) (moved s ch e) ch)
     ≡ moved s ch (when on (cond (lines && fell) d (when (own && low) e)))

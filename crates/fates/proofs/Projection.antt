@@ -93,6 +93,7 @@ module _ (c : Core) (g : Group) where
       go A = refl
       go B = refl
 
+  -- No levels go through to an output.
   levels-set : (ph : Phase) (s : Side) (x d : ℕ) → After ph s (newLevels x d) (levelled c x d)
   unfolding fallen
   levels-set ph Input x d =

@@ -75,7 +75,8 @@ module _ (g : Group) (w x y z : ℕ) where
   reads-on (Reading q) (writeBegun p u) ok = absurd (refused (ltb p 4) ok)
   reads-on (Writing q d) (writeBegun p u) ok = absurd (refused (ltb p 4) ok)
   reads-on ph (newLevels p u) ok =
-      levels-come on (on && readRuns g ph) (falls g Input (around ph w x y z) p u) (underLow g (around ph w x y z) p) (levelsOn g (around ph w x y z)) u
+      let a = around ph w x y z in
+      levels-come on (on && readRuns g ph) (falls g Input a p u) (underLow g a p) (levelsOn g a) u
   reads-on ph unknown ok = absurd (subst T (sym ok) tt)
 
 -- The same of every event, accepted or refused.

@@ -1,5 +1,5 @@
--- Each byte handed over is the byte offered: while a byte waits in a strobed channel its latch is that byte, and what takes it shows
--- the latch.
+-- Each byte handed over is the byte offered: while a byte waits in a strobed channel its latch is the value that the byte has by then, and
+-- what takes it shows the latch.
 -- Rests on Story, Moved, Surroundings, Followed and Shown, and on the channel's Left.
 use mathlib.Core.Path.{_≡_, _∙_, refl, ap, sym, subst}
 use mathlib.Core.Bool.{Bool, true, false, cond, not}

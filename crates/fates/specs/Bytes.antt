@@ -31,7 +31,7 @@ pub record Byte : Type 0 where
   pub offer : Offer
   pub outcome : Outcome
 
--- The value v offered at place n.
+-- A byte of value v, offered at place n.
 abbrev pub offeredAt : ℕ → ℕ → Offer
 offeredAt n v = record { place = n; value = v }
 

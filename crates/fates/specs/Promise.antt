@@ -48,7 +48,8 @@ heldByte Empty o n later = []
 heldByte Waiting o n later = byteOf o n later ∷ []
 heldByte Fetching o n later = []
 
--- A byte that waits at the start of a history counts as offered at place 0, with the latch's value, on which it need not settle.
+-- A byte that waits at the start of a history counts as offered at place 0, with the latch's value, which later levels
+-- may change.
 abbrev pub oldByte : Group → Side → Chip → List Event → List Byte
 oldByte g s c es =
     heldByte (channelOf (c .core) g s .fill) (offeredAt 0 (channelOf (c .core) g s .latch)) 1 (deeds g s (aroundOf c) es)
@@ -83,7 +84,7 @@ pub record Fates (g : Group) (s : Side) (c : Chip) (es : List Event) (start : Ta
       length all ≡ count handedOver all + count overwritten all + count swallowed all + count cleared all + count waiting all
   pub atMostOneWaits : count waiting all ≤ 1
   pub waitsInTheChip : count waiting all ≡ num (isWaiting (channelOf (run c es .core) g s .fill))
-  -- Each byte handed over is the one that was offered, and they come in order.
+  -- Each byte handed over is the one that was offered, with the value on which it settled, and they come in order.
   pub asOffered : Each (λ b. b .outcome .fate ≡ handedOver → ShownAt g s c es (b .outcome .place) (b .offer .value)) all
   pub inOrder : InOrder 0 all
   -- The tallies are the counts.

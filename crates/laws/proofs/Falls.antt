@@ -1,5 +1,5 @@
 -- Only the fall of a channel's line offers a byte or takes one: in every state, new levels that make none leave the channel's condition and
--- its tallies, and those of an output its latch too ("Handshake").
+-- its tallies. No levels at all touch an output's latch ("Handshake").
 -- Rests on the channel's Left, levels' After and the step's Outcome.
 use mathlib.Core.Path.{_≡_, _∙_, refl, ap}
 use mathlib.Core.Bool.{Bool, true, false, cond, _&&_, and-false}

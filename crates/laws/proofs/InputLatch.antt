@@ -1,18 +1,19 @@
--- What loads an input latch, in every state: the fall of STB, and levels on the port's own lines while STB is low. A mode word or a reset
--- zeroes it, and nothing else touches it ("Handshake").
--- Rests on ChannelPins, OwnPort, Refusals, the channel's Left, ports' Strobed, chip's OnPort and Surrounded, reads', writes' and levels'
+-- What loads an input latch, in every state: the fall of STB, and levels on the port's own lines while STB is low. Nothing else but a mode
+-- word and a reset touches it ("Handshake").
+-- Rests on ChannelPins, FlagAfter, OwnPort, Refusals, the channel's Left, ports' Strobed, chip's OnPort and Surrounded, reads', writes' and levels'
 -- After, and the step's ByKind, Ends and Outcome.
 use mathlib.Core.Path.{_≡_, _∙_, refl, ap, sym, subst}
-use mathlib.Core.Bool.{Bool, true, false, cond, _&&_, _||_}
+use mathlib.Core.Bool.{Bool, true, false, cond, not, _&&_, _||_, and-false}
 use Prim.Native.Nat.{ℕ}
 use lib.Dec.{T, eqb}
+use Rattle.bits.specs.Bit.{bitOf}
 use Rattle.control.specs.declared.Group.{Group}
 use Rattle.control.specs.Mode.{strobedInput}
 use Rattle.channel.specs.declared.Side.the-variants.{Input}
 use Rattle.channel.specs.declared.Fill.the-variants.{Fetching}
 use Rattle.channel.specs.declared.Channel.{Channel}
 use Rattle.channel.specs.Moves.{afterOffer, afterFollow, afterHandOver, afterEndRead}
-use Rattle.channel.proofs.Left.{follow-latches, hand-over-keeps, end-read-keeps}
+use Rattle.channel.proofs.Left.{offer-latches, follow-latches, hand-over-keeps, end-read-keeps}
 use Rattle.chip.specs.declared.Phase.the-variants.{Writing}
 use Rattle.chip.specs.declared.Core.{Core}
 use Rattle.chip.specs.declared.Chip.{Chip}
@@ -24,7 +25,7 @@ use Rattle.reads.specs.Read.{begunRead, endedRead}
 use Rattle.reads.proofs.After.{begun-input, ended-input}
 use Rattle.writes.specs.Write.{written}
 use Rattle.writes.proofs.After.{by-address}
-use Rattle.levels.specs.Levels.{lineFalls, letsThrough, levelled}
+use Rattle.levels.specs.Levels.{fallen, lineFalls, letsThrough, levelled}
 use Rattle.levels.proofs.After.{levelled-input, levelled-word}
 use Rattle.ports.specs.Reads.{readOf}
 use Rattle.ports.proofs.Strobed.{strobed-reads}
@@ -33,9 +34,10 @@ use Rattle.step.proofs.ByKind.{by-kind}
 use Rattle.step.proofs.Ends.{by-phase}
 use Rattle.step.proofs.Outcome.{step-accepts, step-either}
 use Rattle.laws.specs.Seen.{pin, makesAnew}
-use Rattle.laws.specs.Loads.{loads}
+use Rattle.laws.specs.Loads.{lowers, comesUnderLow, loads}
 use Rattle.laws.proofs.Refusals.{no-kind-refused}
 use Rattle.laws.proofs.ChannelPins.{line-pin}
+use Rattle.laws.proofs.FlagAfter.{line-falls, levels-accepted}
 use Rattle.laws.proofs.OwnPort.{own-accepted, own-read}
 
 -- Either way the latch is as it was.
@@ -68,17 +70,6 @@ module _ (c : Core) (g : Group) where
       (λ mode own c′ k. ap (λ p. p .input .latch) (spared-port k g))
       (λ mode c′ k. ap (λ ch. ch .latch) (k .input g))
 
-  unloaded : (x d : ℕ) → loads c g x d ≡ false → Same (levelled c x d)
-  unloaded x d none =
-      ap (λ ch. ch .latch) (levelled-input c x d g)
-      ∙ go (eqb x 2 && lineFalls c d g Input) (ownAddress x g && letsThrough c g) none
-    where
-      go : (fell through : Bool) → (fell || through) ≡ false
-          → cond fell (afterOffer channel (portOf c g .outside)) (cond through (afterFollow channel d) channel) .latch ≡ channel .latch
-      go true through e = absurd (subst T e tt)
-      go false true e = absurd (subst T e tt)
-      go false false e = refl
-
   through-latch : (x d : ℕ) → ownAddress x g ≡ true → letsThrough c g ≡ true → channelOf (levelled c x d) g Input .latch ≡ d
   through-latch x d own through = ap (λ ch. ch .latch) (levelled-input c x d g) ∙ go (eqb x 2) refl
     where
@@ -88,25 +79,74 @@ module _ (c : Core) (g : Group) where
       go true two = absurd (subst T (sym own ∙ lines-not-own x two g) tt)
       go false two = rw (own, through, follow-latches channel d)
 
+  fallen-latch : (d : ℕ) → lineFalls c d g Input ≡ true → channelOf (levelled c 2 d) g Input .latch ≡ portOf c g .outside
+  fallen-latch d fell = ap (λ ch. ch .latch) (levelled-input c 2 d g) ∙ rw (fell, offer-latches channel (portOf c g .outside))
+
+-- Levels that neither lower STB nor come while it is low move nothing.
+unmoved : (ch offered followed : Channel) (fell through : Bool) → (fell || through) ≡ false → cond fell offered (cond through followed ch) .latch ≡ ch .latch
+unmoved ch offered followed true through none = absurd (subst T none tt)
+unmoved ch offered followed false true none = absurd (subst T none tt)
+unmoved ch offered followed false false none = refl
+
 module _ (c : Chip) (g : Group) where
-  -- While the pins show STB low, a read of the port answers the levels that were put last on its lines, whatever the channel's condition
-  -- and whatever runs on the bus.
-  pub low-follows : (x d : ℕ) → strobed (c .core .word) g Input ≡ true → pin c (lineOf g Input) ≡ false → ownAddress x g ≡ true
+  -- The line of STB, as the pins show it where the input is strobed.
+  abbrev seen : Bool
+  seen = pin c (lineOf g Input)
+
+  unloaded : (x d : ℕ) → loads c g x d ≡ false → Same (c .core) g (levelled (c .core) x d)
+  unfolding fallen
+  unloaded x d none = ap (λ ch. ch .latch) (levelled-input (c .core) x d g) ∙ go (strobed (c .core .word) g Input) refl none
+    where
+      ch : Channel
+      ch = channelOf (c .core) g Input
+
+      was : Bool
+      was = bitOf (c .core .c .outside) (lineOf g Input)
+
+      low : Bool
+      low = not (bitOf d (lineOf g Input))
+
+      go : (on : Bool) → strobed (c .core .word) g Input ≡ on → (on && (lowers c g x d || comesUnderLow c g x)) ≡ false
+          → cond (eqb x 2 && (strobed (c .core .word) g Input && (was && low))) (afterOffer ch (portOf (c .core) g .outside))
+          (cond (ownAddress x g && (strobed (c .core .word) g Input && not was)) (afterFollow ch d) ch) .latch ≡ ch .latch
+      go true on none =
+          rw (on)
+          (unmoved ch (afterOffer ch (portOf (c .core) g .outside)) (afterFollow ch d) (eqb x 2 && (was && low)) (ownAddress x g && not was)
+          (subst (λ (b : Bool). ((eqb x 2 && (b && low)) || (ownAddress x g && not b)) ≡ false) (line-pin c g Input on) none))
+      go false off none = rw (off, and-false (eqb x 2), and-false (ownAddress x g))
+
+  -- A read of a strobed port answers the input latch, whatever the event before it.
+  latch-read : (x : ℕ) (c′ : Core) → strobed (c .core .word) g Input ≡ true → c′ .word ≡ c .core .word → ownAddress x g ≡ true
+      → readOf (record { phase = c .phase; core = c′ }) x ≡ channelOf c′ g Input .latch
+  latch-read x c′ on same own = own-read _ x g own ∙ strobed-reads _ g _ (rw (same) (on))
+
+  -- Levels that come onto the port's own lines while the pins show STB low are what a read of the port then answers, whatever the channel's
+  -- condition and whatever runs on the bus.
+  pub low-follows : (x d : ℕ) → strobed (c .core .word) g Input ≡ true → seen ≡ false → ownAddress x g ≡ true
       → readOf (stepOf c 5 x d .chip) x ≡ d
   low-follows x d on low own =
       let through : letsThrough (c .core) g ≡ true = rw (on, sym (line-pin c g Input on) ∙ low) in
       rw (step-accepts c 5 x d (own-accepted (c .phase) x g own))
-      (own-read _ x g own ∙ strobed-reads _ g _ (rw (levelled-word (c .core) x d) (on)) ∙ through-latch (c .core) g x d own through)
+      (latch-read x (levelled (c .core) x d) on (levelled-word (c .core) x d) own ∙ through-latch (c .core) g x d own through)
 
-  -- Whatever is not said to load the latch leaves it, strobed or not, but for a mode word and a reset. So a rise of STB loads nothing, and
-  -- a latch that a mode word zeroed while STB was low is 00 until the next levels or the next fall.
+  -- A fall of STB brings in what stands on the port's lines.
+  pub fall-loads : (x d : ℕ) → strobed (c .core .word) g Input ≡ true → seen ≡ true → bitOf d (lineOf g Input) ≡ false → ownAddress x g ≡ true
+      → readOf (stepOf c 5 2 d .chip) x ≡ portOf (c .core) g .outside
+  fall-loads x d on high low own =
+      rw (step-accepts c 5 2 d (levels-accepted (c .phase)))
+      (latch-read x (levelled (c .core) 2 d) on (levelled-word (c .core) 2 d) own
+      ∙ fallen-latch (c .core) g d (line-falls c g Input d on high low))
+
   abbrev Still : Chip → Type 0
   Still c′ = Same (c .core) g (c′ .core)
 
-  pub latch-stays : (k x d : ℕ) → ¬ (k ≡ 0) → (k ≡ 2 → makesAnew (c .phase) ≡ false) → (k ≡ 5 → loads (c .core) g x d ≡ false)
+  -- Whatever is not said to load the latch leaves it, but for a mode word and a reset. So levels leave it while STB is high, and wherever the
+  -- port is no strobed input; a rise of STB loads nothing; and a latch that a mode word zeroed while STB was low is 00 until the next levels
+  -- or the next fall.
+  pub latch-stays : (k x d : ℕ) → ¬ (k ≡ 0) → (k ≡ 2 → makesAnew (c .phase) ≡ false) → (k ≡ 5 → loads c g x d ≡ false)
       → Still (stepOf c k x d .chip)
   latch-stays k x d =
-      by-kind (λ k. ¬ (k ≡ 0) → (k ≡ 2 → makesAnew (c .phase) ≡ false) → (k ≡ 5 → loads (c .core) g x d ≡ false) → Still (stepOf c k x d .chip))
+      by-kind (λ k. ¬ (k ≡ 0) → (k ≡ 2 → makesAnew (c .phase) ≡ false) → (k ≡ 5 → loads c g x d ≡ false) → Still (stepOf c k x d .chip))
       (λ reset renewal load. absurd (reset refl))
       (λ reset renewal load. step-either Still c 1 x d refl (λ ok. begun (c .core) g x))
       (λ reset renewal load. by-phase Still c x d
@@ -114,6 +154,6 @@ module _ (c : Chip) (g : Group) where
       (λ p phase. ended (c .core) g p)
       (λ a b phase. stored (c .core) g a b (ap makesAnew (sym phase) ∙ renewal refl)))
       (λ reset renewal load. step-either Still c 3 x d refl (λ ok. refl))
-      (λ reset renewal load. step-either Still c 5 x d refl (λ ok. unloaded (c .core) g x d (load refl)))
+      (λ reset renewal load. step-either Still c 5 x d refl (λ ok. unloaded x d (load refl)))
       (λ k none reset renewal load. rw (no-kind-refused c k x d none))
       k

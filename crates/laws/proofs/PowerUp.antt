@@ -42,7 +42,8 @@ power-up-shows l = record {
   linesDriven = refl;
 }
 
--- To name levels is to put them on the ports right after a power-up under any others: in mode 0 none of them is an edge.
+-- To name levels is to put them on the ports right after a power-up under any others: in mode 0 none of them is an edge, and none goes
+-- through to a latch.
 pub named-is-put : (k l : Levels)
     → after (accepted (powerUpWith k) 0) (levels 0 (l .a) ++ levels 1 (l .b) ++ levels 2 (l .c)) .chip ≡ powerUpWith l
 unfolding stepOf numberOf levelled levelledLines levelledPort edged strobedInput strobedOutput modeOf inputOf bitOf

@@ -13,8 +13,8 @@ use Rattle.chip.specs.declared.Chip.{Chip}
 use Rattle.chip.specs.Handshakes.{groupAt, enableOf}
 use Rattle.status.specs.Status.{flagAt, intrOf}
 
--- A strobed input gives what STB last brought in, be it old or new; another port gives its latch where it is an output, and
--- what stands on its lines where it is not.
+-- A strobed input gives its latch, be that a byte that waits, an old one, or levels that came while STB was low and no byte did; another
+-- port gives its latch where it is an output, and what stands on its lines where it is not.
 unfoldable pub readPort : ℕ → Group → Port → ℕ
 readPort w g p = cond (strobedInput w g) (p .input .latch) (cond (outputOf w g) (p .output .latch) (p .outside))
 

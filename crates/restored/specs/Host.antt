@@ -23,7 +23,8 @@ hostRun l [] = l
 hostRun l (e ∷ es) = hostRun (stepImage l (e .kind) (e .first) (e .second)) es
 
 -- What is promised of an image and any events after it: the host always holds an image, that of the chip after these events; and on
--- each channel the counts go on from the image's tallies, a byte that waits in it being offered already, with the latch's value.
+-- each channel the counts go on from the image's tallies, a byte that waits in it being offered already, with the latch's value, which
+-- later levels may change.
 pub record Restored (l : List ℕ) (es : List Event) : Type 0 where
   pub image : isImage (hostRun l es) ≡ true
   pub state : stateOf (hostRun l es) ≡ run (stateOf l) es

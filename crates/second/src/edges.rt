@@ -38,7 +38,7 @@ fn follow(mut machine: Machine, channel: usize, level: u8, pin: usize) -> Machin
     machine
 }
 
-// Only a fall acts, and only in a channel that is strobed now. A byte that is strobed in is what is put on the pins, also where the
+// On port C only a fall acts, and only in a channel that is strobed now. A byte that is strobed in is what is put on the pins, also where the
 // chip drives the port itself; one that is acknowledged frees its channel at once.
 fn edge(machine: Machine, channel: usize, fell: u8, pin: usize) -> Machine {
     if !(digits::bit(fell, pin) & words::strobed(machine.word, channel)) {
