@@ -16,7 +16,7 @@ use Rattle.fates.specs.Deeds.{Deed, offered, followed, taken, ended, cle
 pub data Fate : Type 0 where
   handedOver overwritten swallowed cleared waiting : Fate
 
--- A byte: the place in the history of the event that offers it, and its value.
+-- A byte by itself: the place in the history of the event that offers it, and its value.
 pub record Offer : Type 0 where
   pub place : ℕ
   pub value : ℕ
@@ -26,7 +26,7 @@ pub record Outcome : Type 0 where
   pub fate : Fate
   pub place : ℕ
 
--- All of it together.
+-- A byte with what became of it.
 pub record Byte : Type 0 where
   pub offer : Offer
   pub outcome : Outcome

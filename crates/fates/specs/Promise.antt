@@ -48,8 +48,7 @@ heldByte Empty o n later = []
 heldByte Waiting o n later = byteOf o n later ∷ []
 heldByte Fetching o n later = []
 
--- A byte that waits at the start of a history counts as offered at place 0, with the latch's value, which later levels
--- may change.
+-- A byte that waits at the start of a history counts as offered at place 0, with the latch's value, which later levels may change.
 abbrev pub oldByte : Group → Side → Chip → List Event → List Byte
 oldByte g s c es =
     heldByte (channelOf (c .core) g s .fill) (offeredAt 0 (channelOf (c .core) g s .latch)) 1 (deeds g s (aroundOf c) es)
