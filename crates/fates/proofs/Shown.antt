@@ -1,10 +1,10 @@
 -- Where the history says that an event takes a byte from a channel, the read answers the channel's latch, or the chip drives the port
 -- with it.
--- Rests on Tables, Accepted, Moved and Followed, on laws' OwnPort, ports' Strobed, levels' After and the step's ByKind and Outcome.
+-- Rests on Tables, Accepted and Followed, on laws' OwnPort and Falls, ports' Strobed, levels' After and the step's ByKind and Outcome.
 use mathlib.Core.Path.{_≡_, _∙_, refl, ap, sym, subst}
 use mathlib.Core.Bool.{Bool, true, false, cond, _&&_}
 use Prim.Native.Nat.{ℕ}
-use lib.Dec.{T, eqb, ltb}
+use lib.Dec.{T, eqb}
 use borrow.Author.Tests.{not-true}
 use Rattle.bits.specs.Bit.{bitOf}
 use Rattle.control.specs.declared.Group.{Group}
@@ -25,14 +25,14 @@ use Rattle.step.proofs.ByKind.{by-kind}
 use Rattle.step.proofs.Outcome.{step-accepts}
 use Rattle.laws.specs.History.{Event, event}
 use Rattle.laws.proofs.OwnPort.{own-pins, own-read}
+use Rattle.laws.proofs.Falls.{output-latch-stays}
 use Rattle.fates.specs.Kinds.{named, accepts}
 use Rattle.fates.specs.Around.{brought}
 use Rattle.fates.specs.Deeds.{Deed, offered, followed, taken, ended, clearedAway, nothing, portNumber, levelsOn, strobePin, strobes, readRuns, writeRuns, falls, underLow, when, ownDeed, clears, deed}
 use Rattle.fates.specs.Promise.{aroundOf, Shows}
 use Rattle.fates.proofs.Tables.{own-same, line-same, strobes-same}
 use Rattle.fates.proofs.Accepted.{no-kind-accepted, accepted-number}
-use Rattle.fates.proofs.Moved.{latchAfter}
-use Rattle.fates.proofs.Followed.{after, latch, next-latch}
+use Rattle.fates.proofs.Followed.{after, latch}
 
 -- What holds where a byte is taken.
 abbrev pub WhereTaken : Type 0 → Deed → Type 0
@@ -98,11 +98,6 @@ module _ (c : Chip) (g : Group) where
       (λ k none ok on. absurd (no-kind-accepted (c .phase) k x d none ok))
       k
 
-  -- An event that may take the byte leaves the latch.
-  latch-stays : (l : ℕ) (b : Bool) (d : Deed) → latchAfter l d ≡ l → latchAfter l (when b d) ≡ l
-  latch-stays l true d e = e
-  latch-stays l false d e = refl
-
   -- A port's number is its own address.
   own-port : (g : Group) → ownAddress (portNumber g) g ≡ true
   own-port A = refl
@@ -113,11 +108,6 @@ module _ (c : Chip) (g : Group) where
       (fell : falls g Output (aroundOf c) x d ≡ true) where
     abbrev left : Chip
     left = after c (event 5 x d)
-
-    latch-left : latch g Output left ≡ latch g Output c
-    latch-left =
-        next-latch g Output c (event 5 x d) on
-        ∙ latch-stays _ (ltb x 3) _ (latch-stays _ (strobes word g Output) _ (latch-stays _ (falls g Output (aroundOf c) x d) taken refl))
 
     -- ACK is low in the chip that is left.
     driven-left : drivesPort (left .core) g ≡ true
@@ -134,7 +124,7 @@ module _ (c : Chip) (g : Group) where
       on,
       (
         rw (step-accepts c 5 x d (accepted-number (c .phase) 5 x d ok)),
-        own-pins left (portNumber g) g (own-port g) ∙ rw (driven-left, driven-shows (portOf (left .core) g), latch-left),
+        own-pins left (portNumber g) g (own-port g) ∙ rw (driven-left, driven-shows (portOf (left .core) g), output-latch-stays c g x d),
       ),
     )
 

@@ -1,6 +1,6 @@
 -- Only the fall of a channel's line offers a byte or takes one: in every state, new levels that make none leave the channel's condition and
 -- its tallies. No levels at all touch an output's latch ("Handshake").
--- Rests on the channel's Left, levels' After and the step's Outcome.
+-- Rests on FlagAfter, the channel's Left, levels' After and the step's Outcome.
 use mathlib.Core.Path.{_≡_, _∙_, refl, ap}
 use mathlib.Core.Bool.{Bool, true, false, cond, _&&_, and-false}
 use Prim.Native.Nat.{ℕ}
@@ -20,6 +20,7 @@ use Rattle.levels.specs.Levels.{fallen, lineFalls, letsThrough, levelled}
 use Rattle.levels.proofs.After.{levelled-input, levelled-output}
 use Rattle.step.specs.Step.{stepOf}
 use Rattle.step.proofs.Outcome.{step-either}
+use Rattle.laws.proofs.FlagAfter.{either-way}
 
 -- Condition and tallies as they were. The latch may change: levels go through to an input's, and a mode 0 write changes an output's.
 pub record Kept (before after : Channel) : Type 0 where
@@ -30,7 +31,7 @@ pub record Kept (before after : Channel) : Type 0 where
 pub kept : {before after : Channel} → after ≡ before → Kept before after
 kept same = record { fill = ap (λ ch. ch .fill) same; tally = ap (λ ch. ch .tally) same }
 
--- So is one whose latch follows.
+-- So is one whose line does not fall, whether or not its latch follows.
 pub levelled-kept : (c : Core) (g : Group) (s : Side) (x d : ℕ) → (eqb x 2 && lineFalls c d g s) ≡ false
     → Kept (channelOf c g s) (channelOf (levelled c x d) g s)
 levelled-kept c g Input x d still = rw (levelled-input c x d g, still) (go (ownAddress x g && letsThrough c g))
@@ -55,15 +56,12 @@ only-a-fall c g s x d still =
     (λ ok. levelled-kept (c .core) g s x d (unless (eqb x 2) (strobed (c .core .word) g s) (fallen (c .core .c .outside) d (lineOf g s)) still))
 
 -- No levels touch an output's latch, nor does the fall of ACK.
-given-latch : (c : Core) (g : Group) (x d : ℕ) → channelOf (levelled c x d) g Output .latch ≡ channelOf c g Output .latch
-given-latch c g x d = rw (levelled-output c x d g) (go (eqb x 2 && lineFalls c d g Output))
-  where
-    channel : Channel
-    channel = channelOf c g Output
-
-    go : (falls : Bool) → cond falls (afterHandOver channel Empty) channel .latch ≡ channel .latch
-    go true = hand-over-keeps channel Empty
-    go false = refl
+pub given-latch : (c : Core) (g : Group) (x d : ℕ) → channelOf (levelled c x d) g Output .latch ≡ channelOf c g Output .latch
+given-latch c g x d =
+    let channel = channelOf c g Output in
+    ap (λ ch. ch .latch) (levelled-output c x d g)
+    ∙ either-way (λ ch. ch .latch) (channel .latch) (eqb x 2 && lineFalls c d g Output) (afterHandOver channel Empty) channel
+    (hand-over-keeps channel Empty) refl
 
 pub output-latch-stays : (c : Chip) (g : Group) (x d : ℕ)
     → channelOf (stepOf c 5 x d .chip .core) g Output .latch ≡ channelOf (c .core) g Output .latch

@@ -38,6 +38,6 @@ unfolding numberOf
 levels-accepted ph = refl
 
 -- What holds either way.
-pub either-way : {X : Type 0} (P : X → Bool) (v b : Bool) (y n : X) → P y ≡ v → P n ≡ v → P (cond b y n) ≡ v
+pub either-way : {X Y : Type 0} (P : X → Y) (v : Y) (b : Bool) (y n : X) → P y ≡ v → P n ≡ v → P (cond b y n) ≡ v
 either-way P v true y n hy hn = hy
 either-way P v false y n hy hn = hn

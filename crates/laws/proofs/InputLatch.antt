@@ -37,13 +37,8 @@ use Rattle.laws.specs.Seen.{pin, makesAnew}
 use Rattle.laws.specs.Loads.{lowers, comesUnderLow, loads}
 use Rattle.laws.proofs.Refusals.{no-kind-refused}
 use Rattle.laws.proofs.ChannelPins.{line-pin}
-use Rattle.laws.proofs.FlagAfter.{line-falls, levels-accepted}
+use Rattle.laws.proofs.FlagAfter.{line-falls, levels-accepted, either-way}
 use Rattle.laws.proofs.OwnPort.{own-accepted, own-read}
-
--- Either way the latch is as it was.
-same-latch : (b : Bool) (moved ch : Channel) → moved .latch ≡ ch .latch → cond b moved ch .latch ≡ ch .latch
-same-latch true moved ch e = e
-same-latch false moved ch e = refl
 
 module _ (c : Core) (g : Group) where
   abbrev channel : Channel
@@ -53,15 +48,20 @@ module _ (c : Core) (g : Group) where
   abbrev Same : Core → Type 0
   Same c′ = channelOf c′ g Input .latch ≡ channel .latch
 
+  -- A cycle moves the channel only where it takes part.
+  taking-part : (x : ℕ) (moved : Channel) → moved .latch ≡ channel .latch
+      → cond (strobedInput (c .word) g && ownAddress x g) moved channel .latch ≡ channel .latch
+  taking-part x moved e = either-way (λ ch. ch .latch) (channel .latch) (strobedInput (c .word) g && ownAddress x g) moved channel e refl
+
   begun : (x : ℕ) → Same (begunRead c x)
   begun x =
       ap (λ ch. ch .latch) (begun-input c x g)
-      ∙ same-latch (strobedInput (c .word) g && ownAddress x g) (afterHandOver channel Fetching) channel (hand-over-keeps channel Fetching)
+      ∙ taking-part x (afterHandOver channel Fetching) (hand-over-keeps channel Fetching)
 
   ended : (x : ℕ) → Same (endedRead c x)
   ended x =
       ap (λ ch. ch .latch) (ended-input c x g)
-      ∙ same-latch (strobedInput (c .word) g && ownAddress x g) (afterEndRead channel) channel (end-read-keeps channel)
+      ∙ taking-part x (afterEndRead channel) (end-read-keeps channel)
 
   stored : (x d : ℕ) → makesAnew (Writing x d) ≡ false → Same (written c x d)
   stored x d other =
@@ -83,7 +83,8 @@ module _ (c : Core) (g : Group) where
   fallen-latch d fell = ap (λ ch. ch .latch) (levelled-input c 2 d g) ∙ rw (fell, offer-latches channel (portOf c g .outside))
 
 -- Levels that neither lower STB nor come while it is low move nothing.
-unmoved : (ch offered followed : Channel) (fell through : Bool) → (fell || through) ≡ false → cond fell offered (cond through followed ch) .latch ≡ ch .latch
+unmoved : (ch offered followed : Channel) (fell through : Bool) → (fell || through) ≡ false
+    → cond fell offered (cond through followed ch) .latch ≡ ch .latch
 unmoved ch offered followed true through none = absurd (subst T none tt)
 unmoved ch offered followed false true none = absurd (subst T none tt)
 unmoved ch offered followed false false none = refl
@@ -115,7 +116,7 @@ module _ (c : Chip) (g : Group) where
           (subst (λ (b : Bool). ((eqb x 2 && (b && low)) || (ownAddress x g && not b)) ≡ false) (line-pin c g Input on) none))
       go false off none = rw (off, and-false (eqb x 2), and-false (ownAddress x g))
 
-  -- A read of a strobed port answers the input latch, whatever the event before it.
+  -- A port that the mode word strobes reads as its input latch, in every core that has this word.
   latch-read : (x : ℕ) (c′ : Core) → strobed (c .core .word) g Input ≡ true → c′ .word ≡ c .core .word → ownAddress x g ≡ true
       → readOf (record { phase = c .phase; core = c′ }) x ≡ channelOf c′ g Input .latch
   latch-read x c′ on same own = own-read _ x g own ∙ strobed-reads _ g _ (rw (same) (on))

@@ -1,10 +1,9 @@
 -- Mode 0: outputs are latched and inputs are not ("Writes and bit set/reset", "Reads and pins").
--- Rests on OwnPort, control's Strobed, writes' After, levels' After, and the step's Ends and Outcome.
+-- Rests on OwnPort, Falls, control's Strobed, writes' After, levels' After, and the step's Ends and Outcome.
 use mathlib.Core.Path.{_≡_, _∙_, refl, ap, sym}
-use mathlib.Core.Bool.{true, false, not, and-false}
+use mathlib.Core.Bool.{true, false, not}
 use Prim.Native.Nat.{ℕ}
 use native.Mathlib.Omega.{arith}
-use lib.Dec.{eqb}
 use Rattle.control.specs.declared.Group.{Group}
 use Rattle.control.specs.declared.Group.the-variants.{A, B}
 use Rattle.control.specs.Mode.{modeOf, inputOf, outputOf}
@@ -18,13 +17,14 @@ use Rattle.chip.specs.Handshakes.{ownAddress}
 use Rattle.writes.specs.Write.{written}
 use Rattle.writes.proofs.After.{own-stored}
 use Rattle.levels.specs.Levels.{levelled}
-use Rattle.levels.proofs.After.{levelled-output, levelled-word, levelled-ports}
+use Rattle.levels.proofs.After.{levelled-word, levelled-ports}
 use Rattle.ports.specs.Reads.{readPort, readOf}
 use Rattle.ports.specs.Pins.{drivesPort, pinsOfPort, pinsOf}
 use Rattle.step.specs.Step.{stepOf}
 use Rattle.step.proofs.Ends.{write-ends}
 use Rattle.step.proofs.Outcome.{step-accepts, step-either}
 use Rattle.laws.proofs.OwnPort.{own-accepted, own-pins, own-read}
+use Rattle.laws.proofs.Falls.{given-latch}
 
 by-direction : (w : ℕ) (g : Group) → modeOf w g ≡ 0 → outputOf w g ≡ not (inputOf w g)
 by-direction w g zero = output-by-direction w g (λ two. omega (arith, zero, two))
@@ -56,17 +56,13 @@ output-shows c g a b x d phase own zero out =
     ∙ ap (λ (l : ℕ). record { levels = l; driven = 0xff }) (stored-latch (c .core) a b g own zero out))
 
 -- What is shown stays, whatever levels are put on any port from outside.
-held-latch : (c : Core) (g : Group) (x d : ℕ) → modeOf (c .word) g ≡ 0 → portOf (levelled c x d) g .output .latch ≡ portOf c g .output .latch
-held-latch c g x d zero =
-    ap (λ ch. ch .latch) (levelled-output c x d g) ∙ rw (mode-0-gives (c .word) g zero, and-false (eqb x 2))
-
 pub output-held : (c : Chip) (g : Group) (a x d : ℕ) → ownAddress a g ≡ true → modeOf (c .core .word) g ≡ 0 → inputOf (c .core .word) g ≡ false
     → pinsOf (stepOf c 5 x d .chip) a ≡ pinsOf c a
 output-held c g a x d own zero out =
     step-either (λ c′. pinsOf c′ a ≡ pinsOf c a) c 5 x d refl
     (λ ok. let same = levelled-word (c .core) x d in
     own-pins _ a g own ∙ shows-latch (levelled (c .core) x d) g _ (rw (same) (zero)) (rw (same) (out))
-    ∙ ap (λ (l : ℕ). record { levels = l; driven = 0xff }) (held-latch (c .core) g x d zero)
+    ∙ ap (λ (l : ℕ). record { levels = l; driven = 0xff }) (given-latch (c .core) g x d)
     ∙ sym (own-pins c a g own ∙ shows-latch (c .core) g (portOf (c .core) g) zero out))
 
 -- An input reads as its outside levels are at that moment, so that new levels are read at once.
