@@ -1,8 +1,8 @@
-// The summary of port C's pins by mode. Each cell is gathered from every entry of the published table that it speaks of, and
-// taken apart by plain arithmetic here, apart from the model's own decoding.
+// The summary of port C's pins by mode. Each cell is gathered from what the lookup answers for every word that it speaks of; which
+// words those are is plain arithmetic here, apart from the model's own decoding.
 use super::print;
 
-// What a cell can say beside the roles 2 to 6: a free pin, nothing yet, or entries that do not agree.
+// What a cell can say beside the roles 2 to 6: a free pin, nothing yet, or answers that do not agree.
 const FREE: u8 = 10;
 
 const NOTHING: u8 = 11;
@@ -43,7 +43,7 @@ fn speaks_of(column: u8, word: u8, pin: u8) -> bool {
     column_of(word, pin) == column
 }
 
-// The entry as the sheet would name it: a free pin has to follow the direction of its half.
+// The entry of a cell for a word: the answer as the sheet would name it. A free pin has to follow the direction of its half.
 fn entry(word: u8, pin: u8) -> u8 {
     let role = published::lookup(word, pin);
     if 1 < role {

@@ -1,44 +1,69 @@
--- `published::lookup` meets its contract: 255 where there is no such word or pin, and else the table's entry.
--- Rests on Place and the contract of table::published.
-use mathlib.Core.Path.{_≡_, refl}
-use mathlib.Core.Bool.{Bool, true, false, _||_}
-use Prim.Native.Nat.{ℕ, _≤_}
+-- `published::lookup` meets its contract: 255 where there is no such word or pin, and else the role that the two masks tell.
+-- Rests on InRange, roles' PinByMasks and the contracts of what it calls.
+use mathlib.Core.Path.{_≡_, refl, sym}
+use mathlib.Core.Bool.{Bool, true, false, cond, _||_}
+use Prim.Native.Nat.{ℕ, _<_}
 use native.Mathlib.Omega.{arith}
 use lib.Dec.{ltb}
 use borrow.Author.Needs.{needs}
-use borrow.Author.Tests.{ltb-false}
+use Rattle.bits.specs.Bit.{bitOf}
+use Rattle.control.specs.declared.Group.the-variants.{B}
+use Rattle.control.specs.Mode.{strobedInput}
+use Rattle.roles.specs.Role.{input, output, number}
+use Rattle.roles.specs.Pins.{handshakePins, outputPins}
+use Rattle.roles.proofs.PinByMasks.{sorted, role-by-masks}
 use Rattle.published.specs.Published.{lookupOf}
-use Rattle.published.proofs.Place.{entry-of}
+use Rattle.published.proofs.InRange.{in-range}
 use Rattle.published.proofs.lookup.Statement.{statement}
 use Rattle.published.proofs.lookup.Tie as tie
 
--- Neither holds where their disjunction does not.
-neither : (a b : Bool) → (a || b) ≡ false → (a ≡ false) × (b ≡ false)
-neither true b e = (e, (cc))
-neither false b e = (refl, e)
+-- The answer, where it is not 255, by the masks.
+by-masks : (w n : ℕ) → w < 256 → (ltb w 128 || ltb 7 n) ≡ false
+    → lookupOf w n ≡ number (sorted (bitOf (handshakePins w) n) (bitOf (outputPins w) n) (strobedInput w B) n)
+unfolding lookupOf
+by-masks w n word there = rw (there, role-by-masks w n word (omega (arith, in-range w n there)))
 
--- What the test leaves: a word from 128 up, and a pin up to 7.
-there : (w n : ℕ) → (ltb w 128 || ltb 7 n) ≡ false → (128 ≤ w) × (n ≤ 7)
-there w n e = let both = neither (ltb w 128) (ltb 7 n) e in (ltb-false w 128 (both .0), ltb-false 7 n (both .1))
+free-number : (out : Bool) → cond out 1 0 ≡ number (cond out output input)
+free-number true = refl
+free-number false = refl
 
 returns : tie.Need-returns
 unfolding lookupOf
 returns c = rw (c .if1 .taken)
 
-sub-at : tie.Need-sub-at
-sub-at c = omega (arith, there (c .before .before .args .word) (c .before .before .args .pin) (c .before .if1 .left))
-
-array-read-result : tie.Need-array-read-result
-array-read-result c = omega (arith, there (c .before .before .args .word) (c .before .before .args .pin) (c .before .if1 .left))
+in-handshake-requires : tie.Need-in-handshake-requires
+in-handshake-requires c κs =
+    let a = c .before .before .before .before .args in
+    omega (arith, in-range (a .word) (a .pin) (c .before .before .before .if1 .left))
 
 returns-2 : tie.Need-returns-2
-unfolding lookupOf
 returns-2 c =
-    let a = c .before .before .args in
-    let in-table = there (a .word) (a .pin) (c .before .if1 .left) in
-    rw (c .before .if1 .left, c .published .ensures) (entry-of (a .word) (a .pin) (in-table .0) (search needs) (omega arith))
+    let a = c .before .before .before .before .before .args in
+    rw (
+      by-masks (a .word) (a .pin) (search needs) (c .before .before .before .before .if1 .left),
+      sym (c .before .before .before .handshake .ensures),
+      sym (c .before .before .bit .ensures),
+      c .before .if2 .taken,
+      c .in-handshake .ensures,
+    )
+
+returns-3 : tie.Need-returns-3
+returns-3 c =
+    let a = c .before .before .before .before .before .before .before .args in
+    rw (
+      by-masks (a .word) (a .pin) (search needs) (c .before .before .before .before .before .before .if1 .left),
+      sym (c .before .before .before .before .before .handshake .ensures),
+      sym (c .before .before .before .before .bit .ensures),
+      c .before .before .before .if2 .left,
+      c .choose .ensures,
+      c .before .bit2 .ensures,
+      c .before .before .outputs .ensures,
+    )
+    (free-number (bitOf (outputPins (a .word)) (a .pin)))
 
 pub lookup-spec : {M : Type 1} → statement M
 lookup-spec =
     tie.close
-    (tie.spec returns (λ c κs. tt) sub-at (λ c. search needs) (λ c. search needs) array-read-result returns-2)
+    (tie.spec
+    returns
+    (λ c κs. tt) (λ c κs. tt) in-handshake-requires returns-2 (λ c κs. tt) (λ c κs. tt) (λ c κs. tt) returns-3)

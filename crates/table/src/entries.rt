@@ -2,7 +2,7 @@
 // 0 input, 1 output, 2 INTR, 3 IBF, 4 OBF, 5 STB, 6 ACK. Beside each entry stand its mode word and its pin.
 ghost use mathlib.Core.Path.{_≡_};
 ghost use Rattle.bits.specs.Table.{table};
-ghost use Rattle.published.specs.Published.{entryAt};
+ghost use Rattle.table.specs.Entry.{entryAt};
 
 const ROLES: [u8; 1024] = [
     1, // 80 PC0
@@ -1032,7 +1032,7 @@ const ROLES: [u8; 1024] = [
 ];
 
 // The table, whole.
-pub fn published() -> [u8; 1024]
+pub(super) fn published() -> [u8; 1024]
     ensures { λ r. ⌜ r ≡ table entryAt 1024 ⌝ }
 {
     ROLES

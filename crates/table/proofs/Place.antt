@@ -7,7 +7,7 @@ use lib.ListN.{getD}
 use Rattle.bits.specs.Table.{table}
 use Rattle.bits.proofs.Tabled.{table-at}
 use Rattle.roles.specs.Role.{number, roleOf}
-use Rattle.published.specs.Published.{entryAt}
+use Rattle.table.specs.Entry.{entryAt}
 
 pub entry-of : (w n : ℕ) → 128 ≤ w → w < 256 → n < 8 → getD (table entryAt 1024) ((w - 128) * 8 + n) 0 ≡ number (roleOf w n)
 unfolding entryAt

@@ -1,0 +1,15 @@
+-- Where the test for 255 fails there is such a mode word and such a pin.
+-- Rests on nothing.
+use mathlib.Core.Path.{_≡_, refl}
+use mathlib.Core.Bool.{Bool, true, false, _||_}
+use Prim.Native.Nat.{ℕ, _≤_}
+use lib.Dec.{ltb}
+use borrow.Author.Tests.{ltb-false}
+
+-- Neither holds where their disjunction does not.
+neither : (a b : Bool) → (a || b) ≡ false → (a ≡ false) × (b ≡ false)
+neither true b e = (e, (cc))
+neither false b e = (refl, e)
+
+pub in-range : (w n : ℕ) → (ltb w 128 || ltb 7 n) ≡ false → (128 ≤ w) × (n ≤ 7)
+in-range w n e = let both = neither (ltb w 128) (ltb 7 n) e in (ltb-false w 128 (both .0), ltb-false 7 n (both .1))

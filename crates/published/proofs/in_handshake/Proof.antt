@@ -1,0 +1,48 @@
+-- `published::in_handshake` meets its contract: the constant's digit is the number of the pin's role, by a test at every pin.
+-- Rests on bits' Tested and the contracts of bits::choose and control::mode::strobed_input.
+use mathlib.Core.Path.{_≡_}
+use mathlib.Core.Bool.{Bool, true, false, cond}
+use Prim.Native.Nat.{ℕ, _+_, _*_, _/_, _%_, _^_, _<_, _≤_}
+use native.Mathlib.Omega.{arith}
+use borrow.Author.Needs.{needs}
+use Rattle.bits.proofs.Tested.{numbers}
+use Rattle.control.specs.declared.Group.the-variants.{B}
+use Rattle.control.specs.Mode.{strobedInput}
+use Rattle.roles.specs.Role.{number}
+use Rattle.roles.specs.Pins.{handshakeRole}
+use Rattle.published.proofs.in_handshake.Statement.{statement}
+use Rattle.published.proofs.in_handshake.Tie as tie
+
+-- What the code works out, by whether port B is a strobed input.
+abbrev digit : Bool → ℕ → ℕ
+digit taking n = 0x4635_2642_4635_2532 / 2 ^ (cond taking 0 32 + 4 * n) % 16
+
+role-digit : (taking : Bool) (n : ℕ) → n < 8 → digit taking n ≡ number (handshakeRole taking n)
+role-digit true = numbers 8 (digit true) (λ n. number (handshakeRole true n)) tt
+role-digit false = numbers 8 (digit false) (λ n. number (handshakeRole false n)) tt
+
+-- Where a half begins.
+half-at-most : (taking : Bool) → cond taking 0 32 ≤ 32
+half-at-most true = omega arith
+half-at-most false = omega arith
+
+add-at : tie.Need-add-at
+add-at c =
+    let pin : c .before .before .args .pin < 8 = search needs in
+    rw (c .choose .ensures) (omega (arith, half-at-most (c .before .strobed-input .result), pin))
+
+shr-result : tie.Need-shr-result
+shr-result c =
+    let pin : c .before .before .args .pin < 8 = search needs in
+    rw (c .choose .ensures) (omega (arith, half-at-most (c .before .strobed-input .result), pin))
+
+returns : tie.Need-returns
+returns c =
+    rw (c .choose .ensures, c .before .strobed-input .ensures)
+    (role-digit (strobedInput (c .before .before .args .word) B) (c .before .before .args .pin) (search needs))
+
+pub in-handshake-spec : {M : Type 1} → statement M
+in-handshake-spec =
+    tie.close
+    (tie.spec
+    (λ c κs. tt) (λ c κs. tt) (λ c. search needs) add-at (λ c. search needs) shr-result (λ c. search needs) returns)

@@ -1,0 +1,45 @@
+// How often an answer is given, over every word and every pin that a byte can name.
+use super::reading;
+use std::num::wrapping_add_u64;
+
+// To how many words and pins the table gives an answer, to how many the lookup does, and to how many both do.
+pub(super) struct Counts {
+    pub(super) table: u64,
+    pub(super) lookup: u64,
+    pub(super) both: u64,
+}
+
+fn more(count: u64, given: bool) -> u64 {
+    wrapping_add_u64(count, given as u64)
+}
+
+// The counts, and one word and pin more.
+fn counted(counts: Counts, answer: u8, word: u8, pin: u8) -> Counts {
+    let table = reading::answer(word, pin) == answer;
+    let lookup = published::lookup(word, pin) == answer;
+    Counts {
+        table: more(counts.table, table),
+        lookup: more(counts.lookup, lookup),
+        both: more(counts.both, table & lookup),
+    }
+}
+
+// The counts, and all pins of a word more.
+fn under(mut counts: Counts, answer: u8, word: u8) -> Counts {
+    for pin in 0..256u16 {
+        counts = counted(counts, answer, word, pin as u8);
+    }
+    counts
+}
+
+pub(super) fn of(answer: u8) -> Counts {
+    let mut counts = Counts {
+        table: 0,
+        lookup: 0,
+        both: 0,
+    };
+    for word in 0..256u16 {
+        counts = under(counts, answer, word as u8);
+    }
+    counts
+}
