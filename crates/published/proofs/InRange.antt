@@ -1,4 +1,4 @@
--- Where the test for 255 fails there is such a mode word and such a pin.
+-- What the test for 255 leaves: a word from 128 up, and a pin up to 7.
 -- Rests on nothing.
 use mathlib.Core.Path.{_≡_, refl}
 use mathlib.Core.Bool.{Bool, true, false, _||_}

@@ -14,7 +14,7 @@ use control::Group;
 const HANDSHAKE: u64 = 0x4635_2642_4635_2532;
 
 // The number of the role that a handshake gives to the pin.
-fn in_handshake(word: u8, pin: u8) -> u8
+fn handshake_role(word: u8, pin: u8) -> u8
     requires { ⌜ pin < 8 ⌝ }
     ensures { λ r. ⌜ r ≡ number (handshakeRole (strobedInput word B) pin) ⌝ }
 {
@@ -31,7 +31,7 @@ pub fn lookup(word: u8, pin: u8) -> u8
         return 255;
     }
     if bits::bit(roles::handshake(word), pin) {
-        return in_handshake(word, pin);
+        return handshake_role(word, pin);
     }
     bits::choose(bits::bit(roles::outputs(word), pin), 1, 0)
 }

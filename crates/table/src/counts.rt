@@ -1,8 +1,8 @@
-// How often an answer is given, over every word and every pin that a byte can name.
+// How often an answer is given, over every pair of a word and a pin that two bytes can name.
 use super::reading;
 use std::num::wrapping_add_u64;
 
-// To how many words and pins the table gives an answer, to how many the lookup does, and to how many both do.
+// To how many pairs of a word and a pin the table gives an answer, to how many the lookup does, and to how many both do.
 pub(super) struct Counts {
     pub(super) table: u64,
     pub(super) lookup: u64,

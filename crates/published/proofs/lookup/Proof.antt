@@ -23,6 +23,7 @@ by-masks : (w n : ℕ) → w < 256 → (ltb w 128 || ltb 7 n) ≡ false
 unfolding lookupOf
 by-masks w n word there = rw (there, role-by-masks w n word (omega (arith, in-range w n there)))
 
+-- The number of a free pin's role.
 free-number : (out : Bool) → cond out 1 0 ≡ number (cond out output input)
 free-number true = refl
 free-number false = refl
@@ -31,8 +32,8 @@ returns : tie.Need-returns
 unfolding lookupOf
 returns c = rw (c .if1 .taken)
 
-in-handshake-requires : tie.Need-in-handshake-requires
-in-handshake-requires c κs =
+handshake-role-requires : tie.Need-handshake-role-requires
+handshake-role-requires c κs =
     let a = c .before .before .before .before .args in
     omega (arith, in-range (a .word) (a .pin) (c .before .before .before .if1 .left))
 
@@ -44,7 +45,7 @@ returns-2 c =
       sym (c .before .before .before .handshake .ensures),
       sym (c .before .before .bit .ensures),
       c .before .if2 .taken,
-      c .in-handshake .ensures,
+      c .handshake-role .ensures,
     )
 
 returns-3 : tie.Need-returns-3
@@ -66,4 +67,4 @@ lookup-spec =
     tie.close
     (tie.spec
     returns
-    (λ c κs. tt) (λ c κs. tt) in-handshake-requires returns-2 (λ c κs. tt) (λ c κs. tt) (λ c κs. tt) returns-3)
+    (λ c κs. tt) (λ c κs. tt) handshake-role-requires returns-2 (λ c κs. tt) (λ c κs. tt) (λ c κs. tt) returns-3)

@@ -1,4 +1,4 @@
--- `published::in_handshake` meets its contract: the constant's digit is the number of the pin's role, by a test at every pin.
+-- `published::handshake_role` meets its contract: the constant's digit is the number of the pin's role, by a test at every pin.
 -- Rests on bits' Tested and the contracts of bits::choose and control::mode::strobed_input.
 use mathlib.Core.Path.{_≡_}
 use mathlib.Core.Bool.{Bool, true, false, cond}
@@ -10,8 +10,8 @@ use Rattle.control.specs.declared.Group.the-variants.{B}
 use Rattle.control.specs.Mode.{strobedInput}
 use Rattle.roles.specs.Role.{number}
 use Rattle.roles.specs.Pins.{handshakeRole}
-use Rattle.published.proofs.in_handshake.Statement.{statement}
-use Rattle.published.proofs.in_handshake.Tie as tie
+use Rattle.published.proofs.handshake_role.Statement.{statement}
+use Rattle.published.proofs.handshake_role.Tie as tie
 
 -- What the code works out, by whether port B is a strobed input.
 abbrev digit : Bool → ℕ → ℕ
@@ -21,7 +21,7 @@ role-digit : (taking : Bool) (n : ℕ) → n < 8 → digit taking n ≡ number (
 role-digit true = numbers 8 (digit true) (λ n. number (handshakeRole true n)) tt
 role-digit false = numbers 8 (digit false) (λ n. number (handshakeRole false n)) tt
 
--- Where a half begins.
+-- A half begins at 32 at the latest, so that the shift of a digit stays below 64.
 half-at-most : (taking : Bool) → cond taking 0 32 ≤ 32
 half-at-most true = omega arith
 half-at-most false = omega arith
@@ -41,8 +41,8 @@ returns c =
     rw (c .choose .ensures, c .before .strobed-input .ensures)
     (role-digit (strobedInput (c .before .before .args .word) B) (c .before .before .args .pin) (search needs))
 
-pub in-handshake-spec : {M : Type 1} → statement M
-in-handshake-spec =
+pub handshake-role-spec : {M : Type 1} → statement M
+handshake-role-spec =
     tie.close
     (tie.spec
     (λ c κs. tt) (λ c κs. tt) (λ c. search needs) add-at (λ c. search needs) shr-result (λ c. search needs) returns)
