@@ -2,7 +2,7 @@
 -- Rests on bits' Tested and the contracts of bits::choose and control::mode::strobed_input.
 use mathlib.Core.Path.{_≡_}
 use mathlib.Core.Bool.{Bool, true, false, cond}
-use Prim.Native.Nat.{ℕ, _+_, _*_, _/_, _%_, _^_, _<_, _≤_}
+use Prim.Native.Nat.{ℕ, _+_, _*_, _/_, _%_, _^_, _<_}
 use native.Mathlib.Omega.{arith}
 use borrow.Author.Needs.{needs}
 use Rattle.bits.proofs.Tested.{numbers}
@@ -21,20 +21,16 @@ role-digit : (taking : Bool) (n : ℕ) → n < 8 → digit taking n ≡ number (
 role-digit true = numbers 8 (digit true) (λ n. number (handshakeRole true n)) tt
 role-digit false = numbers 8 (digit false) (λ n. number (handshakeRole false n)) tt
 
--- A half begins at 32 at the latest, so that the shift of a digit stays below 64.
-half-at-most : (taking : Bool) → cond taking 0 32 ≤ 32
-half-at-most true = omega arith
-half-at-most false = omega arith
+-- A digit's place is within the 64 bits, so that it can be worked out in a byte and shifted by.
+within : (taking : Bool) (n : ℕ) → n < 8 → cond taking 0 32 + 4 * n < 64
+within true n pin = omega arith
+within false n pin = omega arith
 
 add-at : tie.Need-add-at
-add-at c =
-    let pin : c .before .before .args .pin < 8 = search needs in
-    rw (c .choose .ensures) (omega (arith, half-at-most (c .before .strobed-input .result), pin))
+add-at c = rw (c .choose .ensures) (omega (arith, within (c .before .strobed-input .result) (c .before .before .args .pin) (search needs)))
 
 shr-result : tie.Need-shr-result
-shr-result c =
-    let pin : c .before .before .args .pin < 8 = search needs in
-    rw (c .choose .ensures) (omega (arith, half-at-most (c .before .strobed-input .result), pin))
+shr-result c = rw (c .choose .ensures) (within (c .before .strobed-input .result) (c .before .before .args .pin) (search needs))
 
 returns : tie.Need-returns
 returns c =
