@@ -13,7 +13,7 @@ fn more(count: u64, given: bool) -> u64 {
     wrapping_add_u64(count, given as u64)
 }
 
-// The counts, and one word and pin more.
+// The counts, and one pair more.
 fn counted(counts: Counts, answer: u8, word: u8, pin: u8) -> Counts {
     let table = reading::answer(word, pin) == answer;
     let lookup = published::lookup(word, pin) == answer;
@@ -24,22 +24,14 @@ fn counted(counts: Counts, answer: u8, word: u8, pin: u8) -> Counts {
     }
 }
 
-// The counts, and all pins of a word more.
-fn under(mut counts: Counts, answer: u8, word: u8) -> Counts {
-    for pin in 0..256u16 {
-        counts = counted(counts, answer, word, pin as u8);
-    }
-    counts
-}
-
 pub(super) fn of(answer: u8) -> Counts {
     let mut counts = Counts {
         table: 0,
         lookup: 0,
         both: 0,
     };
-    for word in 0..256u16 {
-        counts = under(counts, answer, word as u8);
+    for pair in 0..65_536u32 {
+        counts = counted(counts, answer, (pair / 256) as u8, (pair % 256) as u8);
     }
     counts
 }
