@@ -14,7 +14,8 @@ use Rattle.chip.specs.declared.Phase.the-variants.{Idle, Reading, Writing}
 use Rattle.chip.specs.declared.Chip.{Chip}
 use Rattle.step.specs.Numbers.{isBusy, noKind, numberOf}
 use Rattle.step.proofs.ByKind.{by-kind}
-use Rattle.step.specs.Step.{afterOf}
+use Rattle.step.specs.declared.Stepped.{Stepped}
+use Rattle.step.specs.Step.{afterOf, byteGiven, accepted, refused}
 use Rattle.step.proofs.Outcome.{step-accepts, step-refuses}
 use Rattle.laws.specs.History.{Event, event, stepped}
 use Rattle.fates.specs.Kinds.{unknown, kinds, named, free, accepts}
@@ -61,7 +62,7 @@ end-accepts (Reading p) = refl
 end-accepts (Writing a d) = refl
 
 -- What is no kind is named as such.
-no-name : (k x d : ℕ) → noKind k ≡ true → named (event k x d) ≡ unknown
+pub no-name : (k x d : ℕ) → noKind k ≡ true → named (event k x d) ≡ unknown
 no-name k x d none = go (eqb k 4) refl
   where
     go : (four : Bool) → eqb k 4 ≡ four → named (event k x d) ≡ unknown
@@ -88,14 +89,20 @@ no-kind-accepted ph k x d none ok = subst T (sym ok ∙ ap (accepts ph) (no-name
 pub accepted-number : (ph : Phase) (k x d : ℕ) → accepts ph (named (event k x d)) ≡ true → numberOf ph k x ≡ 0
 accepted-number ph k x d ok = eqb-true _ _ (sym (accepts-number ph k x d) ∙ ok)
 
--- What holds of the chip that an accepted event leaves, and of the chip itself where the event is refused, holds after any event.
+-- What holds of the result of an accepted event, and of a refusal where the event is refused, holds of any event's.
+pub by-result : (P : Stepped → Bool → Type 0) (c : Chip) (e : Event)
+    → (accepts (c .phase) (named e) ≡ true → P (accepted (afterOf c (e .kind) (e .first) (e .second)) (byteGiven c (e .kind) (e .first))) true)
+    → ((n : ℕ) → P (refused c n) false) → P (stepped c e) (accepts (c .phase) (named e))
+by-result P c e taken left = go (accepts (c .phase) (named e)) refl
+  where
+    go : (b : Bool) → accepts (c .phase) (named e) ≡ b → P (stepped c e) b
+    go true ok = rw (step-accepts c (e .kind) (e .first) (e .second) (accepted-number (c .phase) (e .kind) (e .first) (e .second) ok)) (taken ok)
+    go false ok =
+        let number = accepts-number (c .phase) (e .kind) (e .first) (e .second) in
+        rw (step-refuses c (e .kind) (e .first) (e .second) (eqb-false _ _ (sym number ∙ ok))) (left (numberOf (c .phase) (e .kind) (e .first)))
+
+-- So it is with the chip that is left.
 pub by-outcome : (P : Chip → Bool → Type 0) (c : Chip) (e : Event)
     → (accepts (c .phase) (named e) ≡ true → P (afterOf c (e .kind) (e .first) (e .second)) true) → P c false
     → P (stepped c e .chip) (accepts (c .phase) (named e))
-by-outcome P c e accepted refused = go (accepts (c .phase) (named e)) refl
-  where
-    go : (b : Bool) → accepts (c .phase) (named e) ≡ b → P (stepped c e .chip) b
-    go true ok = rw (step-accepts c (e .kind) (e .first) (e .second) (accepted-number (c .phase) (e .kind) (e .first) (e .second) ok)) (accepted ok)
-    go false ok =
-        let number = accepts-number (c .phase) (e .kind) (e .first) (e .second) in
-        rw (step-refuses c (e .kind) (e .first) (e .second) (eqb-false _ _ (sym number ∙ ok))) (refused)
+by-outcome P c e taken left = by-result (λ r ok. P (r .chip) ok) c e taken (λ n. left)

@@ -1,0 +1,73 @@
+-- Demand 2: over every history, from every chip and from every power-up, all that can be seen of the chip is what the account says.
+-- Rests on Agrees, Views and Numbers, on the step's ByKind and Outcome, and on fates' Accepted.
+use mathlib.Core.Path.{_≡_, _∙_, refl, ap, sym}
+use mathlib.Core.Bool.{Bool, true, false, cond}
+use mathlib.Core.List.{List, [], _∷_}
+use Prim.Native.Nat.{ℕ}
+use Rattle.chip.specs.declared.Chip.{Chip}
+use Rattle.chip.specs.declared.Levels.{Levels}
+use Rattle.chip.specs.State.{powerUpWith}
+use Rattle.step.specs.Step.{byteGiven}
+use Rattle.step.proofs.ByKind.{by-kind}
+use Rattle.step.proofs.Outcome.{step-number}
+use Rattle.laws.specs.History.{Event, event, stepped}
+use Rattle.fates.specs.Kinds.{named, accepts}
+use Rattle.fates.specs.Promise.{run}
+use Rattle.fates.proofs.Accepted.{no-kind-accepted, by-result}
+use Rattle.account.specs.Acts.{numberBy}
+use Rattle.account.specs.Account.{Account, next, opened}
+use Rattle.account.specs.Views.{byteOf, byteGiven as Account·byteGiven}
+use Rattle.account.specs.Promise.{told, accountOf, Accounted}
+use Rattle.account.proofs.Agrees.{Agrees, agrees-of, agrees-opened, agrees-next}
+use Rattle.account.proofs.Views.{intr-same, levels-shown, mask-shown, read-answered}
+use Rattle.account.proofs.Numbers.{number-same}
+
+module _ (c : Chip) (a : Account) (k : Agrees c a) where
+  pub number-told : (e : Event) → stepped c e .number ≡ numberBy (a .around .phase) (named e)
+  number-told e =
+      step-number c (e .kind) (e .first) (e .second) ∙ number-same (c .phase) (e .kind) (e .first) (e .second)
+      ∙ sym (ap (λ r. numberBy (r .phase) (named e)) (k .around))
+
+  -- The byte of an accepted event.
+  abbrev Answers : Event → Type 0
+  Answers e = accepts (c .phase) (named e) ≡ true → byteGiven c (e .kind) (e .first) ≡ byteOf a (named e)
+
+  answers : (n x d : ℕ) → Answers (event n x d)
+  answers n x d =
+      by-kind (λ n. Answers (event n x d))
+      (λ ok. refl)
+      (λ ok. read-answered c a k x)
+      (λ ok. refl)
+      (λ ok. refl)
+      (λ ok. refl)
+      (λ n none ok. absurd (no-kind-accepted (c .phase) n x d none ok))
+      n
+
+  pub byte-told : (e : Event) → stepped c e .byte ≡ Account·byteGiven a e
+  byte-told e =
+      by-result (λ r ok. r .byte ≡ cond ok (byteOf a (named e)) 0) c e (answers (e .kind) (e .first) (e .second)) (λ n. refl)
+      ∙ sym (ap (λ r. cond (accepts (r .phase) (named e)) (byteOf a (named e)) 0) (k .around))
+
+agrees-told : (es : List Event) (c : Chip) (a : Account) → Agrees c a → Agrees (run c es) (told a es)
+agrees-told [] c a k = k
+agrees-told (e ∷ es) c a k = agrees-told es (stepped c e .chip) (next a e) (agrees-next c a e k)
+
+accounted : (c : Chip) (a : Account) (es : List Event) → Agrees c a → Accounted c a es
+accounted c a es start =
+    let k = agrees-told es c a start in
+    record {
+      number = number-told (run c es) (told a es) k;
+      byte = byte-told (run c es) (told a es) k;
+      levels = levels-shown (run c es) (told a es) k;
+      driven = mask-shown (run c es) (told a es) k;
+      reads = read-answered (run c es) (told a es) k;
+      interrupt = intr-same (run c es) (told a es) k;
+    }
+
+-- From any chip, reached by a history or not.
+pub account-from : (c : Chip) (es : List Event) → Accounted c (accountOf c) es
+account-from c es = accounted c (accountOf c) es (agrees-of c)
+
+-- From power-up, under any levels.
+pub account : (l : Levels) (es : List Event) → Accounted (powerUpWith l) (opened l) es
+account l es = accounted (powerUpWith l) (opened l) es (agrees-opened l)

@@ -1,0 +1,130 @@
+-- An account that agrees with a chip goes on to agree with it.
+-- Rests on ByEvent, Pins, Ports and Waves, and on fates' Surroundings.
+use mathlib.Core.Path.{_≡_, _∙_, refl, ap, sym, subst}
+use mathlib.Core.Bool.{Bool, true, false, not, _&&_, and-false}
+use Prim.Native.Nat.{ℕ, _<_}
+use Rattle.bits.specs.Bit.{bitOf}
+use Rattle.bits.proofs.Tested.{bits}
+use Rattle.control.specs.declared.Group.{Group}
+use Rattle.control.specs.declared.Group.the-variants.{A, B}
+use Rattle.channel.specs.declared.Side.{Side}
+use Rattle.channel.specs.declared.Side.the-variants.{Input, Output}
+use Rattle.chip.specs.declared.Core.{Core}
+use Rattle.chip.specs.declared.Chip.{Chip}
+use Rattle.chip.specs.declared.Levels.{Levels}
+use Rattle.chip.specs.State.{powerUpWith, channelOf}
+use Rattle.chip.specs.Handshakes.{strobed, enableOf}
+use Rattle.laws.specs.History.{Event, stepped}
+use Rattle.fates.specs.Around.{atPowerUp, aroundNext}
+use Rattle.fates.specs.Deeds.{strobePin}
+use Rattle.fates.specs.Promise.{aroundOf}
+use Rattle.fates.proofs.Surroundings.{around-next}
+use Rattle.account.specs.Summary.{Signal, io, STB, ACK, signalAt}
+use Rattle.account.specs.Account.{Account, strobed as Account·strobed, line, served, next, opened}
+use Rattle.account.specs.Promise.{counted, aroundHere, bitHere, flagHere, accountOf}
+use Rattle.account.proofs.Tables.{signal-alike, counted-alike, strobe-stands, acknowledge-stands, takes-same, gives-same}
+use Rattle.account.proofs.ByEvent.{seven, seven-next}
+use Rattle.account.proofs.Pins.{bit-next}
+use Rattle.account.proofs.Moves.{full, vacant}
+use Rattle.account.proofs.Ports.{takes-here, gives-here, output-next, obf-next, input-next, ibf-next}
+use Rattle.account.proofs.Waves.{Even, even-next}
+
+-- The account has what the chip has.
+pub record Agrees (c : Chip) (a : Account) : Type 0 where
+  pub around : a .around ≡ aroundHere c
+  pub bit : (n : ℕ) → n < 8 → a .bit n ≡ bitHere (c .core) n (signalAt (c .core .word) n)
+  pub output : (g : Group) → a .output g ≡ channelOf (c .core) g Output .latch
+  pub input : (g : Group) → a .input g ≡ channelOf (c .core) g Input .latch
+  pub ibf : (g : Group) → a .ibf g ≡ full (channelOf (c .core) g Input)
+  pub obf : (g : Group) → a .obf g ≡ vacant (channelOf (c .core) g Output)
+  pub even : Even a
+
+-- The surroundings, with bit 7 of the word counted as set.
+here-next : (c : Chip) (e : Event) → aroundHere (stepped c e .chip) ≡ aroundNext (aroundHere c) e
+here-next c e = ap seven (around-next c e) ∙ seven-next (aroundOf c) e
+
+pub agrees-next : (c : Chip) (a : Account) (e : Event) → Agrees c a → Agrees (stepped c e .chip) (next a e)
+agrees-next c a e k = record {
+  around = rw (k .around) (sym (here-next c e));
+  bit = λ n hn. rw (k .around, k .bit n hn) (bit-next c n hn e);
+  output = λ g. rw (k .around, k .output g) (sym (output-next c g e));
+  input = λ g. rw (k .around, k .input g) (sym (input-next c g e));
+  ibf = λ g. rw (k .around, k .ibf g) (sym (ibf-next c g e));
+  obf = λ g. rw (k .around, k .obf g) (sym (obf-next c g e));
+  even = even-next a (k .even) e;
+}
+
+-- The bit at the line of a strobed channel is its enable.
+pub line-bit : (c : Core) (g : Group) (s : Side) → strobed (c .word) g s ≡ true → bitHere c (strobePin g s) (signalAt (c .word) (strobePin g s)) ≡ enableOf (c .inte) g s
+line-bit c g Input on = ap (bitHere c (strobePin g Input)) (strobe-stands (c .word) g (takes-same (c .word) g ∙ on))
+line-bit c g Output on = ap (bitHere c (strobePin g Output)) (acknowledge-stands (c .word) g (gives-same (c .word) g ∙ on))
+
+-- Two conjunctions that agree where the first part holds.
+within : (s p q r : Bool) → (s ≡ true → q ≡ p) → (s && (p && r)) ≡ (s && (q && r))
+within true p q r same = rw (same refl)
+within false p q r same = refl
+
+-- The account of a chip as it stands agrees with it.
+module _ (c : Chip) where
+  abbrev w : ℕ
+  w = c .core .word
+
+  here : (n : ℕ) → signalAt (counted w) n ≡ signalAt w n
+  here n = signal-alike (counted w) w (counted-alike w) n
+
+  line-here : (g : Group) (s : Side) → strobed w g s ≡ true → accountOf c .bit (strobePin g s) ≡ enableOf (c .core .inte) g s
+  line-here g s on = ap (bitHere (c .core) (strobePin g s)) (here (strobePin g s)) ∙ line-bit (c .core) g s on
+
+  -- What a half asks for beside its enable.
+  abbrev others : Group → Side → Bool
+  others g s = flagHere (c .core) g s && (line (aroundHere c) g s && not (served (aroundHere c) g s))
+
+  even-here : Even (accountOf c)
+  even-here g Input =
+      within (Account·strobed (aroundHere c) g Input) (enableOf (c .core .inte) g Input) (accountOf c .bit (strobePin g Input)) (others g Input)
+      (λ on. line-here g Input (sym (takes-here w g) ∙ on))
+  even-here g Output =
+      within (Account·strobed (aroundHere c) g Output) (enableOf (c .core .inte) g Output) (accountOf c .bit (strobePin g Output)) (others g Output)
+      (λ on. line-here g Output (sym (gives-here w g) ∙ on))
+
+  pub agrees-of : Agrees c (accountOf c)
+  agrees-of = record {
+    around = refl;
+    bit = λ n hn. ap (bitHere (c .core) n) (here n);
+    output = λ g. refl;
+    input = λ g. refl;
+    ibf = λ g. refl;
+    obf = λ g. refl;
+    even = even-here;
+  }
+
+-- So does the account that is opened at power-up.
+pub agrees-opened : (l : Levels) → Agrees (powerUpWith l) (opened l)
+unfolding bitOf
+agrees-opened l = record {
+  around = refl;
+  bit = bits 8 (λ n. false) (λ n. bitHere (powerUpWith l .core) n (signalAt 0x9b n)) tt;
+  output = zeros Output;
+  input = zeros Input;
+  ibf = empty;
+  obf = room;
+  even = low;
+}
+  where
+    zeros : (s : Side) (g : Group) → 0 ≡ channelOf (powerUpWith l .core) g s .latch
+    zeros Input A = refl
+    zeros Input B = refl
+    zeros Output A = refl
+    zeros Output B = refl
+
+    empty : (g : Group) → false ≡ full (channelOf (powerUpWith l .core) g Input)
+    empty A = refl
+    empty B = refl
+
+    room : (g : Group) → true ≡ vacant (channelOf (powerUpWith l .core) g Output)
+    room A = refl
+    room B = refl
+
+    low : Even (opened l)
+    low g Input = sym (and-false (Account·strobed (atPowerUp l) g Input))
+    low g Output = sym (and-false (Account·strobed (atPowerUp l) g Output))

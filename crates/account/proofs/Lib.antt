@@ -1,0 +1,15 @@
+pub mod Tables
+pub mod Truth
+pub mod ByEvent
+pub mod Waves
+pub mod ByAct
+pub mod Kept
+pub mod Pins
+pub mod Moves
+pub mod Ports
+pub mod Agrees
+pub mod Views
+pub mod Numbers
+pub mod Account
+pub mod Script
+pub mod WholeCase

@@ -1,0 +1,136 @@
+-- The latches of ports A and B, IBF and OBF go on as the account says.
+-- Rests on ByAct, Tables and Moves, on the channel's Left, chip's OnPort and Surrounded, settings', reads' and levels' After, and fates' Tables.
+use mathlib.Core.Path.{_≡_, _∙_, refl, ap, sym}
+use mathlib.Core.Bool.{false, not, _&&_, and-true, and-false}
+use Prim.Native.Nat.{ℕ}
+use lib.Dec.{eqb}
+use Rattle.bits.specs.Bit.{bitOf}
+use Rattle.control.specs.declared.Group.{Group}
+use Rattle.control.specs.declared.Group.the-variants.{A, B}
+use Rattle.control.specs.Mode.{strobedInput, strobedOutput, outputOf}
+use Rattle.control.proofs.Strobed.{giving-is-output}
+use Rattle.channel.specs.declared.Side.the-variants.{Input, Output}
+use Rattle.channel.proofs.Left.{clear-empties, clear-zeroes}
+use Rattle.chip.specs.declared.Port.{Port}
+use Rattle.chip.specs.declared.Core.{Core}
+use Rattle.chip.specs.declared.Chip.{Chip}
+use Rattle.chip.specs.State.{portOf, channelOf}
+use Rattle.chip.specs.Handshakes.{ownAddress, lineOf}
+use Rattle.chip.proofs.OnPort.{lines-not-own, control-not-own, port-on}
+use Rattle.chip.proofs.Surrounded.{spared-port}
+use Rattle.settings.specs.Commanded.{commanded}
+use Rattle.settings.proofs.After.{renewed-channel, bit-spares}
+use Rattle.reads.proofs.After.{begun-input, begun-output, ended-input, ended-output}
+use Rattle.writes.specs.Write.{storedBy}
+use Rattle.levels.specs.Levels.{fallen, lineFalls, letsThrough}
+use Rattle.levels.proofs.After.{levelled-input, levelled-output}
+use Rattle.laws.specs.History.{Event, stepped}
+use Rattle.fates.specs.Deeds.{levelsOn, strobePin}
+use Rattle.fates.proofs.Tables.{own-same, line-same}
+use Rattle.account.specs.Summary.{columnOf, takes, gives, keeps}
+use Rattle.account.specs.Acts.{act}
+use Rattle.account.specs.Account.{outputAfter, inputAfter, ibfAfter, obfAfter}
+use Rattle.account.specs.Promise.{counted, aroundHere}
+use Rattle.account.proofs.Tables.{column-alike, counted-alike, takes-same, gives-same, keeps-same}
+use Rattle.account.proofs.ByAct.{latched, by-act}
+use Rattle.account.proofs.Moves.{full, vacant, written-input, written-latch, written-vacant, begun-full, begun-latch, ended-full, ended-latch, under-latch, under-full, taken-latch, taken-vacant}
+
+-- A column of the summary under a word whose bit 7 counts as set.
+pub takes-here : (w : ℕ) (g : Group) → takes (columnOf (counted w) g) ≡ strobedInput w g
+takes-here w g = ap takes (column-alike (counted w) w (counted-alike w) g) ∙ takes-same w g
+
+pub gives-here : (w : ℕ) (g : Group) → gives (columnOf (counted w) g) ≡ strobedOutput w g
+gives-here w g = ap gives (column-alike (counted w) w (counted-alike w) g) ∙ gives-same w g
+
+pub keeps-here : (w : ℕ) (g : Group) → keeps (columnOf (counted w) g) ≡ outputOf w g
+keeps-here w g = ap keeps (column-alike (counted w) w (counted-alike w) g) ∙ keeps-same w g
+
+pub outside-here : (c : Chip) (g : Group) → levelsOn g (aroundHere c) ≡ portOf (c .core) g .outside
+outside-here c A = refl
+outside-here c B = refl
+
+latched-port : (c : Core) (d : ℕ) (g : Group) → portOf (latched c d) g ≡ portOf c g
+latched-port c d A = refl
+latched-port c d B = refl
+
+module _ (c : Chip) (g : Group) where
+  abbrev core : Core
+  core = c .core
+
+  abbrev w : ℕ
+  w = core .word
+
+  spared : (d : ℕ) → bitOf d 7 ≡ false → portOf (commanded core d) g ≡ portOf core g
+  spared d seven = spared-port (bit-spares core d seven) g
+
+  abbrev storing : ℕ → Group → Port → Port
+  storing d g p = storedBy p w g d
+
+  pub output-next : (e : Event)
+      → channelOf (stepped c e .chip .core) g Output .latch ≡ outputAfter (aroundHere c) g (channelOf core g Output .latch) (act (c .phase) e)
+  unfolding storedBy
+  output-next =
+      by-act (λ c′ t. channelOf c′ g Output .latch ≡ outputAfter (aroundHere c) g (channelOf core g Output .latch) t) c
+      refl
+      (λ v. rw (renewed-channel core v g Output) (clear-zeroes (channelOf core g Output)))
+      (λ x. rw (begun-output core x g))
+      (λ x. rw (ended-output core x g))
+      (λ x. refl)
+      (λ x d three seven. rw (spared d seven, own-same x g, control-not-own x three g))
+      (λ x d two. rw (latched-port core d g, own-same x g, lines-not-own x two g))
+      (λ x d two three. rw (port-on core x (storing d) g, own-same x g, keeps-here w g)
+      (written-latch (portOf core g) d (ownAddress x g) (outputOf w g) (strobedOutput w g)))
+      (λ x d. rw (levelled-output core x d g) (taken-latch (channelOf core g Output) (eqb x 2 && lineFalls core d g Output)))
+
+  pub obf-next : (e : Event)
+      → vacant (channelOf (stepped c e .chip .core) g Output) ≡ obfAfter (aroundHere c) g (vacant (channelOf core g Output)) (act (c .phase) e)
+  unfolding storedBy fallen
+  obf-next =
+      by-act (λ c′ t. vacant (channelOf c′ g Output) ≡ obfAfter (aroundHere c) g (vacant (channelOf core g Output)) t) c
+      refl
+      (λ v. rw (renewed-channel core v g Output, clear-empties (channelOf core g Output)))
+      (λ x. rw (begun-output core x g))
+      (λ x. rw (ended-output core x g))
+      (λ x. refl)
+      (λ x d three seven. rw (spared d seven, own-same x g, control-not-own x three g) (sym (and-true (vacant (channelOf core g Output)))))
+      (λ x d two. rw (latched-port core d g, own-same x g, lines-not-own x two g) (sym (and-true (vacant (channelOf core g Output)))))
+      (λ x d two three. rw (port-on core x (storing d) g, own-same x g, gives-here w g)
+      (written-vacant (portOf core g) d (ownAddress x g) (outputOf w g) (strobedOutput w g) (giving-is-output w g)))
+      (λ x d. rw (levelled-output core x d g, gives-here w g, line-same g Output)
+      (taken-vacant (channelOf core g Output) (eqb x 2) (strobedOutput w g) (fallen (core .c .outside) d (lineOf g Output))))
+
+  pub input-next : (e : Event)
+      → channelOf (stepped c e .chip .core) g Input .latch ≡ inputAfter (aroundHere c) g (channelOf core g Input .latch) (act (c .phase) e)
+  unfolding storedBy fallen
+  input-next =
+      by-act (λ c′ t. channelOf c′ g Input .latch ≡ inputAfter (aroundHere c) g (channelOf core g Input .latch) t) c
+      refl
+      (λ v. rw (renewed-channel core v g Input) (clear-zeroes (channelOf core g Input)))
+      (λ x. rw (begun-input core x g) (begun-latch (channelOf core g Input) (strobedInput w g && ownAddress x g)))
+      (λ x. rw (ended-input core x g) (ended-latch (channelOf core g Input) (strobedInput w g && ownAddress x g)))
+      (λ x. refl)
+      (λ x d three seven. rw (spared d seven))
+      (λ x d two. rw (latched-port core d g))
+      (λ x d two three. rw (port-on core x (storing d) g)
+      (ap (λ ch. ch .latch) (written-input (portOf core g) d (ownAddress x g) (outputOf w g) (strobedOutput w g))))
+      (λ x d. rw (levelled-input core x d g, takes-here w g, line-same g Input, own-same x g, outside-here c g)
+      (under-latch (channelOf core g Input) (portOf core g .outside) d (eqb x 2) (strobedInput w g) (fallen (core .c .outside) d (lineOf g Input))
+      (ownAddress x g) (not (bitOf (core .c .outside) (lineOf g Input)))))
+
+  pub ibf-next : (e : Event)
+      → full (channelOf (stepped c e .chip .core) g Input) ≡ ibfAfter (aroundHere c) g (full (channelOf core g Input)) (act (c .phase) e)
+  unfolding storedBy fallen
+  ibf-next =
+      by-act (λ c′ t. full (channelOf c′ g Input) ≡ ibfAfter (aroundHere c) g (full (channelOf core g Input)) t) c
+      refl
+      (λ v. rw (renewed-channel core v g Input, clear-empties (channelOf core g Input)))
+      (λ x. rw (begun-input core x g) (begun-full (channelOf core g Input) (strobedInput w g && ownAddress x g)))
+      (λ x. rw (ended-input core x g, takes-here w g, own-same x g) (ended-full (channelOf core g Input) (strobedInput w g) (ownAddress x g)))
+      (λ x. refl)
+      (λ x d three seven. rw (spared d seven))
+      (λ x d two. rw (latched-port core d g))
+      (λ x d two three. rw (port-on core x (storing d) g)
+      (ap full (written-input (portOf core g) d (ownAddress x g) (outputOf w g) (strobedOutput w g))))
+      (λ x d. rw (levelled-input core x d g, takes-here w g, line-same g Input)
+      (under-full (channelOf core g Input) (portOf core g .outside) d (eqb x 2) (strobedInput w g) (fallen (core .c .outside) d (lineOf g Input))
+      (ownAddress x g && letsThrough core g)))

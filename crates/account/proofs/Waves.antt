@@ -1,0 +1,134 @@
+-- INTR's waveform is the sheet's equation: a half is up exactly while INTE, the flag and the line are high and the port is not being served.
+-- Rests on ByEvent, Tables and Truth.
+use mathlib.Core.Path.{_≡_, _∙_, refl, ap, sym, subst}
+use mathlib.Core.Bool.{Bool, true, false, cond, not, _&&_, _||_, and-false, and-true}
+use Prim.Native.Nat.{ℕ}
+use lib.Dec.{T, eqb}
+use borrow.Author.Tests.{eqb-true}
+use Rattle.bits.specs.Bit.{bitOf}
+use Rattle.control.specs.declared.Group.{Group}
+use Rattle.control.specs.declared.Group.the-variants.{A, B}
+use Rattle.channel.specs.declared.Side.{Side}
+use Rattle.channel.specs.declared.Side.the-variants.{Input, Output}
+use Rattle.chip.specs.declared.Phase.the-variants.{Idle, Reading, Writing}
+use Rattle.chip.proofs.OnPort.{control-not-own}
+use Rattle.laws.specs.History.{Event}
+use Rattle.fates.specs.Kinds.{newLevels}
+use Rattle.fates.specs.Around.{Around, aroundAfter, aroundNext}
+use Rattle.fates.specs.Deeds.{portNumber, strobePin, falls}
+use Rattle.fates.proofs.Tables.{own-same}
+use Rattle.account.specs.Summary.{signalAt, isIn, settable, reached, pinNamed}
+use Rattle.account.specs.Acts.{Act, nothing, anew, readBegins, readEnds, writeBegins, written, levels, act}
+use Rattle.account.specs.Account.{Account, strobed, line, names, bitAfter, flag, served, withLine, withEnable, asksAfter, accountAfter, next}
+use Rattle.account.proofs.Tables.{strobe-stands, acknowledge-stands}
+use Rattle.account.proofs.Truth.{truth}
+use Rattle.account.proofs.ByEvent.{onBus, by-event}
+
+-- The sheet's equation.
+abbrev pub equation : Account → Group → Side → Bool
+equation a g s = strobed (a .around) g s && (a .bit (strobePin g s) && (flag a g s && (line (a .around) g s && not (served (a .around) g s))))
+
+-- The account's waveforms keep to it.
+abbrev pub Even : Account → Type 0
+Even a = (g : Group) (s : Side) → a .asks g s ≡ equation a g s
+
+-- The line of a strobed channel can be put by a control word, and by no write to port C.
+line-settable : (a : Around) (g : Group) (s : Side) → strobed a g s ≡ true
+    → settable (signalAt (a .word) (strobePin g s)) (isIn (a .word) (strobePin g s)) ≡ true
+line-settable a g Input on = rw (strobe-stands (a .word) g on)
+line-settable a g Output on = rw (acknowledge-stands (a .word) g on)
+
+line-unreached : (a : Around) (g : Group) (s : Side) → strobed a g s ≡ true → reached (a .word) (strobePin g s) ≡ false
+line-unreached a g Input on = rw (strobe-stands (a .word) g on)
+line-unreached a g Output on = rw (acknowledge-stands (a .word) g on)
+
+chosen : (two : Bool) (d l n : ℕ) → bitOf (cond two d l) n ≡ cond two (bitOf d n) (bitOf l n)
+chosen true d l n = refl
+chosen false d l n = refl
+
+-- What a write that ends and new levels make of a half, in truth values: s strobed, b INTE, f flag, l line and h its new level, v served; n a
+-- control word names the line, p what it puts; e a write to port C, u its bit, q and r what reaches the line; o the port's own write.
+put : (s n p q e r u b f l : Bool) → (s ≡ true → q ≡ true) → (s ≡ true → r ≡ false)
+    → cond n (p && (s && (f && l))) (s && (b && (f && (l && true)))) ≡ s && (cond (n && q) p (cond (e && r) u b) && (f && (l && true)))
+put true n p q e r u b f l can none =
+    rw (can refl, none refl)
+    (truth 7 (λ n p e u b f l. cond n (p && (true && (f && l))) (true && (b && (f && (l && true)))))
+    (λ n p e u b f l. true && (cond (n && true) p (cond (e && false) u b) && (f && (l && true)))) tt n p e u b f l)
+put false n p q e r u b f l can none = truth 2 (λ n p. cond n (p && false) false) (λ n p. false) tt n p
+
+put-own : (s n p q e r u b f l o : Bool) → (s ≡ true → q ≡ true) → (s ≡ true → r ≡ false) → (n && o) ≡ false
+    → cond n (p && (s && (f && l))) (s && (b && (f && (l && not o)))) ≡ s && (cond (n && q) p (cond (e && r) u b) && ((f && not (o && s)) && (l && true)))
+put-own true n p q e r u b f l true can none apart =
+    rw (sym (and-true n) ∙ apart, and-false f)
+    (truth 4 (λ b f l c. b && (f && (l && false))) (λ b f l c. c && false) tt b f l (cond (e && r) u b))
+put-own true n p q e r u b f l false can none apart =
+    rw (and-true f) (put true n p q e r u b f l can none)
+put-own false n p q e r u b f l o can none apart = truth 2 (λ n p. cond n (p && false) false) (λ n p. false) tt n p
+
+lined : (two s b f l h v : Bool)
+    → cond two (h && cond l (s && (b && (f && (l && not v)))) (s && (b && (f && not v)))) (s && (b && (f && (l && not v))))
+    ≡ s && (b && ((f || (s && (two && (l && not h)))) && (cond two h l && not v)))
+lined =
+    truth 7 (λ two s b f l h v. cond two (h && cond l (s && (b && (f && (l && not v)))) (s && (b && (f && not v)))) (s && (b && (f && (l && not v)))))
+    (λ two s b f l h v. s && (b && ((f || (s && (two && (l && not h)))) && (cond two h l && not v)))) tt
+
+-- A write to control is no port's own.
+control-elsewhere : (x d n : ℕ) (g : Group) → (names x d n && eqb x (portNumber g)) ≡ false
+control-elsewhere x d n g = go (eqb x 3) refl
+  where
+    go : (three : Bool) → eqb x 3 ≡ three → ((three && eqb n (pinNamed d)) && eqb x (portNumber g)) ≡ false
+    go true e = rw (own-same x g, control-not-own x e g) (and-false (eqb n (pinNamed d)))
+    go false e = refl
+
+module _ (a : Account) (even : Even a) where
+  abbrev Goes : Around → Act → Type 0
+  Goes later t = (g : Group) (s : Side) → asksAfter a g s t ≡ equation (accountAfter a later t) g s
+
+  even-renewed : (w : ℕ) → Goes (onBus Idle w (a .around)) anew
+  even-renewed w g Input = sym (and-false (strobed (onBus Idle w (a .around)) g Input))
+  even-renewed w g Output = sym (and-false (strobed (onBus Idle w (a .around)) g Output))
+
+  even-read : (x : ℕ) → a .around .phase ≡ Idle → Goes (onBus (Reading x) (a .around .word) (a .around)) (readBegins x)
+  even-read x phase g Input =
+      rw (even g Input, phase)
+      (truth 5 (λ s b f l o. (s && (b && (f && (l && true)))) && not o) (λ s b f l o. s && (b && (f && (l && not o)))) tt
+      (strobed (a .around) g Input) (a .bit (strobePin g Input)) (a .ibf g) (line (a .around) g Input) (eqb x (portNumber g)))
+  even-read x phase g Output = rw (even g Output, phase)
+
+  even-read-end : (x : ℕ) → a .around .phase ≡ Reading x → Goes (onBus Idle (a .around .word) (a .around)) (readEnds x)
+  even-read-end x phase g Input =
+      rw (even g Input, phase)
+      (truth 5 (λ s b f l o. s && (b && (f && (l && not o)))) (λ s b f l o. s && (b && ((f && not (o && s)) && (l && true)))) tt
+      (strobed (a .around) g Input) (a .bit (strobePin g Input)) (a .ibf g) (line (a .around) g Input) (eqb x (portNumber g)))
+  even-read-end x phase g Output = rw (even g Output, phase)
+
+  even-write : (x d : ℕ) → a .around .phase ≡ Idle → Goes (onBus (Writing x d) (a .around .word) (a .around)) (writeBegins x)
+  even-write x d phase g Input = rw (even g Input, phase)
+  even-write x d phase g Output =
+      rw (even g Output, phase)
+      (truth 5 (λ s b f l o. (s && (b && (f && (l && true)))) && not o) (λ s b f l o. s && (b && (f && (l && not o)))) tt
+      (strobed (a .around) g Output) (a .bit (strobePin g Output)) (a .obf g) (line (a .around) g Output) (eqb x (portNumber g)))
+
+  even-written : (x d : ℕ) → a .around .phase ≡ Writing x d → Goes (onBus Idle (a .around .word) (a .around)) (written x d)
+  even-written x d phase g Input =
+      rw (even g Input, phase)
+      (put (strobed (a .around) g Input) (names x d (strobePin g Input)) (bitOf d 0) _ (eqb x 2) _ (bitOf d (strobePin g Input))
+      (a .bit (strobePin g Input)) (a .ibf g) (line (a .around) g Input) (line-settable (a .around) g Input) (line-unreached (a .around) g Input))
+  even-written x d phase g Output =
+      rw (even g Output, phase)
+      (put-own (strobed (a .around) g Output) (names x d (strobePin g Output)) (bitOf d 0) _ (eqb x 2) _ (bitOf d (strobePin g Output))
+      (a .bit (strobePin g Output)) (a .obf g) (line (a .around) g Output) (eqb x (portNumber g))
+      (line-settable (a .around) g Output) (line-unreached (a .around) g Output) (control-elsewhere x d (strobePin g Output) g))
+
+  even-levels : (x d : ℕ) → Goes (aroundAfter (a .around) (newLevels x d)) (levels x d)
+  even-levels x d g Input =
+      rw (even g Input, chosen (eqb x 2) d (a .around .levelsC) (strobePin g Input))
+      (lined (eqb x 2) (strobed (a .around) g Input) (a .bit (strobePin g Input)) (a .ibf g) (line (a .around) g Input)
+      (bitOf d (strobePin g Input)) (served (a .around) g Input))
+  even-levels x d g Output =
+      rw (even g Output, chosen (eqb x 2) d (a .around .levelsC) (strobePin g Output))
+      (lined (eqb x 2) (strobed (a .around) g Output) (a .bit (strobePin g Output)) (a .obf g) (line (a .around) g Output)
+      (bitOf d (strobePin g Output)) (served (a .around) g Output))
+
+  pub even-next : (e : Event) → Even (next a e)
+  even-next e = by-event Goes (a .around) even even-renewed even-read even-read-end even-write even-written even-levels e

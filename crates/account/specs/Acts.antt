@@ -1,0 +1,49 @@
+-- What an event comes to, and its number ("Events and numbers"): the end of a cycle is what the cycle was, and a refused event is nothing.
+use mathlib.Core.Bool.{Bool, cond}
+use mathlib.Core.List.{List, [], _∷_}
+use Prim.Native.Nat.{ℕ}
+use lib.ListN.{getD}
+use Rattle.chip.specs.declared.Phase.{Phase}
+use Rattle.chip.specs.declared.Phase.the-variants.{Idle, Reading, Writing}
+use Rattle.laws.specs.History.{Event}
+use Rattle.fates.specs.Kinds.{Named, reset, cycleEnded, unknown, readBegun, writeBegun, newLevels, named, free, accepts}
+use Rattle.fates.specs.Around.{ofModeWord}
+
+-- `anew`: a reset, or the end of a mode word's write. `readBegins x`, `readEnds x`: RD falls, and rises, at the address x. `writeBegins x`,
+-- `written x d`: WR falls, and rises with the byte d, which is no mode word. `levels x d`: the levels d come onto port x.
+pub data Act : Type 0 where
+  nothing anew : Act
+  readBegins readEnds writeBegins : ℕ → Act
+  written levels : ℕ → ℕ → Act
+
+-- The end of the cycle that runs.
+abbrev pub ending : Phase → Act
+ending Idle = nothing
+ending (Reading x) = readEnds x
+ending (Writing x d) = cond (ofModeWord (Writing x d)) anew (written x d)
+
+-- An accepted event.
+abbrev pub actOf : Phase → Named → Act
+actOf ph reset = anew
+actOf ph (readBegun x) = readBegins x
+actOf ph cycleEnded = ending ph
+actOf ph (writeBegun x d) = writeBegins x
+actOf ph (newLevels x d) = levels x d
+actOf ph unknown = nothing
+
+-- Any event.
+abbrev pub act : Phase → Event → Act
+act ph e = cond (accepts ph (named e)) (actOf ph (named e)) nothing
+
+-- A cycle that would begin: 4 where another runs.
+abbrev pub begun : Phase → ℕ
+begun ph = cond (free ph) 0 4
+
+-- The number of an event, place by place: A, B, C and control; 2 is for every place that there is not, whatever runs.
+abbrev pub numberBy : Phase → Named → ℕ
+numberBy ph reset = 0
+numberBy ph (readBegun x) = getD (begun ph ∷ begun ph ∷ begun ph ∷ 3 ∷ []) x 2
+numberBy ph cycleEnded = cond (free ph) 5 0
+numberBy ph (writeBegun x d) = getD (begun ph ∷ begun ph ∷ begun ph ∷ begun ph ∷ []) x 2
+numberBy ph (newLevels x d) = getD (0 ∷ 0 ∷ 0 ∷ []) x 2
+numberBy ph unknown = 1

@@ -1,0 +1,87 @@
+-- Demand 2: what is promised of the chip's numbers, bytes, pins, reads and interrupts, by the account of a history.
+use mathlib.Core.Path.{_≡_}
+use mathlib.Core.Bool.{Bool, false, cond, not, _&&_}
+use mathlib.Core.List.{List, [], _∷_}
+use Prim.Native.Nat.{ℕ, _+_}
+use Rattle.bits.specs.Bit.{bitOf}
+use Rattle.control.specs.declared.Group.{Group}
+use Rattle.control.specs.declared.Group.the-variants.{A, B}
+use Rattle.channel.specs.declared.Side.{Side}
+use Rattle.channel.specs.declared.Side.the-variants.{Input, Output}
+use Rattle.channel.specs.Channel.{isWaiting, isEmpty}
+use Rattle.chip.specs.declared.Chip.{Chip}
+use Rattle.chip.specs.declared.Core.{Core}
+use Rattle.chip.specs.State.{channelOf}
+use Rattle.chip.specs.Handshakes.{enableOf}
+use Rattle.status.specs.Status.{intrOf}
+use Rattle.ports.specs.Reads.{readOf}
+use Rattle.ports.specs.Pins.{pinsOf}
+use Rattle.laws.specs.History.{Event, stepped}
+use Rattle.fates.specs.Kinds.{named}
+use Rattle.fates.specs.Around.{Around}
+use Rattle.fates.specs.Deeds.{strobePin}
+use Rattle.fates.specs.Promise.{run, aroundOf}
+use Rattle.account.specs.Summary.{Signal, io, INTR, IBF, OBF, STB, ACK, signalAt}
+use Rattle.account.specs.Acts.{numberBy}
+use Rattle.account.specs.Account.{Account, strobed, line, served, next}
+use Rattle.account.specs.Views.{intr, levelsShown, maskShown, readAnswer, byteGiven}
+
+-- The account after a history.
+abbrev pub told : Account → List Event → Account
+told a [] = a
+told a (e ∷ es) = told (next a e) es
+
+-- Where a history begins from a chip as it stands, reached by a history or not, bit 7 of its mode word counts as set ("Events and numbers").
+abbrev pub counted : ℕ → ℕ
+counted w = cond (bitOf w 7) w (w + 128)
+
+abbrev pub aroundHere : Chip → Around
+aroundHere c = record {
+  phase = c .phase;
+  word = counted (c .core .word);
+  levelsA = c .core .a .outside;
+  levelsB = c .core .b .outside;
+  levelsC = c .core .c .outside;
+}
+
+-- The bit that it has at a pin, by what the pin is.
+abbrev pub bitHere : Core → ℕ → Signal → Bool
+bitHere c n io = bitOf (c .c .latch) n
+bitHere c n (INTR g) = false
+bitHere c n (IBF g) = false
+bitHere c n (OBF g) = false
+bitHere c n (STB g) = enableOf (c .inte) g Input
+bitHere c n (ACK g) = enableOf (c .inte) g Output
+
+-- Its flags; an output marked fetching counts as empty.
+abbrev pub flagHere : Core → Group → Side → Bool
+flagHere c g Input = not (isEmpty (channelOf c g Input .fill))
+flagHere c g Output = not (isWaiting (channelOf c g Output .fill))
+
+-- A half of its INTR, by the sheet's equation: INTE, the flag and the line are high, and the port is not being served.
+abbrev pub asksHere : Chip → Group → Side → Bool
+asksHere c g s =
+    strobed (aroundHere c) g s
+    && (enableOf (c .core .inte) g s && (flagHere (c .core) g s && (line (aroundHere c) g s && not (served (aroundHere c) g s))))
+
+-- The account with which such a history begins.
+abbrev pub accountOf : Chip → Account
+accountOf c = record {
+  around = aroundHere c;
+  bit = λ n. bitHere (c .core) n (signalAt (counted (c .core .word)) n);
+  output = λ g. channelOf (c .core) g Output .latch;
+  input = λ g. channelOf (c .core) g Input .latch;
+  ibf = λ g. flagHere (c .core) g Input;
+  obf = λ g. flagHere (c .core) g Output;
+  asks = asksHere c;
+}
+
+-- What is promised after the events es from the chip c, where a is the account of their beginning: the number and the byte of whatever event
+-- comes next, and of each port the levels, the mask of the pins that the chip drives and the answer of a read; and both INTRs.
+pub record Accounted (c : Chip) (a : Account) (es : List Event) : Type 0 where
+  pub number : (e : Event) → stepped (run c es) e .number ≡ numberBy (told a es .around .phase) (named e)
+  pub byte : (e : Event) → stepped (run c es) e .byte ≡ byteGiven (told a es) e
+  pub levels : (p : ℕ) → pinsOf (run c es) p .levels ≡ levelsShown (told a es) p
+  pub driven : (p : ℕ) → pinsOf (run c es) p .driven ≡ maskShown (told a es) p
+  pub reads : (p : ℕ) → readOf (run c es) p ≡ readAnswer (told a es) p
+  pub interrupt : (g : Group) → intrOf (run c es) g ≡ intr (told a es) g
