@@ -1,7 +1,7 @@
 -- Demand 2: over every history, from every chip and from every power-up, all that can be seen of the chip is what the account says.
--- Rests on Agrees, Views and Numbers, on the step's ByKind and Outcome, and on fates' Accepted.
+-- Rests on Agrees, Views, Interrupts, Reasons and Numbers, on the step's ByKind and Outcome, and on fates' Accepted.
 use mathlib.Core.Path.{_≡_, _∙_, refl, ap, sym}
-use mathlib.Core.Bool.{Bool, true, false, cond}
+use mathlib.Core.Bool.{true, cond}
 use mathlib.Core.List.{List, [], _∷_}
 use Prim.Native.Nat.{ℕ}
 use Rattle.chip.specs.declared.Chip.{Chip}
@@ -19,7 +19,9 @@ use Rattle.account.specs.Account.{Account, next, opened}
 use Rattle.account.specs.Views.{byteOf, byteGiven as Account·byteGiven}
 use Rattle.account.specs.Promise.{told, accountOf, Accounted}
 use Rattle.account.proofs.Agrees.{Agrees, agrees-of, agrees-opened, agrees-next}
-use Rattle.account.proofs.Views.{intr-same, levels-shown, mask-shown, read-answered}
+use Rattle.account.proofs.Interrupts.{intr-same}
+use Rattle.account.proofs.Reasons.{explained-same}
+use Rattle.account.proofs.Views.{levels-shown, mask-shown, read-answered}
 use Rattle.account.proofs.Numbers.{number-same}
 
 module _ (c : Chip) (a : Account) (k : Agrees c a) where
@@ -48,11 +50,12 @@ module _ (c : Chip) (a : Account) (k : Agrees c a) where
       by-result (λ r ok. r .byte ≡ cond ok (byteOf a (named e)) 0) c e (answers (e .kind) (e .first) (e .second)) (λ n. refl)
       ∙ sym (ap (λ r. cond (accepts (r .phase) (named e)) (byteOf a (named e)) 0) (k .around))
 
+-- Over a history.
 agrees-told : (es : List Event) (c : Chip) (a : Account) → Agrees c a → Agrees (run c es) (told a es)
 agrees-told [] c a k = k
 agrees-told (e ∷ es) c a k = agrees-told es (stepped c e .chip) (next a e) (agrees-next c a e k)
 
-accounted : (c : Chip) (a : Account) (es : List Event) → Agrees c a → Accounted c a es
+pub accounted : (c : Chip) (a : Account) (es : List Event) → Agrees c a → Accounted c a es
 accounted c a es start =
     let k = agrees-told es c a start in
     record {
@@ -62,6 +65,7 @@ accounted c a es start =
       driven = mask-shown (run c es) (told a es) k;
       reads = read-answered (run c es) (told a es) k;
       interrupt = intr-same (run c es) (told a es) k;
+      explains = explained-same (run c es) (told a es) k;
     }
 
 -- From any chip, reached by a history or not.

@@ -1,6 +1,6 @@
 -- An account that agrees with a chip goes on to agree with it.
 -- Rests on ByEvent, Pins, Ports and Waves, and on fates' Surroundings.
-use mathlib.Core.Path.{_≡_, _∙_, refl, ap, sym, subst}
+use mathlib.Core.Path.{_≡_, _∙_, refl, ap, sym}
 use mathlib.Core.Bool.{Bool, true, false, not, _&&_, and-false}
 use Prim.Native.Nat.{ℕ, _<_}
 use Rattle.bits.specs.Bit.{bitOf}
@@ -19,14 +19,16 @@ use Rattle.fates.specs.Around.{atPowerUp, aroundNext}
 use Rattle.fates.specs.Deeds.{strobePin}
 use Rattle.fates.specs.Promise.{aroundOf}
 use Rattle.fates.proofs.Surroundings.{around-next}
-use Rattle.account.specs.Summary.{Signal, io, STB, ACK, signalAt}
+use Rattle.account.specs.Summary.{signalAt}
 use Rattle.account.specs.Account.{Account, strobed as Account·strobed, line, served, next, opened}
 use Rattle.account.specs.Promise.{counted, aroundHere, bitHere, flagHere, accountOf}
-use Rattle.account.proofs.Tables.{signal-alike, counted-alike, strobe-stands, acknowledge-stands, takes-same, gives-same}
+use Rattle.account.proofs.Words.{signal-alike, counted-alike}
+use Rattle.account.proofs.Columns.{takes-same, gives-same, takes-here, gives-here}
+use Rattle.account.proofs.Signals.{strobe-stands, acknowledge-stands}
 use Rattle.account.proofs.ByEvent.{seven, seven-next}
 use Rattle.account.proofs.Pins.{bit-next}
 use Rattle.account.proofs.Moves.{full, vacant}
-use Rattle.account.proofs.Ports.{takes-here, gives-here, output-next, obf-next, input-next, ibf-next}
+use Rattle.account.proofs.Ports.{output-next, obf-next, input-next, ibf-next}
 use Rattle.account.proofs.Waves.{Even, even-next}
 
 -- The account has what the chip has.

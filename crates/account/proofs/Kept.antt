@@ -13,7 +13,6 @@ use Rattle.chip.proofs.OnPort.{word-on, lines-on, enables-on}
 use Rattle.reads.specs.Read.{fetchedFrom, doneWith, begunRead, endedRead}
 use Rattle.writes.specs.Write.{storedBy}
 use Rattle.levels.specs.Levels.{letsThrough, levelledPort, levelledLines, levelled}
-use Rattle.levels.proofs.After.{levelled-word}
 use Rattle.account.proofs.ByAct.{stored}
 
 -- The mode word, port C's latch and the enables are the same.

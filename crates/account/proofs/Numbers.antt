@@ -7,7 +7,7 @@ use native.Mathlib.Omega.{arith}
 use borrow.Author.Tests.{lt-ltb}
 use Rattle.chip.specs.declared.Phase.{Phase}
 use Rattle.chip.specs.declared.Phase.the-variants.{Idle, Reading, Writing}
-use Rattle.step.specs.Numbers.{isBusy, noKind, numberOf}
+use Rattle.step.specs.Numbers.{isBusy, numberOf}
 use Rattle.step.proofs.ByKind.{by-kind}
 use Rattle.laws.specs.History.{event}
 use Rattle.fates.specs.Kinds.{cycleEnded, readBegun, writeBegun, newLevels, named}

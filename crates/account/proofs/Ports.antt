@@ -1,7 +1,7 @@
 -- The latches of ports A and B, IBF and OBF go on as the account says.
--- Rests on ByAct, Tables and Moves, on the channel's Left, chip's OnPort and Surrounded, settings', reads' and levels' After, and fates' Tables.
-use mathlib.Core.Path.{_≡_, _∙_, refl, ap, sym}
-use mathlib.Core.Bool.{false, not, _&&_, and-true, and-false}
+-- Rests on ByAct, Columns and Moves, on the channel's Left, chip's OnPort and Surrounded, settings', reads' and levels' After, and fates' Tables.
+use mathlib.Core.Path.{_≡_, refl, ap, sym}
+use mathlib.Core.Bool.{false, not, _&&_, and-true}
 use Prim.Native.Nat.{ℕ}
 use lib.Dec.{eqb}
 use Rattle.bits.specs.Bit.{bitOf}
@@ -25,25 +25,14 @@ use Rattle.writes.specs.Write.{storedBy}
 use Rattle.levels.specs.Levels.{fallen, lineFalls, letsThrough}
 use Rattle.levels.proofs.After.{levelled-input, levelled-output}
 use Rattle.laws.specs.History.{Event, stepped}
-use Rattle.fates.specs.Deeds.{levelsOn, strobePin}
+use Rattle.fates.specs.Deeds.{levelsOn}
 use Rattle.fates.proofs.Tables.{own-same, line-same}
-use Rattle.account.specs.Summary.{columnOf, takes, gives, keeps}
 use Rattle.account.specs.Acts.{act}
 use Rattle.account.specs.Account.{outputAfter, inputAfter, ibfAfter, obfAfter}
-use Rattle.account.specs.Promise.{counted, aroundHere}
-use Rattle.account.proofs.Tables.{column-alike, counted-alike, takes-same, gives-same, keeps-same}
+use Rattle.account.specs.Promise.{aroundHere}
+use Rattle.account.proofs.Columns.{takes-here, gives-here, keeps-here}
 use Rattle.account.proofs.ByAct.{latched, by-act}
 use Rattle.account.proofs.Moves.{full, vacant, written-input, written-latch, written-vacant, begun-full, begun-latch, ended-full, ended-latch, under-latch, under-full, taken-latch, taken-vacant}
-
--- A column of the summary under a word whose bit 7 counts as set.
-pub takes-here : (w : ℕ) (g : Group) → takes (columnOf (counted w) g) ≡ strobedInput w g
-takes-here w g = ap takes (column-alike (counted w) w (counted-alike w) g) ∙ takes-same w g
-
-pub gives-here : (w : ℕ) (g : Group) → gives (columnOf (counted w) g) ≡ strobedOutput w g
-gives-here w g = ap gives (column-alike (counted w) w (counted-alike w) g) ∙ gives-same w g
-
-pub keeps-here : (w : ℕ) (g : Group) → keeps (columnOf (counted w) g) ≡ outputOf w g
-keeps-here w g = ap keeps (column-alike (counted w) w (counted-alike w) g) ∙ keeps-same w g
 
 pub outside-here : (c : Chip) (g : Group) → levelsOn g (aroundHere c) ≡ portOf (c .core) g .outside
 outside-here c A = refl

@@ -1,7 +1,7 @@
 -- What is seen of a chip is what an account that agrees with it shows.
--- Rests on Agrees, Tables and Ports, and on bits' BitLaws.
+-- Rests on Here, Interrupts, Columns and Signals, and on bits' BitLaws.
 use mathlib.Core.Path.{_≡_, _∙_, refl, ap, ap₂, sym}
-use mathlib.Core.Bool.{Bool, true, false, cond, not, _&&_, _||_}
+use mathlib.Core.Bool.{Bool, true, false, cond, not}
 use Prim.Native.Nat.{ℕ, zero, suc, _+_, _*_, _<_}
 use native.Mathlib.Omega.{arith}
 use lib.Dec.{eqb, lit<}
@@ -10,31 +10,26 @@ use Rattle.bits.specs.Bit.{bitOf, num, valueOf, assembled}
 use Rattle.bits.proofs.BitLaws.{assembled-same}
 use Rattle.control.specs.declared.Group.{Group}
 use Rattle.control.specs.declared.Group.the-variants.{A, B}
-use Rattle.control.specs.Mode.{strobedInput, strobedOutput}
 use Rattle.roles.specs.Role.{roleOf}
 use Rattle.roles.specs.Role
 use Rattle.channel.specs.declared.Side.{Side}
 use Rattle.channel.specs.declared.Side.the-variants.{Input, Output}
 use Rattle.channel.specs.Channel.{flagOf}
-use Rattle.chip.specs.declared.Phase.{Phase}
-use Rattle.chip.specs.declared.Phase.the-variants.{Idle, Reading, Writing}
 use Rattle.chip.specs.declared.Chip.{Chip}
-use Rattle.chip.specs.State.{portOf, channelOf}
-use Rattle.chip.specs.Handshakes.{strobed, groupAt, enableOf, reading, writing}
-use Rattle.status.specs.Status.{flagAt, requestOf, intrOf}
+use Rattle.chip.specs.State.{portOf}
+use Rattle.chip.specs.Handshakes.{groupAt, enableOf}
 use Rattle.ports.specs.Reads.{readPort, readAs, readLines, readOf}
 use Rattle.ports.specs.Pins.{drivesPort, pinsOfPort, isDriven, levelAs, pinsOfLines, pinsOf}
-use Rattle.fates.specs.Deeds.{levelsOn, strobePin, readRuns, writeRuns}
-use Rattle.fates.proofs.Tables.{own-same, line-same as pin-same}
-use Rattle.account.specs.Summary.{Column, plainIn, plainOut, strobedIn, strobedOut, bothWays, columnOf, takes, gives, keeps, Signal, io, INTR, IBF, OBF, STB, ACK, signalAt, isIn, driven}
+use Rattle.fates.specs.Deeds.{strobePin}
+use Rattle.account.specs.Summary.{Column, plainIn, plainOut, strobedIn, strobedOut, bothWays, columnOf, takes, keeps, Signal, io, INTR, IBF, OBF, STB, ACK, signalAt, isIn, driven}
 use Rattle.account.specs.Account.{Account}
-use Rattle.account.specs.Views.{intr, portRead, drives, driving, portLevels, toldOf, told, pinDriven, pinLevel, byteBy, levelsShown, maskShown, readAnswer}
-use Rattle.account.specs.Promise.{counted, bitHere}
-use Rattle.account.proofs.Tables.{column-alike, signal-alike, in-alike, counted-alike, roleBy, role-same, takes-same, gives-same, keeps-same, isTwo, two-same, by-signal, columnB}
-use Rattle.account.proofs.Ports.{takes-here, gives-here, outside-here}
-use Rattle.account.proofs.Truth.{truth}
-use Rattle.account.proofs.Moves.{full, vacant}
-use Rattle.account.proofs.Agrees.{Agrees, line-bit}
+use Rattle.account.specs.Views.{portRead, drives, driving, portLevels, toldOf, told, pinDriven, pinLevel, byteBy, levelsShown, maskShown, readAnswer}
+use Rattle.account.specs.Promise.{bitHere}
+use Rattle.account.proofs.Columns.{takes-same, keeps-same, isTwo, two-same, columnB}
+use Rattle.account.proofs.Signals.{roleBy, role-same, by-signal}
+use Rattle.account.proofs.Agrees.{Agrees}
+use Rattle.account.proofs.Here.{column-here, signal-here, in-here, lines-here, levels-here}
+use Rattle.account.proofs.Interrupts.{intr-same}
 
 -- Eight bits, as the chip's definitions put them together and as the account does.
 eight : (b₀ b₁ b₂ b₃ b₄ b₅ b₆ b₇ : ℕ)
@@ -49,33 +44,9 @@ byte-is f = eight (num (f 0)) (num (f 1)) (num (f 2)) (num (f 3)) (num (f 4)) (n
 byte-same : (f h : ℕ → Bool) → ((n : ℕ) → n < 8 → f n ≡ h n) → assembled f ≡ byteBy h
 byte-same f h same = assembled-same f h same ∙ byte-is h
 
--- The cycle that serves a channel is its own.
-read-runs : (ph : Phase) (g : Group) → reading ph g ≡ readRuns g ph
-read-runs Idle g = refl
-read-runs (Reading x) g = sym (own-same x g)
-read-runs (Writing x d) g = refl
-
-write-runs : (ph : Phase) (g : Group) → writing ph g ≡ writeRuns g ph
-write-runs Idle g = refl
-write-runs (Reading x) g = refl
-write-runs (Writing x d) g = sym (own-same x g)
-
--- A request as the chip has it, s strobed, e enabled, f flag, l line, v served, and as the account has it.
-request : (s e b f l v : Bool) → (s ≡ true → b ≡ e) → (s && e && f && l && not v) ≡ (s && (b && (f && (l && not v))))
-request true e b f l v same =
-    rw (same refl) (truth 4 (λ e f l v. true && e && f && l && not v) (λ e f l v. true && (e && (f && (l && not v)))) tt e f l v)
-request false e b f l v same = truth 4 (λ e f l v. false && e && f && l && not v) (λ e f l v. false) tt e f l v
-
 -- Above 2 there is no port.
 no-port : (p k : ℕ) → k < 3 → eqb (suc (suc (suc p))) k ≡ false
 no-port p k h = ne-eqb (suc (suc (suc p))) k (λ e. omega (arith, e, h))
-
--- The pins of the lines.
-pin-below : (g : Group) (s : Side) → strobePin g s < 8
-pin-below A Input = lit< tt
-pin-below A Output = lit< tt
-pin-below B Input = lit< tt
-pin-below B Output = lit< tt
 
 group-at : (g : Group) (s : Side) → groupAt (strobePin g s) ≡ g
 group-at A Input = refl
@@ -87,49 +58,14 @@ module _ (c : Chip) (a : Account) (k : Agrees c a) where
   abbrev w : ℕ
   w = c .core .word
 
-  -- The account's table is that of the chip's own word.
-  column-here : (g : Group) → columnOf (a .around .word) g ≡ columnOf w g
-  column-here g = ap (λ r. columnOf (r .word) g) (k .around) ∙ column-alike (counted w) w (counted-alike w) g
-
-  signal-here : (n : ℕ) → signalAt (a .around .word) n ≡ signalAt w n
-  signal-here n = ap (λ r. signalAt (r .word) n) (k .around) ∙ signal-alike (counted w) w (counted-alike w) n
-
-  in-here : (n : ℕ) → isIn (a .around .word) n ≡ isIn w n
-  in-here n = ap (λ r. isIn (r .word) n) (k .around) ∙ in-alike (counted w) w (counted-alike w) n
-
-  lines-here : (n : ℕ) → bitOf (a .around .levelsC) n ≡ bitOf (c .core .c .outside) n
-  lines-here n = ap (λ r. bitOf (r .levelsC) n) (k .around)
-
-  levels-here : (g : Group) → levelsOn g (a .around) ≡ portOf (c .core) g .outside
-  levels-here g = ap (levelsOn g) (k .around) ∙ outside-here c g
-
-  -- INTR, by the sheet's equation.
-  line-same : (g : Group) (s : Side) → strobed w g s ≡ true → a .bit (strobePin g s) ≡ enableOf (c .core .inte) g s
-  line-same g s on = k .bit (strobePin g s) (pin-below g s) ∙ line-bit (c .core) g s on
-
-  request-same : (g : Group) (s : Side) → requestOf c g s ≡ a .asks g s
-  unfolding requestOf flagOf
-  request-same g Input =
-      rw (k .even g Input, k .around, takes-here w g, ← pin-same g Input, k .ibf g, read-runs (c .phase) g)
-      (request (strobedInput w g) (enableOf (c .core .inte) g Input) (a .bit (strobePin g Input)) (full (channelOf (c .core) g Input))
-      (bitOf (c .core .c .outside) (strobePin g Input)) (readRuns g (c .phase)) (line-same g Input))
-  request-same g Output =
-      rw (k .even g Output, k .around, gives-here w g, ← pin-same g Output, k .obf g, write-runs (c .phase) g)
-      (request (strobedOutput w g) (enableOf (c .core .inte) g Output) (a .bit (strobePin g Output)) (vacant (channelOf (c .core) g Output))
-      (bitOf (c .core .c .outside) (strobePin g Output)) (writeRuns g (c .phase)) (line-same g Output))
-
-  pub intr-same : (g : Group) → intrOf c g ≡ intr a g
-  unfolding intrOf
-  intr-same g = rw (request-same g Input, request-same g Output)
-
   -- Ports A and B, column by column.
   read-same : (g : Group) → readPort w g (portOf (c .core) g) ≡ portRead a g (columnOf (a .around .word) g)
   unfolding readPort
-  read-same g = rw (column-here g, ← takes-same w g, ← keeps-same w g) (go (columnOf w g))
+  read-same g = rw (column-here c a k g, ← takes-same w g, ← keeps-same w g) (go (columnOf w g))
     where
       go : (col : Column)
           → cond (takes col) (portOf (c .core) g .input .latch) (cond (keeps col) (portOf (c .core) g .output .latch) (portOf (c .core) g .outside)) ≡ portRead a g col
-      go plainIn = sym (levels-here g)
+      go plainIn = sym (levels-here c a k g)
       go plainOut = sym (k .output g)
       go strobedIn = sym (k .input g)
       go strobedOut = sym (k .output g)
@@ -137,15 +73,15 @@ module _ (c : Chip) (a : Account) (k : Agrees c a) where
 
   drives-same : (g : Group) → drivesPort (c .core) g ≡ driving a g
   unfolding drivesPort
-  drives-same A = rw (column-here A, ← two-same w, ← keeps-same w A) (go (columnOf w A))
+  drives-same A = rw (column-here c a k A, ← two-same w A, ← keeps-same w A) (go (columnOf w A))
     where
       go : (col : Column) → cond (isTwo col) (not (bitOf (c .core .c .outside) 6)) (keeps col) ≡ drives (a .around) A col
       go plainIn = refl
       go plainOut = refl
       go strobedIn = refl
       go strobedOut = refl
-      go bothWays = ap not (sym (lines-here 6))
-  drives-same B = rw (column-here B, ← keeps-same w B) (go (bitOf w 2) (bitOf w 1))
+      go bothWays = ap not (sym (lines-here c a k 6))
+  drives-same B = rw (column-here c a k B, ← keeps-same w B) (go (bitOf w 2) (bitOf w 1))
     where
       go : (one taking : Bool) → keeps (columnB one taking) ≡ drives (a .around) B (columnB one taking)
       go true true = refl
@@ -155,7 +91,7 @@ module _ (c : Chip) (a : Account) (k : Agrees c a) where
 
   levels-same : (g : Group) → pinsOfPort (portOf (c .core) g) (drivesPort (c .core) g) .levels ≡ portLevels a g
   unfolding pinsOfPort
-  levels-same g = rw (drives-same g, k .output g, levels-here g)
+  levels-same g = rw (drives-same g, k .output g, levels-here c a k g)
 
   mask-same : (g : Group) → pinsOfPort (portOf (c .core) g) (drivesPort (c .core) g) .driven ≡ cond (driving a g) 0xff 0
   unfolding pinsOfPort
@@ -166,7 +102,7 @@ module _ (c : Chip) (a : Account) (k : Agrees c a) where
   Told n r = signalAt w n ≡ r → readAs c n (roleBy r (isIn w n)) ≡ toldOf a n r
 
   told-free : (n : ℕ) → n < 8 → Told n io
-  told-free n hn free = rw (in-here n, lines-here n, k .bit n hn ∙ ap (bitHere (c .core) n) free) (go (isIn w n))
+  told-free n hn free = rw (in-here c a k n, lines-here c a k n, k .bit n hn ∙ ap (bitHere (c .core) n) free) (go (isIn w n))
     where
       go : (inward : Bool) → readAs c n (cond inward Role.input Role.output) ≡ cond inward (bitOf (c .core .c .outside) n) (bitOf (c .core .c .latch) n)
       go true = refl
@@ -181,16 +117,16 @@ module _ (c : Chip) (a : Account) (k : Agrees c a) where
   told-same n hn =
       ap (readAs c n) (role-same w n hn)
       ∙ by-signal (Told n) n (told-free n hn)
-      (λ e. intr-same (groupAt n)) (λ e. sym (k .ibf (groupAt n))) (λ e. sym (k .obf (groupAt n)))
+      (λ e. intr-same c a k (groupAt n)) (λ e. sym (k .ibf (groupAt n))) (λ e. sym (k .obf (groupAt n)))
       (λ g at e. told-line n hn g Input at (STB g) e refl)
       (λ g at e. told-line n hn g Output at (ACK g) e refl)
       w hn refl
-      ∙ sym (ap (toldOf a n) (signal-here n))
+      ∙ sym (ap (toldOf a n) (signal-here c a k n))
 
   driven-same : (n : ℕ) → n < 8 → isDriven (roleOf w n) ≡ pinDriven a n
   driven-same n hn =
       ap isDriven (role-same w n hn) ∙ go (signalAt w n) (isIn w n)
-      ∙ sym (ap₂ driven (signal-here n) (in-here n))
+      ∙ sym (ap₂ driven (signal-here c a k n) (in-here c a k n))
     where
       go : (r : Signal) (inward : Bool) → isDriven (roleBy r inward) ≡ driven r inward
       go io true = refl
@@ -202,7 +138,7 @@ module _ (c : Chip) (a : Account) (k : Agrees c a) where
       go (ACK g) inward = refl
 
   level-same : (n : ℕ) → n < 8 → levelAs c n (roleOf w n) ≡ pinLevel a n
-  level-same n hn = cc (driven-same n hn, told-same n hn, lines-here n)
+  level-same n hn = cc (driven-same n hn, told-same n hn, lines-here c a k n)
 
   -- Each port, and what is none.
   pub levels-shown : (p : ℕ) → pinsOf c p .levels ≡ levelsShown a p

@@ -1,26 +1,24 @@
 -- INTR's waveform is the sheet's equation: a half is up exactly while INTE, the flag and the line are high and the port is not being served.
 -- Rests on ByEvent, Tables and Truth.
-use mathlib.Core.Path.{_≡_, _∙_, refl, ap, sym, subst}
+use mathlib.Core.Path.{_≡_, _∙_, refl, sym}
 use mathlib.Core.Bool.{Bool, true, false, cond, not, _&&_, _||_, and-false, and-true}
 use Prim.Native.Nat.{ℕ}
-use lib.Dec.{T, eqb}
-use borrow.Author.Tests.{eqb-true}
+use lib.Dec.{eqb}
 use Rattle.bits.specs.Bit.{bitOf}
 use Rattle.control.specs.declared.Group.{Group}
-use Rattle.control.specs.declared.Group.the-variants.{A, B}
 use Rattle.channel.specs.declared.Side.{Side}
 use Rattle.channel.specs.declared.Side.the-variants.{Input, Output}
 use Rattle.chip.specs.declared.Phase.the-variants.{Idle, Reading, Writing}
 use Rattle.chip.proofs.OnPort.{control-not-own}
 use Rattle.laws.specs.History.{Event}
 use Rattle.fates.specs.Kinds.{newLevels}
-use Rattle.fates.specs.Around.{Around, aroundAfter, aroundNext}
-use Rattle.fates.specs.Deeds.{portNumber, strobePin, falls}
+use Rattle.fates.specs.Around.{Around, aroundAfter}
+use Rattle.fates.specs.Deeds.{portNumber, strobePin}
 use Rattle.fates.proofs.Tables.{own-same}
 use Rattle.account.specs.Summary.{signalAt, isIn, settable, reached, pinNamed}
-use Rattle.account.specs.Acts.{Act, nothing, anew, readBegins, readEnds, writeBegins, written, levels, act}
-use Rattle.account.specs.Account.{Account, strobed, line, names, bitAfter, flag, served, withLine, withEnable, asksAfter, accountAfter, next}
-use Rattle.account.proofs.Tables.{strobe-stands, acknowledge-stands}
+use Rattle.account.specs.Acts.{Act, anew, readBegins, readEnds, writeBegins, written, levels}
+use Rattle.account.specs.Account.{Account, strobed, line, names, flag, served, asksAfter, accountAfter, next}
+use Rattle.account.proofs.Signals.{strobe-stands, acknowledge-stands}
 use Rattle.account.proofs.Truth.{truth}
 use Rattle.account.proofs.ByEvent.{onBus, by-event}
 

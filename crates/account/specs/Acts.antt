@@ -1,6 +1,6 @@
 -- What an event comes to, and its number ("Events and numbers"): the end of a cycle is what the cycle was, and a refused event is nothing.
-use mathlib.Core.Bool.{Bool, cond}
-use mathlib.Core.List.{List, [], _∷_}
+use mathlib.Core.Bool.{cond}
+use mathlib.Core.List.{[], _∷_}
 use Prim.Native.Nat.{ℕ}
 use lib.ListN.{getD}
 use Rattle.chip.specs.declared.Phase.{Phase}

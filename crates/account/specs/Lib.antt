@@ -2,6 +2,8 @@ pub mod Summary
 pub mod Acts
 pub mod Account
 pub mod Views
+pub mod Reasons
 pub mod Promise
+pub mod Unreached
 pub mod Script
 pub mod WholeCase

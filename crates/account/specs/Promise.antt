@@ -5,7 +5,6 @@ use mathlib.Core.List.{List, [], _∷_}
 use Prim.Native.Nat.{ℕ, _+_}
 use Rattle.bits.specs.Bit.{bitOf}
 use Rattle.control.specs.declared.Group.{Group}
-use Rattle.control.specs.declared.Group.the-variants.{A, B}
 use Rattle.channel.specs.declared.Side.{Side}
 use Rattle.channel.specs.declared.Side.the-variants.{Input, Output}
 use Rattle.channel.specs.Channel.{isWaiting, isEmpty}
@@ -14,17 +13,18 @@ use Rattle.chip.specs.declared.Core.{Core}
 use Rattle.chip.specs.State.{channelOf}
 use Rattle.chip.specs.Handshakes.{enableOf}
 use Rattle.status.specs.Status.{intrOf}
+use Rattle.status.specs.Reasons.{explainedOf, numbersOf}
 use Rattle.ports.specs.Reads.{readOf}
 use Rattle.ports.specs.Pins.{pinsOf}
 use Rattle.laws.specs.History.{Event, stepped}
 use Rattle.fates.specs.Kinds.{named}
 use Rattle.fates.specs.Around.{Around}
-use Rattle.fates.specs.Deeds.{strobePin}
-use Rattle.fates.specs.Promise.{run, aroundOf}
+use Rattle.fates.specs.Promise.{run}
 use Rattle.account.specs.Summary.{Signal, io, INTR, IBF, OBF, STB, ACK, signalAt}
 use Rattle.account.specs.Acts.{numberBy}
 use Rattle.account.specs.Account.{Account, strobed, line, served, next}
 use Rattle.account.specs.Views.{intr, levelsShown, maskShown, readAnswer, byteGiven}
+use Rattle.account.specs.Reasons.{explained}
 
 -- The account after a history.
 abbrev pub told : Account → List Event → Account
@@ -77,7 +77,7 @@ accountOf c = record {
 }
 
 -- What is promised after the events es from the chip c, where a is the account of their beginning: the number and the byte of whatever event
--- comes next, and of each port the levels, the mask of the pins that the chip drives and the answer of a read; and both INTRs.
+-- comes next, and of each port the levels, the mask of the pins that the chip drives and the answer of a read; both INTRs, and why one is low.
 pub record Accounted (c : Chip) (a : Account) (es : List Event) : Type 0 where
   pub number : (e : Event) → stepped (run c es) e .number ≡ numberBy (told a es .around .phase) (named e)
   pub byte : (e : Event) → stepped (run c es) e .byte ≡ byteGiven (told a es) e
@@ -85,3 +85,4 @@ pub record Accounted (c : Chip) (a : Account) (es : List Event) : Type 0 where
   pub driven : (p : ℕ) → pinsOf (run c es) p .driven ≡ maskShown (told a es) p
   pub reads : (p : ℕ) → readOf (run c es) p ≡ readAnswer (told a es) p
   pub interrupt : (g : Group) → intrOf (run c es) g ≡ intr (told a es) g
+  pub explains : (n : ℕ) → numbersOf (explainedOf (run c es) n) ≡ explained (told a es) n

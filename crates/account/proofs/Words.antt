@@ -1,0 +1,59 @@
+-- Mode words with the same bits 0 to 6 have the same place in the summary; so bit 7 is asked for nothing.
+-- Rests on nothing.
+use mathlib.Core.Path.{_≡_, refl, ap₂}
+use mathlib.Core.Bool.{Bool, true, false, cond}
+use Prim.Native.Nat.{ℕ, zero, suc, _+_, _/_, _%_, _<_}
+use native.Mathlib.Omega.{arith}
+use lib.Dec.{lit<}
+use lib.ListN.{getD}
+use Rattle.bits.specs.Bit.{bitOf}
+use Rattle.control.specs.declared.Group.{Group}
+use Rattle.control.specs.declared.Group.the-variants.{A, B}
+use Rattle.account.specs.Summary.{Column, columnOf, io, summary, signalAt, isIn}
+use Rattle.account.specs.Promise.{counted}
+
+-- Words with the same bits 0 to 6.
+abbrev pub Alike : ℕ → ℕ → Type 0
+Alike u w = (k : ℕ) → k < 7 → bitOf u k ≡ bitOf w k
+
+module _ (u w : ℕ) (alike : Alike u w) where
+  pub column-alike : (g : Group) → columnOf u g ≡ columnOf w g
+  column-alike A = rw (alike 6 (lit< tt), alike 5 (lit< tt), alike 4 (lit< tt))
+  column-alike B = rw (alike 2 (lit< tt), alike 1 (lit< tt))
+
+  pub signal-alike : (n : ℕ) → signalAt u n ≡ signalAt w n
+  signal-alike n = ap₂ (λ (b a : Column). getD (summary b a) n io) (column-alike B) (column-alike A)
+
+  pub in-alike : (n : ℕ) → isIn u n ≡ isIn w n
+  in-alike n = rw (alike 0 (lit< tt), alike 3 (lit< tt))
+
+-- A number has the low bits of its lowest byte,
+pub byte-alike : (w : ℕ) → Alike (w % 256) w
+unfolding bitOf
+byte-alike w zero h = let e : w % 256 / 1 % 2 ≡ w / 1 % 2 = omega arith in rw (e)
+byte-alike w (suc zero) h = let e : w % 256 / 2 % 2 ≡ w / 2 % 2 = omega arith in rw (e)
+byte-alike w (suc (suc zero)) h = let e : w % 256 / 4 % 2 ≡ w / 4 % 2 = omega arith in rw (e)
+byte-alike w (suc (suc (suc zero))) h = let e : w % 256 / 8 % 2 ≡ w / 8 % 2 = omega arith in rw (e)
+byte-alike w (suc (suc (suc (suc zero)))) h = let e : w % 256 / 16 % 2 ≡ w / 16 % 2 = omega arith in rw (e)
+byte-alike w (suc (suc (suc (suc (suc zero))))) h = let e : w % 256 / 32 % 2 ≡ w / 32 % 2 = omega arith in rw (e)
+byte-alike w (suc (suc (suc (suc (suc (suc zero)))))) h = let e : w % 256 / 64 % 2 ≡ w / 64 % 2 = omega arith in rw (e)
+byte-alike w (suc (suc (suc (suc (suc (suc (suc k))))))) h = absurd (omega (arith, h))
+
+-- and keeps them where bit 7 is set.
+set-alike : (w : ℕ) → Alike (w + 128) w
+unfolding bitOf
+set-alike w zero h = let e : (w + 128) / 1 % 2 ≡ w / 1 % 2 = omega arith in rw (e)
+set-alike w (suc zero) h = let e : (w + 128) / 2 % 2 ≡ w / 2 % 2 = omega arith in rw (e)
+set-alike w (suc (suc zero)) h = let e : (w + 128) / 4 % 2 ≡ w / 4 % 2 = omega arith in rw (e)
+set-alike w (suc (suc (suc zero))) h = let e : (w + 128) / 8 % 2 ≡ w / 8 % 2 = omega arith in rw (e)
+set-alike w (suc (suc (suc (suc zero)))) h = let e : (w + 128) / 16 % 2 ≡ w / 16 % 2 = omega arith in rw (e)
+set-alike w (suc (suc (suc (suc (suc zero))))) h = let e : (w + 128) / 32 % 2 ≡ w / 32 % 2 = omega arith in rw (e)
+set-alike w (suc (suc (suc (suc (suc (suc zero)))))) h = let e : (w + 128) / 64 % 2 ≡ w / 64 % 2 = omega arith in rw (e)
+set-alike w (suc (suc (suc (suc (suc (suc (suc k))))))) h = absurd (omega (arith, h))
+
+pub counted-alike : (w : ℕ) → Alike (counted w) w
+counted-alike w k h = go (bitOf w 7)
+  where
+    go : (seven : Bool) → bitOf (cond seven w (w + 128)) k ≡ bitOf w k
+    go true = refl
+    go false = set-alike w k h
