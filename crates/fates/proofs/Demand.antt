@@ -1,9 +1,9 @@
 -- Demand 3: the promises of specs/Promise.antt and specs/Discipline.antt, from any chip and from every power-up.
--- Rests on Ordered, Counted, SameByte, ReadsRun and Discipline.
+-- Rests on Ordered, Counted, SameByte, InTheLatch, ReadsRun and Discipline.
 use mathlib.Core.Path.{_≡_, refl}
 use mathlib.Core.Bool.{Bool, true, false}
 use mathlib.Core.List.{List, _++_}
-use Prim.Native.Nat.{ℕ, _+_, _≤_}
+use Prim.Native.Nat.{ℕ, _≤_}
 use native.Mathlib.Omega.{arith}
 use Rattle.bits.specs.Bit.{num}
 use Rattle.control.specs.declared.Group.{Group}
@@ -24,6 +24,7 @@ use Rattle.fates.proofs.Ordered.{story-in-order}
 use Rattle.fates.proofs.Counted.{one-fate-each, tally-counts, offered-counts, waits-there}
 use Rattle.fates.proofs.ReadsRun.{refused}
 use Rattle.fates.proofs.SameByte.{as-offered}
+use Rattle.fates.proofs.InTheLatch.{new-held}
 use Rattle.fates.proofs.Discipline.{disciplined-from}
 
 -- What is one or none is at most one.
@@ -41,6 +42,7 @@ fates-from g s c small es =
       oneFateEach = one-fate-each (oldByte g s c es ++ newBytes g s c es);
       atMostOneWaits = at-most _ (isWaiting (channelOf (run c es .core) g s .fill)) waits;
       waitsInTheChip = waits;
+      heldInTheLatch = new-held g s c es;
       asOffered = as-offered g s c es;
       inOrder = story-in-order (channelOf (c .core) g s .fill) h 1 (deeds g s (aroundOf c) es) (omega arith);
       tallyOffered = offered-counts g s c 1 es (small .offered);
@@ -50,7 +52,7 @@ fates-from g s c small es =
       tallyCleared = tally-counts g s cleared refl c h 1 es (small .cleared);
     }
 
-none-counted : SixteenBits noTally
+pub none-counted : SixteenBits noTally
 none-counted = record { offered = omega arith; handed = omega arith; overwritten = omega arith; swallowed = omega arith; cleared = omega arith }
 
 -- From power-up, whatever the levels: no byte waits there and nothing has been counted.

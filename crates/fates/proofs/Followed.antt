@@ -13,9 +13,9 @@ use Rattle.chip.specs.declared.Chip.{Chip}
 use Rattle.chip.specs.State.{channelOf, tallyOf}
 use Rattle.laws.specs.History.{Event, stepped}
 use Rattle.fates.specs.Around.{aroundNext}
-use Rattle.fates.specs.Deeds.{Deed, strobes, deed, deeds}
+use Rattle.fates.specs.Deeds.{Deed, deed, deeds}
 use Rattle.fates.specs.Bytes.{Fate, waiting, Offer, Byte, same}
-use Rattle.fates.specs.Promise.{aroundOf}
+use Rattle.fates.specs.Promise.{aroundOf, handshakeAlone}
 use Rattle.fates.proofs.Story.{fillAfter, heldAfter, story, decided, story-step}
 use Rattle.fates.proofs.Moved.{moved-fill, latchAfter, moved-latch, tallyFor, gives, moved-tallies, offers, moved-offered}
 use Rattle.fates.proofs.Surroundings.{around-next}
@@ -52,11 +52,16 @@ module _ (g : Group) (s : Side) where
     pub next-offered : tallyOf (after c e) g s .offered ≡ next (offers (deedIn c e)) (tallyOf c g s .offered)
     next-offered = ap (λ t. t .offered) (follows c g s e .tally) ∙ moved-offered s (channelOf (c .core) g s) (deedIn c e)
 
-    pub next-latch : strobes (c .core .word) g s ≡ true → latch (after c e) ≡ latchAfter (latch c) (deedIn c e)
-    next-latch on = follows c g s e .latch on ∙ moved-latch s (channelOf (c .core) g s) (deedIn c e)
+    pub next-latch : handshakeAlone (c .core .word) g s ≡ true → latch (after c e) ≡ latchAfter (latch c) (deedIn c e)
+    next-latch alone = follows c g s e .latch alone ∙ moved-latch s (channelOf (c .core) g s) (deedIn c e)
 
-    -- What the event decides, and then the bytes from the chip that it leaves.
+    -- What the event decides, and then the bytes from the chip that it leaves, of a story that begins in any condition;
+    pub story-on : (f : Fill) (h : Offer) (n : ℕ) (es : List Event)
+        → story f h n (deeds g s (aroundOf c) (e ∷ es))
+        ≡ decided f h n (deedIn c e) ++ story (fillAfter s f (deedIn c e)) (heldAfter h n (deedIn c e)) (suc n) (deeds g s (aroundOf (after c e)) es)
+    story-on f h n es = rw (around-next c e) (story-step s f h n (deedIn c e) (deeds g s (aroundNext (aroundOf c) e) es))
+
+    -- and of the one that begins in the chip's.
     pub story-next : (h : Offer) (n : ℕ) (es : List Event)
         → storyOf c h n (e ∷ es) ≡ decided (fill c) h n (deedIn c e) ++ storyOf (after c e) (heldAfter h n (deedIn c e)) (suc n) es
-    story-next h n es =
-        rw (next-fill, around-next c e) (story-step s (fill c) h n (deedIn c e) (deeds g s (aroundNext (aroundOf c) e) es))
+    story-next h n es = rw (next-fill) (story-on (fill c) h n es)

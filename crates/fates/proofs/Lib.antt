@@ -10,9 +10,11 @@ pub mod Ordered
 pub mod Counted
 pub mod Shown
 pub mod SameByte
+pub mod InTheLatch
 pub mod ReadsRun
 pub mod Discipline
 pub mod Demand
+pub mod Balance
 pub mod OnlyFalls
 pub mod ScriptRun
 pub mod Examples

@@ -11,15 +11,15 @@ use Rattle.writes.specs.Write.{storedIn}
 use Rattle.fates.specs.Deeds.{Deed, offered, nothing, when}
 use Rattle.fates.proofs.Moved.{moved}
 
--- The channel ch′ is as ch says. Where the channel is not strobed, its latch may differ: a port that is a plain output has its latch
--- written and no byte offered.
-pub record Goes (on : Bool) (ch′ ch : Channel) : Type 0 where
+-- The channel ch′ is as ch says, and its latch too where the handshake alone fills it: a port that is a plain output has its latch written
+-- and no byte offered.
+pub record Goes (alone : Bool) (ch′ ch : Channel) : Type 0 where
   pub fill : ch′ .fill ≡ ch .fill
   pub tally : ch′ .tally ≡ ch .tally
-  pub latch : on ≡ true → ch′ .latch ≡ ch .latch
+  pub latch : alone ≡ true → ch′ .latch ≡ ch .latch
 
-pub goes : {on : Bool} {ch′ ch : Channel} → ch′ ≡ ch → Goes on ch′ ch
-goes e = record { fill = ap (λ ch. ch .fill) e; tally = ap (λ ch. ch .tally) e; latch = λ on. ap (λ ch. ch .latch) e }
+pub goes : {alone : Bool} {ch′ ch : Channel} → ch′ ≡ ch → Goes alone ch′ ch
+goes e = record { fill = ap (λ ch. ch .fill) e; tally = ap (λ ch. ch .tally) e; latch = λ alone. ap (λ ch. ch .latch) e }
 
 -- An event that is nothing to a channel leaves it.
 pub at-rest : (s : Side) (ch : Channel) (on : Bool) → ch ≡ moved s ch (when on nothing)

@@ -32,7 +32,7 @@ use Rattle.step.proofs.ByKind.{by-kind}
 use Rattle.laws.specs.History.{Event, event, stepped}
 use Rattle.fates.specs.Kinds.{Named, readBegun, cycleEnded, newLevels, named, accepts}
 use Rattle.fates.specs.Deeds.{offered, followed, taken, ended, nothing, levelsOn, strobes, when, ownDeed, deedOf, deed}
-use Rattle.fates.specs.Promise.{aroundOf}
+use Rattle.fates.specs.Promise.{aroundOf, handshakeAlone}
 use Rattle.fates.proofs.Tables.{own-same, line-same, strobes-same}
 use Rattle.fates.proofs.Accepted.{no-kind-accepted, by-outcome}
 use Rattle.fates.proofs.Moved.{moved}
@@ -42,12 +42,15 @@ module _ (c : Core) (g : Group) where
   abbrev on : Side → Bool
   on s = strobes (c .word) g s
 
+  abbrev alone : Side → Bool
+  alone s = handshakeAlone (c .word) g s
+
   -- The channel after an accepted event is what the event, in the history's words, makes of it.
   abbrev After : Phase → Side → Named → Core → Type 0
-  After ph s e c′ = Goes (on s) (channelOf c′ g s) (moved s (channelOf c g s) (deedOf g s (aroundOf (onBus ph c)) e))
+  After ph s e c′ = Goes (alone s) (channelOf c′ g s) (moved s (channelOf c g s) (deedOf g s (aroundOf (onBus ph c)) e))
 
   -- Nothing happens to the channel.
-  rests : (s : Side) → Goes (on s) (channelOf c g s) (moved s (channelOf c g s) (when (on s) nothing))
+  rests : (s : Side) → Goes (alone s) (channelOf c g s) (moved s (channelOf c g s) (when (on s) nothing))
   rests s = goes (at-rest s (channelOf c g s) (on s))
 
   begun : (ph : Phase) (s : Side) (x : ℕ) → After ph s (readBegun x) (begunRead c x)
@@ -59,7 +62,7 @@ module _ (c : Core) (g : Group) where
   -- The channel after the end of a write of d at the address x that is no mode word.
   abbrev AfterWrite : Side → ℕ → ℕ → Core → Type 0
   AfterWrite s x d c′ =
-      Goes (on s) (channelOf c′ g s) (moved s (channelOf c g s) (when (on s) (ownDeed g s (aroundOf (onBus (Writing x d) c)) cycleEnded)))
+      Goes (alone s) (channelOf c′ g s) (moved s (channelOf c g s) (when (on s) (ownDeed g s (aroundOf (onBus (Writing x d) c)) cycleEnded)))
 
   stored : (s : Side) (x d : ℕ) (c′ : Core) → Stored c′ c x d → AfterWrite s x d c′
   stored Input x d c′ k = rw (k .input g) (rests Input)
@@ -127,8 +130,8 @@ module _ (c : Chip) (g : Group) (s : Side) where
 
   -- The same of every event, accepted or refused.
   pub follows : (e : Event)
-      → Goes (strobes (c .core .word) g s) (channelOf (stepped c e .chip .core) g s) (moved s channel (deed g s (aroundOf c) e))
+      → Goes (handshakeAlone (c .core .word) g s) (channelOf (stepped c e .chip .core) g s) (moved s channel (deed g s (aroundOf c) e))
   follows e =
       by-outcome
-      (λ c′ ok. Goes (strobes (c .core .word) g s) (channelOf (c′ .core) g s) (moved s channel (when ok (deedOf g s (aroundOf c) (named e)))))
+      (λ c′ ok. Goes (handshakeAlone (c .core .word) g s) (channelOf (c′ .core) g s) (moved s channel (when ok (deedOf g s (aroundOf c) (named e)))))
       c e (follows-accepted (e .kind) (e .first) (e .second)) (goes refl)

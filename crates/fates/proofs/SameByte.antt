@@ -1,9 +1,9 @@
--- Each byte handed over is the byte offered: while a byte waits in a strobed channel its latch is the value that the byte has by then, and
--- what takes it shows the latch.
+-- Each byte handed over is the byte offered: while a byte waits where the handshake alone fills the latch, the latch is the value that the
+-- byte has by then, and what takes it shows the latch.
 -- Rests on Story, Moved, Surroundings, Followed and Shown, and on the channel's Left.
 use mathlib.Core.Path.{_≡_, _∙_, refl, ap, sym, subst}
 use mathlib.Core.Bool.{Bool, true, false, cond, not}
-use mathlib.Core.List.{List, [], _∷_, _++_}
+use mathlib.Core.List.{List, [], _∷_}
 use Prim.Native.Nat.{ℕ, suc, _+_}
 use native.Mathlib.Omega.{arith}
 use lib.Dec.{T}
@@ -18,15 +18,19 @@ use Rattle.chip.specs.declared.Phase.{Phase}
 use Rattle.chip.specs.declared.Chip.{Chip}
 use Rattle.laws.specs.History.{Event}
 use Rattle.fates.specs.Kinds.{Named, reset, readBegun, cycleEnded, writeBegun, newLevels, unknown, named, accepts}
-use Rattle.fates.specs.Around.{Around, wordAfter, aroundAfter}
-use Rattle.fates.specs.Deeds.{Deed, offered, followed, taken, ended, clearedAway, nothing, strobes, when, ownDeed, clears, deedOf}
+use Rattle.fates.specs.Around.{Around, wordAfter, aroundAfter, aroundNext}
+use Rattle.fates.specs.Deeds.{Deed, offered, followed, taken, ended, clearedAway, nothing, strobes, when, ownDeed, clears, deed}
 use Rattle.fates.specs.Bytes.{Fate, handedOver, overwritten, swallowed, cleared, waiting, Offer, offeredAt, Byte, same}
-use Rattle.fates.specs.Promise.{aroundOf, Each, Shows, ShownAt}
-use Rattle.fates.proofs.Story.{emptied, fillAfter, heldAfter, story, fated, decided}
+use Rattle.fates.specs.Promise.{aroundOf, Each, Shows, ShownAt, handshakeAlone}
+use Rattle.fates.proofs.Story.{emptied, fillAfter, heldAfter, story, fateBy, decided-each}
 use Rattle.fates.proofs.Moved.{latchAfter}
 use Rattle.fates.proofs.Surroundings.{around-next}
 use Rattle.fates.proofs.Followed.{after, fill, latch, deedIn, storyOf, next-fill, next-latch, story-next}
 use Rattle.fates.proofs.Shown.{WhereTaken, taken-shows}
+
+-- In an empty channel no byte waits.
+pub none-waits : Empty ≡ Waiting → ⊥
+none-waits waits = subst (λ f. T (not (isWaiting f))) waits tt
 
 -- The mode word changes only where every channel is cleared.
 pub word-stays : (ph : Phase) (w : ℕ) (e : Named) → clears ph e ≡ false → wordAfter ph w e ≡ w
@@ -37,17 +41,16 @@ word-stays ph w (writeBegun x d) none = refl
 word-stays ph w (newLevels x d) none = refl
 word-stays ph w unknown none = refl
 
--- A byte that waits in a strobed channel has come in under this mode word.
-module _ (g : Group) (s : Side) (a : Around) (e : Named) (f : Fill) where
-  strobed-before : (accepted : Bool) → strobes (cond accepted (aroundAfter a e) a .word) g s ≡ true
-      → fillAfter s f (when accepted (deedOf g s a e)) ≡ Waiting → strobes (a .word) g s ≡ true
-  strobed-before false on waits = on
-  strobed-before true on waits = go (clears (a .phase) e) refl waits
-    where
-      go : (all : Bool) → clears (a .phase) e ≡ all
-          → fillAfter s f (cond all clearedAway (when (strobes (a .word) g s) (ownDeed g s a e))) ≡ Waiting → strobes (a .word) g s ≡ true
-      go true all waits = absurd (subst (λ f. T (not (isWaiting f))) waits tt)
-      go false none waits = ap (λ w. strobes w g s) (sym (word-stays (a .phase) (a .word) e none)) ∙ on
+-- So a byte that waits has come in under the mode word in force.
+word-kept : (g : Group) (s : Side) (a : Around) (e : Event) (f : Fill) → fillAfter s f (deed g s a e) ≡ Waiting → aroundNext a e .word ≡ a .word
+word-kept g s a e f waits = go (accepts (a .phase) (named e)) (clears (a .phase) (named e)) refl waits
+  where
+    go : (accepted all : Bool) → clears (a .phase) (named e) ≡ all
+        → fillAfter s f (when accepted (cond all clearedAway (when (strobes (a .word) g s) (ownDeed g s a (named e))))) ≡ Waiting
+        → cond accepted (aroundAfter a (named e)) a .word ≡ a .word
+    go false all is waits = refl
+    go true true is waits = absurd (none-waits waits)
+    go true false none waits = word-stays (a .phase) (a .word) (named e) none
 
 -- A byte that is taken does not wait.
 none-left : (s : Side) (f : Fill) → T (not (isWaiting (leaves f (emptied s))))
@@ -62,74 +65,75 @@ held-value : (s : Side) (f : Fill) (l : ℕ) (h : Offer) (n : ℕ) (d : Deed) �
 held-value s f l h n (offered v) waits held = refl
 held-value s f l h n (followed v) waits held = refl
 held-value s f l h n taken waits held = absurd (subst (λ f. T (not (isWaiting f))) waits (none-left s f))
-held-value s f l h n ended waits held = absurd (subst (λ f. T (not (isWaiting f))) waits tt)
-held-value s f l h n clearedAway waits held = absurd (subst (λ f. T (not (isWaiting f))) waits tt)
+held-value s f l h n ended waits held = absurd (none-waits waits)
+held-value s f l h n clearedAway waits held = absurd (none-waits waits)
 held-value s f l h n nothing waits held = held waits
 
--- While a byte waits in a strobed channel, the latch is that byte.
+-- A strobed channel's latch is filled by the handshake alone.
+pub strobed-alone : (w : ℕ) (g : Group) (s : Side) → strobes w g s ≡ true → handshakeAlone w g s ≡ true
+strobed-alone w g Input on = refl
+strobed-alone w g Output on = on
+
 module _ (g : Group) (s : Side) where
-  abbrev Holds : Chip → Offer → Type 0
-  Holds c h = strobes (c .core .word) g s ≡ true → fill g s c ≡ Waiting → latch g s c ≡ h .value
+  abbrev pub alone : Chip → Bool
+  alone c = handshakeAlone (c .core .word) g s
 
-  holds-next : (c : Chip) (h : Offer) (n : ℕ) (e : Event) → Holds c h → Holds (after c e) (heldAfter h n (deedIn g s c e))
-  holds-next c h n e held on waits =
-      let waits-next = sym (next-fill g s c e) ∙ waits in
-      let on-next = ap (λ a. strobes (a .word) g s) (sym (around-next c e)) ∙ on in
-      let before = strobed-before g s (aroundOf c) (named e) (fill g s c) (accepts (c .phase) (named e)) on-next waits-next in
-      next-latch g s c e before ∙ held-value s (fill g s c) (latch g s c) h n (deedIn g s c e) waits-next (held before)
+  -- What fills the latch is the same before and after an event that leaves a byte waiting.
+  pub alone-kept : (c : Chip) (e : Event) (f : Fill) → fillAfter s f (deedIn g s c e) ≡ Waiting → alone (after c e) ≡ alone c
+  alone-kept c e f waits =
+      ap (λ a. handshakeAlone (a .word) g s) (around-next c e) ∙ ap (λ w. handshakeAlone w g s) (word-kept g s (aroundOf c) e f waits)
 
--- Only a byte handed over is asked what was shown of it.
-other : (f : Fate) → f ≡ handedOver → same f handedOver ≡ false → ⊥
-other f e differs = subst T (sym (ap (λ f. same f handedOver) e) ∙ differs) tt
+  -- While a byte waits where the handshake alone fills the latch, the latch is that byte. The condition f need not be the chip's: it is
+  -- followed from deed to deed.
+  abbrev pub Holds : Chip → Fill → Offer → Type 0
+  Holds c f h = alone c ≡ true → f ≡ Waiting → latch g s c ≡ h .value
+
+  pub holds-next : (c : Chip) (f : Fill) (h : Offer) (n : ℕ) (e : Event) → Holds c f h
+      → Holds (after c e) (fillAfter s f (deedIn g s c e)) (heldAfter h n (deedIn g s c e))
+  holds-next c f h n e held now waits =
+      let before = sym (alone-kept c e f waits) ∙ now in
+      next-latch g s c e before ∙ held-value s f (latch g s c) h n (deedIn g s c e) waits (held before)
+
+-- A fate that differs from x is not x.
+pub other : (x f : Fate) → T (same x x) → f ≡ x → same f x ≡ false → ⊥
+other x f self e differs = subst T (sym (ap (λ f. same f x) e) ∙ differs) self
 
 -- What P says of the place and the value of a byte handed over.
 abbrev HandedOver : (ℕ → ℕ → Type 0) → Byte → Type 0
 HandedOver P b = b .outcome .fate ≡ handedOver → P (b .outcome .place) (b .offer .value)
 
--- What follows where a byte is taken.
-for-taken : {P Q : Type 0} (d : Deed) → (P → Q) → WhereTaken P d → WhereTaken Q d
-for-taken (offered v) h p = tt
-for-taken (followed v) h p = tt
-for-taken taken h p = h p
-for-taken ended h p = tt
-for-taken clearedAway h p = tt
-for-taken nothing h p = tt
-
--- What holds of the byte that a deed hands over, and of the rest.
-decided-each : (P : ℕ → ℕ → Type 0) (f : Fill) (h : Offer) (n : ℕ) (d : Deed) (bs : List Byte)
-    → (f ≡ Waiting → WhereTaken (P n (h .value)) d) → Each (HandedOver P) bs → Each (HandedOver P) (decided f h n d ++ bs)
-unfolding decided fated
-decided-each P Empty h n d bs here rest = rest
-decided-each P Fetching h n d bs here rest = rest
-decided-each P Waiting h n (offered v) bs here rest = (λ e. absurd (other overwritten e refl), rest)
-decided-each P Waiting h n (followed v) bs here rest = rest
-decided-each P Waiting h n taken bs here rest = (λ e. here refl, rest)
-decided-each P Waiting h n ended bs here rest = (λ e. absurd (other swallowed e refl), rest)
-decided-each P Waiting h n clearedAway bs here rest = (λ e. absurd (other cleared e refl), rest)
-decided-each P Waiting h n nothing bs here rest = rest
+-- Only a deed that takes a byte hands it over.
+where-taken : (P : Type 0) (d : Deed) → fateBy d ≡ handedOver → WhereTaken P d → P
+where-taken P (offered v) is p = absurd (other handedOver overwritten tt is refl)
+where-taken P (followed v) is p = absurd (other handedOver waiting tt is refl)
+where-taken P taken is p = p
+where-taken P ended is p = absurd (other handedOver swallowed tt is refl)
+where-taken P clearedAway is p = absurd (other handedOver cleared tt is refl)
+where-taken P nothing is p = absurd (other handedOver waiting tt is refl)
 
 module _ (g : Group) (s : Side) (P : ℕ → ℕ → Type 0) where
   -- What is shown of a byte that waits, as an event at place n takes it.
-  shown-here : (c : Chip) (h : Offer) (n : ℕ) (e : Event) → Holds g s c h → ((v : ℕ) → Shows g s c e v → P n v)
-      → fill g s c ≡ Waiting → WhereTaken (P n (h .value)) (deedIn g s c e)
-  shown-here c h n e held here waits =
-      for-taken (deedIn g s c e) (λ t. here (h .value) (subst (Shows g s c e) (held (t .0) waits) (t .1))) (taken-shows c g s e)
+  shown-here : (c : Chip) (h : Offer) (n : ℕ) (e : Event) → Holds g s c (fill g s c) h → ((v : ℕ) → Shows g s c e v → P n v)
+      → fill g s c ≡ Waiting → fateBy (deedIn g s c e) ≡ handedOver → P n (h .value)
+  shown-here c h n e held here waits is =
+      let t = where-taken _ (deedIn g s c e) is (taken-shows c g s e) in
+      here (h .value) (subst (Shows g s c e) (held (strobed-alone (c .core .word) g s (t .0)) waits) (t .1))
 
   -- Along a history, with the first event at place n: `lift` brings what an event shows to the place where it stands.
-  shown-along : (c : Chip) (h : Offer) (n : ℕ) (es : List Event) → Holds g s c h
+  shown-along : (c : Chip) (h : Offer) (n : ℕ) (es : List Event) → Holds g s c (fill g s c) h
       → ((j v : ℕ) → ShownAt g s c es (suc j) v → P (n + j) v) → Each (HandedOver P) (storyOf g s c h n es)
   shown-along c h n [] held lift = go (fill g s c)
     where
       go : (f : Fill) → Each (HandedOver P) (story f h n [])
       go Empty = tt
-      go Waiting = (λ e. absurd (other waiting e refl), tt)
+      go Waiting = (λ is. absurd (other handedOver waiting tt is refl), tt)
       go Fetching = tt
   shown-along c h n (e ∷ es) held lift =
       let d = deedIn g s c e in
       rw (story-next g s c e h n es)
-      (decided-each P (fill g s c) h n d (storyOf g s (after c e) (heldAfter h n d) (suc n) es)
-      (shown-here c h n e held (λ v t. subst (λ m. P m v) (omega arith) (lift 0 v t)))
-      (shown-along (after c e) (heldAfter h n d) (suc n) es (holds-next g s c h n e held)
+      (decided-each (HandedOver P) (fill g s c) h n d (storyOf g s (after c e) (heldAfter h n d) (suc n) es)
+      (λ waits decides. shown-here c h n e held (λ v t. subst (λ m. P m v) (omega arith) (lift 0 v t)) waits)
+      (shown-along (after c e) (heldAfter h n d) (suc n) es (rw (next-fill g s c e) (holds-next g s c (fill g s c) h n e held))
       (λ j v t. subst (λ m. P m v) (omega arith) (lift (suc j) v t))))
 
 -- From the start of a history, whose first event is at place 1.
@@ -137,4 +141,4 @@ pub as-offered : (g : Group) (s : Side) (c : Chip) (es : List Event)
     → Each (HandedOver (ShownAt g s c es)) (storyOf g s c (offeredAt 0 (latch g s c)) 1 es)
 as-offered g s c es =
     shown-along g s (ShownAt g s c es) c (offeredAt 0 (latch g s c)) 1 es
-    (λ on waits. refl) (λ j v t. subst (λ m. ShownAt g s c es m v) (omega arith) t)
+    (λ alone waits. refl) (λ j v t. subst (λ m. ShownAt g s c es m v) (omega arith) t)

@@ -1,6 +1,7 @@
 -- A channel's condition and the byte that it holds, followed from deed to deed, beside the fates, which look ahead in the list.
 -- Rests on the channel's Left, for what handing over leaves.
 use mathlib.Core.Path.{_≡_, refl}
+use mathlib.Core.Bool.{false}
 use mathlib.Core.List.{List, [], _∷_, _++_}
 use Prim.Native.Nat.{ℕ, suc}
 use Rattle.channel.specs.declared.Side.{Side}
@@ -9,8 +10,8 @@ use Rattle.channel.specs.declared.Fill.{Fill}
 use Rattle.channel.specs.declared.Fill.the-variants.{Empty, Waiting, Fetching}
 use Rattle.channel.proofs.Left.{leaves}
 use Rattle.fates.specs.Deeds.{Deed, offered, followed, taken, ended, clearedAway, nothing}
-use Rattle.fates.specs.Bytes.{Fate, handedOver, overwritten, swallowed, cleared, waiting, Offer, Byte, offeredAt, decidedAt, bytes}
-use Rattle.fates.specs.Promise.{heldByte}
+use Rattle.fates.specs.Bytes.{Fate, handedOver, overwritten, swallowed, cleared, waiting, Offer, Byte, offeredAt, decidedAt, bytes, same}
+use Rattle.fates.specs.Promise.{heldByte, Each}
 
 -- What a channel is left in when its byte is taken.
 abbrev pub emptied : Side → Fill
@@ -62,6 +63,20 @@ decided Waiting h n ended = fated h n (fateBy ended)
 decided Waiting h n clearedAway = fated h n (fateBy clearedAway)
 decided Waiting h n nothing = []
 decided Fetching h n d = []
+
+-- What holds of the byte, if any, that a deed decides, and of each that comes after it, holds of them all.
+pub decided-each : (P : Byte → Type 0) (f : Fill) (h : Offer) (n : ℕ) (d : Deed) (bs : List Byte)
+    → (f ≡ Waiting → same (fateBy d) waiting ≡ false → P (record { offer = h; outcome = decidedAt n (fateBy d) })) → Each P bs
+    → Each P (decided f h n d ++ bs)
+unfolding decided fated
+decided-each P Empty h n d bs here rest = rest
+decided-each P Fetching h n d bs here rest = rest
+decided-each P Waiting h n (offered v) bs here rest = (here refl refl, rest)
+decided-each P Waiting h n (followed v) bs here rest = rest
+decided-each P Waiting h n taken bs here rest = (here refl refl, rest)
+decided-each P Waiting h n ended bs here rest = (here refl refl, rest)
+decided-each P Waiting h n clearedAway bs here rest = (here refl refl, rest)
+decided-each P Waiting h n nothing bs here rest = rest
 
 -- The step on which the theorems on tallies, values and the discipline go: what a deed decides stands first, and the rest is the story from
 -- there.

@@ -1,5 +1,6 @@
 -- Demand 3: what is promised of the chip, its tallies, its answers and its pins, by the bytes of each channel over a history.
 use mathlib.Core.Path.{_≡_}
+use mathlib.Core.Bool.{Bool, true}
 use mathlib.Core.List.{List, [], _∷_}
 use Prim.Native.Nat.{ℕ, zero, suc, _+_, _%_, _<_, _≤_}
 use lib.ListN.{length}
@@ -16,7 +17,7 @@ use Rattle.chip.specs.State.{channelOf, tallyOf}
 use Rattle.ports.specs.Pins.{pinsOf}
 use Rattle.laws.specs.History.{Event, stepped}
 use Rattle.fates.specs.Around.{Around}
-use Rattle.fates.specs.Deeds.{Deed, portNumber, deeds}
+use Rattle.fates.specs.Deeds.{Deed, portNumber, strobes, deeds}
 use Rattle.fates.specs.Bytes.{handedOver, overwritten, swallowed, cleared, waiting, Byte, Offer, offeredAt, byteOf, bytes, count}
 
 -- The chip after a history: each event meets the chip that the one before it left.
@@ -75,6 +76,20 @@ ShownAt g s c (e ∷ es) zero v = ⊥
 ShownAt g s c (e ∷ es) (suc zero) v = Shows g s c e v
 ShownAt g s c (e ∷ es) (suc (suc n)) v = ShownAt g s (stepped c e .chip) es (suc n) v
 
+-- Each byte that still waits after a history has, by then, the value that the chip's channel holds in its latch.
+abbrev pub HeldInTheLatch : Group → Side → Chip → List Event → List Byte → Type 0
+HeldInTheLatch g s c es = Each (λ b. b .outcome .fate ≡ waiting → b .offer .value ≡ channelOf (run c es .core) g s .latch)
+
+-- The handshake alone fills a channel's latch: that of an input always, that of an output where the mode word strobes it. The latch of a
+-- plain output is filled by every write to the port, and no byte is offered.
+abbrev pub handshakeAlone : ℕ → Group → Side → Bool
+handshakeAlone w g Input = true
+handshakeAlone w g Output = strobes w g Output
+
+-- A byte that waits in the channel waits in such a latch. So it is at power-up, where none waits, and in every chip that has an image.
+abbrev pub WaitsByHandshake : Group → Side → Chip → Type 0
+WaitsByHandshake g s c = channelOf (c .core) g s .fill ≡ Waiting → handshakeAlone (c .core .word) g s ≡ true
+
 -- What is promised of a channel after the events es from the chip c, where `new` are the bytes offered since, `all` are these and the
 -- one that waited at the start, and `start` are the tallies there.
 pub record Fates (g : Group) (s : Side) (c : Chip) (es : List Event) (start : Tally) (new all : List Byte) : Type 0 where
@@ -83,6 +98,8 @@ pub record Fates (g : Group) (s : Side) (c : Chip) (es : List Event) (start : Ta
       length all ≡ count handedOver all + count overwritten all + count swallowed all + count cleared all + count waiting all
   pub atMostOneWaits : count waiting all ≤ 1
   pub waitsInTheChip : count waiting all ≡ num (isWaiting (channelOf (run c es .core) g s .fill))
+  -- One that was offered since and waits is what the channel's latch holds.
+  pub heldInTheLatch : HeldInTheLatch g s c es new
   -- Each byte handed over is the one that was offered, with the value on which it settled, and they come in order.
   pub asOffered : Each (λ b. b .outcome .fate ≡ handedOver → ShownAt g s c es (b .outcome .place) (b .offer .value)) all
   pub inOrder : InOrder 0 all
@@ -92,6 +109,11 @@ pub record Fates (g : Group) (s : Side) (c : Chip) (es : List Event) (start : Ta
   pub tallyOverwritten : tallies g s c es .overwritten ≡ (start .overwritten + count overwritten all) % 65536
   pub tallySwallowed : tallies g s c es .swallowed ≡ (start .swallowed + count swallowed all) % 65536
   pub tallyCleared : tallies g s c es .cleared ≡ (start .cleared + count cleared all) % 65536
+
+-- A channel's tallies balance: what was offered is what was handed over, overwritten, swallowed and cleared, and the byte that may still
+-- wait; as far as tallies tell, which begin again after 65,535.
+abbrev pub Balanced : Tally → Fill → Type 0
+Balanced t f = t .offered ≡ (t .handed + t .overwritten + t .swallowed + t .cleared + num (isWaiting f)) % 65536
 
 -- Tallies of sixteen bits, as the type makes them.
 pub record SixteenBits (t : Tally) : Type 0 where

@@ -1,6 +1,7 @@
 -- Demand 3 from a chip that a host restores from an image; and what the host holds after a power-up.
--- Rests on Stays, on image's Long, ComesBack, OneImage and SameBytes, on host's HostStep, and on fates' Demand, Discipline and Followed.
-use mathlib.Core.Path.{_≡_, refl, sym, subst}
+-- Rests on Conditions and Stays, on image's Long, ComesBack, OneImage and SameBytes, on host's HostStep, and on fates' Tables, Surroundings,
+-- Followed, SameByte, InTheLatch, Discipline and Demand.
+use mathlib.Core.Path.{_≡_, _∙_, refl, ap, sym, subst}
 use mathlib.Core.Bool.{true}
 use mathlib.Core.List.{List, [], _∷_}
 use Prim.Native.Nat.{ℕ, _+_, _*_, _<_}
@@ -13,16 +14,20 @@ use Rattle.channel.specs.declared.Side.the-variants.{Input, Output}
 use Rattle.chip.specs.declared.Chip.{Chip}
 use Rattle.chip.specs.declared.Levels.{Levels}
 use Rattle.chip.specs.State.{powerUpWith, tallyOf}
+use Rattle.chip.specs.Handshakes.{strobed}
 use Rattle.laws.specs.History.{Event}
-use Rattle.fates.specs.Promise.{run, aroundOf, SixteenBits}
+use Rattle.fates.specs.Promise.{run, aroundOf, WaitsByHandshake, SixteenBits}
 use Rattle.fates.specs.Discipline.{HasFound, Disciplined}
-use Rattle.fates.proofs.Followed.{after}
+use Rattle.fates.proofs.Tables.{strobes-same}
 use Rattle.fates.proofs.Surroundings.{around-next}
+use Rattle.fates.proofs.Followed.{after}
+use Rattle.fates.proofs.SameByte.{strobed-alone}
+use Rattle.fates.proofs.InTheLatch.{held-from}
 use Rattle.fates.proofs.Discipline.{found-next, disciplined-from}
 use Rattle.fates.proofs.Demand.{fates-from, no-read}
 use Rattle.image.specs.Layout.{imageOf}
 use Rattle.image.specs.Restored.{byteAt, tallyAt, stateOf}
-use Rattle.image.specs.Good.{hasImage, isImage, Bytes}
+use Rattle.image.specs.Good.{kept, hasImage, isImage, Bytes}
 use Rattle.image.specs.Slices.{savedIn}
 use Rattle.host.specs.Calls.{stepImage}
 use Rattle.image.proofs.Long.{written-over}
@@ -31,6 +36,7 @@ use Rattle.image.proofs.SameBytes.{small}
 use Rattle.image.proofs.OneImage.{has-image, tells-such}
 use Rattle.host.proofs.HostStep.{by-number}
 use Rattle.restored.specs.Host.{hostRun, Restored, PoweredUp, StillNoneLost}
+use Rattle.restored.proofs.Conditions.{apart}
 use Rattle.restored.proofs.Stays.{image-stays, power-up-has}
 
 -- The host holds the image of a chip that has one.
@@ -76,11 +82,23 @@ module _ (l : List ℕ) (bytes : Bytes l) where
   sixteen-bits B Input = tally-small 20
   sixteen-bits B Output = tally-small 30
 
+-- In a chip that has an image a byte waits only where the mode word strobes the channel.
+waits-strobed : (g : Group) (s : Side) (c : Chip) → hasImage c ≡ true → WaitsByHandshake g s c
+waits-strobed g s c has waits =
+    let w = c .core .word in
+    strobed-alone w g s (strobes-same w g s ∙ sym (ap (kept (strobed w g s) s) waits) ∙ apart c has .channel g s)
+
 -- From every image, over all events.
 pub restored : (l : List ℕ) → Bytes l → isImage l ≡ true → (es : List Event) → Restored l es
 restored l bytes good es =
-    let at-end = holds-run l (stateOf l) es (record { image = good; state = refl; has = tells-such l bytes good }) in
-    record { image = at-end .image; state = at-end .state; fates = λ g s. fates-from g s (stateOf l) (sixteen-bits l bytes g s) es }
+    let has = tells-such l bytes good in
+    let at-end = holds-run l (stateOf l) es (record { image = good; state = refl; has = has }) in
+    record {
+      image = at-end .image;
+      state = at-end .state;
+      fates = λ g s. fates-from g s (stateOf l) (sixteen-bits l bytes g s) es;
+      held = λ g s. held-from g s (stateOf l) (waits-strobed g s (stateOf l) has) es;
+    }
 
 -- From every power-up, in 64 bytes that held anything.
 pub powered-up : (l : List ℕ) (v : Levels) (es : List Event) → length l ≡ 64 → PoweredUp l v es

@@ -10,7 +10,7 @@ use Rattle.chip.specs.declared.Levels.{Levels}
 use Rattle.chip.specs.State.{powerUpWith, tallyOf}
 use Rattle.laws.specs.History.{Event}
 use Rattle.fates.specs.Around.{atPowerUp}
-use Rattle.fates.specs.Promise.{run, aroundOf, newBytes, oldByte, Fates}
+use Rattle.fates.specs.Promise.{run, aroundOf, newBytes, oldByte, HeldInTheLatch, Fates}
 use Rattle.fates.specs.Discipline.{Disciplined, NoneLost}
 use Rattle.image.specs.Layout.{imageOf}
 use Rattle.image.specs.Restored.{stateOf}
@@ -22,14 +22,15 @@ abbrev pub hostRun : List ℕ → List Event → List ℕ
 hostRun l [] = l
 hostRun l (e ∷ es) = hostRun (stepImage l (e .kind) (e .first) (e .second)) es
 
--- What is promised of an image and any events after it: the host always holds an image, that of the chip after these events; and on
--- each channel the counts go on from the image's tallies, a byte that waits in it being offered already, with the latch's value, which
--- later levels may change.
+-- What is promised of an image and any events after it: the host always holds an image, that of the chip after these events; on each
+-- channel the counts go on from the image's tallies, a byte that waits in it being offered already, with the latch's value, which later
+-- levels may change; and a byte that still waits in the end, be it that one, is what the latch holds then.
 pub record Restored (l : List ℕ) (es : List Event) : Type 0 where
   pub image : isImage (hostRun l es) ≡ true
   pub state : stateOf (hostRun l es) ≡ run (stateOf l) es
   pub fates : (g : Group) (s : Side)
       → Fates g s (stateOf l) es (tallyOf (stateOf l) g s) (newBytes g s (stateOf l) es) (oldByte g s (stateOf l) es ++ newBytes g s (stateOf l) es)
+  pub held : (g : Group) (s : Side) → HeldInTheLatch g s (stateOf l) es (oldByte g s (stateOf l) es ++ newBytes g s (stateOf l) es)
 
 -- What is promised of a host that powers its chip up, under any levels, in 64 bytes that held anything, and passes it any events: it
 -- always holds an image, that of the chip after these events, from that power-up.

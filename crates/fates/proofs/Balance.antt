@@ -1,0 +1,77 @@
+-- A channel's tallies balance after every history: from any chip in which they do, and from every power-up.
+-- Rests on Demand.
+use mathlib.Core.Path.{_≡_, _∙_, refl, ap}
+use mathlib.Core.List.{List, _++_}
+use Prim.Native.Nat.{ℕ, _+_, _*_, _/_, _%_}
+use native.Mathlib.Omega.{arith}
+use lib.ListN.{length}
+use Rattle.bits.specs.Bit.{num}
+use Rattle.control.specs.declared.Group.{Group}
+use Rattle.control.specs.declared.Group.the-variants.{A, B}
+use Rattle.channel.specs.declared.Side.{Side}
+use Rattle.channel.specs.declared.Side.the-variants.{Input, Output}
+use Rattle.channel.specs.declared.Fill.{Fill}
+use Rattle.channel.specs.declared.Fill.the-variants.{Empty, Waiting, Fetching}
+use Rattle.channel.specs.declared.Tally.{Tally}
+use Rattle.channel.specs.Channel.{isWaiting}
+use Rattle.chip.specs.declared.Chip.{Chip}
+use Rattle.chip.specs.declared.Levels.{Levels}
+use Rattle.chip.specs.State.{powerUpWith, channelOf, tallyOf}
+use Rattle.laws.specs.History.{Event}
+use Rattle.fates.specs.Deeds.{Deed, deeds}
+use Rattle.fates.specs.Bytes.{Offer, Byte, offeredAt}
+use Rattle.fates.specs.Promise.{run, tallies, aroundOf, newBytes, heldByte, Balanced, SixteenBits}
+use Rattle.fates.proofs.Demand.{none-counted, fates-from}
+
+-- Whole rounds of 65,536 do not show in a remainder, nor do those that the parts of a sum have made.
+rounds : (n k : ℕ) → (n + 65536 * k) % 65536 ≡ n % 65536
+rounds n k = omega arith
+
+parts : (a b c d e : ℕ) → (a + b + c + d + e) % 65536 ≡ (a % 65536 + b % 65536 + c % 65536 + d % 65536 + e) % 65536
+parts a b c d e =
+    ap (λ n. n % 65536) (omega arith)
+    ∙ rounds (a % 65536 + b % 65536 + c % 65536 + d % 65536 + e) (a / 65536 + b / 65536 + c / 65536 + d / 65536)
+
+-- Tallies that balance do so too when they have gone on by counts of bytes that do.
+counted-on : (t : Tally) (f f′ : Fill) (new handed overwritten swallowed cleared : ℕ) → Balanced t f
+    → num (isWaiting f) + new ≡ handed + overwritten + swallowed + cleared + num (isWaiting f′)
+    → Balanced
+    (record {
+      offered = (t .offered + new) % 65536;
+      handed = (t .handed + handed) % 65536;
+      overwritten = (t .overwritten + overwritten) % 65536;
+      swallowed = (t .swallowed + swallowed) % 65536;
+      cleared = (t .cleared + cleared) % 65536;
+    })
+    f′
+counted-on t f f′ new handed overwritten swallowed cleared before counts =
+    let h = t .handed + handed in
+    let o = t .overwritten + overwritten in
+    let s = t .swallowed + swallowed in
+    let c = t .cleared + cleared in
+    let sums : (t .offered + new) % 65536 ≡ (h + o + s + c + num (isWaiting f′)) % 65536 = omega (arith, before, counts) in
+    sums ∙ parts h o s c (num (isWaiting f′))
+
+-- The bytes of a channel are those offered since the start, and the one that may have waited there.
+with-held : (f : Fill) (h : Offer) (n : ℕ) (later : List Deed) (new : List Byte) → num (isWaiting f) + length new ≡ length (heldByte f h n later ++ new)
+with-held Empty h n later new = omega arith
+with-held Waiting h n later new = omega arith
+with-held Fetching h n later new = omega arith
+
+-- From any chip whose tallies have sixteen bits and balance: no event, and so no history, puts them out of balance.
+pub stays-balanced : (g : Group) (s : Side) (c : Chip) → SixteenBits (tallyOf c g s) → Balanced (tallyOf c g s) (channelOf (c .core) g s .fill)
+    → (es : List Event) → Balanced (tallies g s c es) (channelOf (run c es .core) g s .fill)
+stays-balanced g s c small before es =
+    let k = fates-from g s c small es in
+    let ch = channelOf (c .core) g s in
+    let held = with-held (ch .fill) (offeredAt 0 (ch .latch)) 1 (deeds g s (aroundOf c) es) (newBytes g s c es) in
+    rw (k .tallyOffered, k .tallyHanded, k .tallyOverwritten, k .tallySwallowed, k .tallyCleared)
+    (counted-on (ch .tally) (ch .fill) (channelOf (run c es .core) g s .fill) _ _ _ _ _ before (rw (← k .waitsInTheChip) (held ∙ k .oneFateEach)))
+
+-- From power-up, whatever the levels.
+pub balanced : (g : Group) (s : Side) (l : Levels) (es : List Event)
+    → Balanced (tallies g s (powerUpWith l) es) (channelOf (run (powerUpWith l) es .core) g s .fill)
+balanced A Input l es = stays-balanced A Input (powerUpWith l) none-counted refl es
+balanced A Output l es = stays-balanced A Output (powerUpWith l) none-counted refl es
+balanced B Input l es = stays-balanced B Input (powerUpWith l) none-counted refl es
+balanced B Output l es = stays-balanced B Output (powerUpWith l) none-counted refl es
