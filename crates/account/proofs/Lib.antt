@@ -20,4 +20,5 @@ pub mod Numbers
 pub mod Account
 pub mod Unreached
 pub mod Script
-pub mod WholeCase
+pub mod Texts
+pub mod RunNumbers

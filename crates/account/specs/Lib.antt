@@ -6,4 +6,4 @@ pub mod Reasons
 pub mod Promise
 pub mod Unreached
 pub mod Script
-pub mod WholeCase
+pub mod Texts

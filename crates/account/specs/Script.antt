@@ -1,9 +1,14 @@
--- The answers to a script, by the account alone ("Script and program").
+-- A script, by the account alone: its answers, and what its run gives back ("Script and program").
 use mathlib.Core.Path.{_≡_}
+use mathlib.Core.Bool.{Bool, false, not}
 use mathlib.Core.List.{List, [], _∷_, _++_}
-use Prim.Native.Nat.{ℕ}
+use Prim.Native.Nat.{ℕ, _+_, _*_, _<_, _≤_}
+use lib.Dec.{eqb}
+use lib.ListN.{length}
+use Rattle.bits.specs.Bit.{num}
 use Rattle.chip.specs.State.{allHigh}
 use Rattle.script.specs.Answers.{lineText, answersOf}
+use Rattle.script.specs.Run.{ranOf}
 use Rattle.laws.specs.History.{Event}
 use Rattle.fates.specs.Kinds.{named}
 use Rattle.fates.specs.ScriptRun.{historyOf}
@@ -30,3 +35,23 @@ linesBy a (e ∷ es) = lineBy a e ++ linesBy (next a e) es
 -- What is promised of a text: its answers are the account's, from a power-up with every line high.
 abbrev pub AnsweredBy : List ℕ → Type 0
 AnsweredBy text = answersOf text ≡ linesBy (opened allHigh) (historyOf text)
+
+-- How many lines a text has, by its LFs: one for each, and one more where bytes follow the last.
+abbrev pub endings : List ℕ → ℕ
+endings [] = 0
+endings (b ∷ text) = num (eqb b 10) + endings text
+
+abbrev pub hasRest : List ℕ → Bool
+hasRest [] = false
+hasRest (b ∷ []) = not (eqb b 10)
+hasRest (b ∷ c ∷ text) = hasRest (c ∷ text)
+
+abbrev pub lineTotal : List ℕ → ℕ
+lineTotal text = endings text + num (hasRest text)
+
+-- What a run gives back, in plain words: 6 for a text of more than 4,096 bytes, whatever the room; else 7 where the output is shorter than
+-- eleven bytes for each line; and else 0 and the number of lines.
+pub record RunNumbered (text : List ℕ) (room : ℕ) : Type 0 where
+  pub tooLong : 4096 < length text → ranOf text room ≡ record { number = 6; lines = 0 }
+  pub noRoom : length text ≤ 4096 → room < 11 * lineTotal text → ranOf text room ≡ record { number = 7; lines = 0 }
+  pub runs : length text ≤ 4096 → 11 * lineTotal text ≤ room → ranOf text room ≡ record { number = 0; lines = lineTotal text }
