@@ -1,3 +1,4 @@
 pub mod Asked
 pub mod Stepping
 pub mod HostStep
+pub mod Determined

@@ -8,3 +8,4 @@ pub mod Answering
 pub mod Numbers
 pub mod Pieces
 pub mod Outcome
+pub mod Determined

@@ -1,4 +1,4 @@
--- A run as a whole: what it leaves of the output, an empty text, and that its contract leaves no choice.
+-- A run as a whole: what it leaves of the output, and an empty text.
 -- Rests on LineCount and Pieces.
 use mathlib.Core.Path.{_≡_, _∙_, refl, ap, sym}
 use mathlib.Core.Bool.{Bool, true, false, cond}
@@ -9,7 +9,6 @@ use lib.Dec.{ltb}
 use lib.ListN.{length, drop}
 use lib.Seq.{drop-at}
 use borrow.Author.Tests.{le-ltb, ltb-false, ne-eqb}
-use Rattle.bits.proofs.Determined.{Determines, equation-determines}
 use Rattle.script.specs.declared.Ran.{Ran}
 use Rattle.script.specs.Lines.{linesOf}
 use Rattle.script.specs.Answers.{answersOf, answersFrom}
@@ -48,10 +47,3 @@ answers-fit text room r is e =
 pub room-enough : (text : List ℕ) (room : ℕ) → length text ≤ 4096 → 11 * 4096 ≤ room → numberOf text room ≡ 0
 unfolding numberOf
 room-enough text room h enough = rw (le-ltb _ _ h, le-ltb room (11 * lineCount text) (omega (arith, h, enough, lines-at-most text)))
-
--- Two results that the contract of a run allows are equal, and so are two outputs.
-pub ran-determined : (text out : List ℕ) → Determines (λ (r : Ran). r ≡ ranOf text (length out))
-ran-determined text out = equation-determines (ranOf text (length out))
-
-pub output-determined : (text out : List ℕ) → Determines (λ (after : List ℕ). after ≡ outputOf text out)
-output-determined text out = equation-determines (outputOf text out)

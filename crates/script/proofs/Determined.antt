@@ -1,0 +1,19 @@
+-- The contract of each public function of frames and of script leaves no choice: of the output that a run was lent neither.
+-- Rests on bits' Determined.
+use mathlib.Core.Path.{ap}
+use Rattle.bits.proofs.Determined.{Determines, equation-determines, equations-determine}
+use Rattle.frames.proofs as frames
+use Rattle.script.proofs as script
+
+pub code-determined : Determines frames.digits.code.ended frames.digits.code.Reads.Learnt
+code-determined c x y = equation-determines
+
+pub frame-determined : Determines frames.line.frame.ended frames.line.frame.Reads.Learnt
+frame-determined c x y = equation-determines
+
+-- Before the output stands the text, which is not written.
+pub run-determined : Determines script.run.ended script.run.Reads.Learnt
+run-determined c x y p q = ap (λ z. (z .0, (tt, z .1))) (equations-determine p q)
+
+pub chip-after-determined : Determines script.left.chip_after.ended script.left.chip_after.Reads.Learnt
+chip-after-determined c x y = equation-determines
