@@ -17,7 +17,7 @@ use Rattle.fates.proofs.Accepted.{no-kind-accepted, by-result}
 use Rattle.account.specs.Acts.{numberBy}
 use Rattle.account.specs.Account.{Account, next, opened}
 use Rattle.account.specs.Views.{byteOf, byteGiven as Account·byteGiven}
-use Rattle.account.specs.Promise.{told, accountOf, Accounted}
+use Rattle.account.specs.Promise.{over, accountOf, Accounted}
 use Rattle.account.proofs.Agrees.{Agrees, agrees-of, agrees-opened, agrees-next}
 use Rattle.account.proofs.Interrupts.{intr-same}
 use Rattle.account.proofs.Reasons.{explained-same}
@@ -51,21 +51,21 @@ module _ (c : Chip) (a : Account) (k : Agrees c a) where
       ∙ sym (ap (λ r. cond (accepts (r .phase) (named e)) (byteOf a (named e)) 0) (k .around))
 
 -- Over a history.
-agrees-told : (es : List Event) (c : Chip) (a : Account) → Agrees c a → Agrees (run c es) (told a es)
-agrees-told [] c a k = k
-agrees-told (e ∷ es) c a k = agrees-told es (stepped c e .chip) (next a e) (agrees-next c a e k)
+agrees-over : (es : List Event) (c : Chip) (a : Account) → Agrees c a → Agrees (run c es) (over a es)
+agrees-over [] c a k = k
+agrees-over (e ∷ es) c a k = agrees-over es (stepped c e .chip) (next a e) (agrees-next c a e k)
 
 pub accounted : (c : Chip) (a : Account) (es : List Event) → Agrees c a → Accounted c a es
 accounted c a es start =
-    let k = agrees-told es c a start in
+    let k = agrees-over es c a start in
     record {
-      number = number-told (run c es) (told a es) k;
-      byte = byte-told (run c es) (told a es) k;
-      levels = levels-shown (run c es) (told a es) k;
-      driven = mask-shown (run c es) (told a es) k;
-      reads = read-answered (run c es) (told a es) k;
-      interrupt = intr-same (run c es) (told a es) k;
-      explains = explained-same (run c es) (told a es) k;
+      number = number-told (run c es) (over a es) k;
+      byte = byte-told (run c es) (over a es) k;
+      levels = levels-shown (run c es) (over a es) k;
+      driven = mask-shown (run c es) (over a es) k;
+      reads = read-answered (run c es) (over a es) k;
+      interrupt = intr-same (run c es) (over a es) k;
+      explains = explained-same (run c es) (over a es) k;
     }
 
 -- From any chip, reached by a history or not.

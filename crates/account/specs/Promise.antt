@@ -27,9 +27,9 @@ use Rattle.account.specs.Views.{intr, levelsShown, maskShown, readAnswer
 use Rattle.account.specs.Reasons.{explained}
 
 -- The account after a history.
-abbrev pub told : Account → List Event → Account
-told a [] = a
-told a (e ∷ es) = told (next a e) es
+abbrev pub over : Account → List Event → Account
+over a [] = a
+over a (e ∷ es) = over (next a e) es
 
 -- Where a history begins from a chip as it stands, reached by a history or not, bit 7 of its mode word counts as set ("Events and numbers").
 abbrev pub counted : ℕ → ℕ
@@ -79,10 +79,10 @@ accountOf c = record {
 -- What is promised after the events es from the chip c, where a is the account of their beginning: the number and the byte of whatever event
 -- comes next, and of each port the levels, the mask of the pins that the chip drives and the answer of a read; both INTRs, and why one is low.
 pub record Accounted (c : Chip) (a : Account) (es : List Event) : Type 0 where
-  pub number : (e : Event) → stepped (run c es) e .number ≡ numberBy (told a es .around .phase) (named e)
-  pub byte : (e : Event) → stepped (run c es) e .byte ≡ byteGiven (told a es) e
-  pub levels : (p : ℕ) → pinsOf (run c es) p .levels ≡ levelsShown (told a es) p
-  pub driven : (p : ℕ) → pinsOf (run c es) p .driven ≡ maskShown (told a es) p
-  pub reads : (p : ℕ) → readOf (run c es) p ≡ readAnswer (told a es) p
-  pub interrupt : (g : Group) → intrOf (run c es) g ≡ intr (told a es) g
-  pub explains : (n : ℕ) → numbersOf (explainedOf (run c es) n) ≡ explained (told a es) n
+  pub number : (e : Event) → stepped (run c es) e .number ≡ numberBy (over a es .around .phase) (named e)
+  pub byte : (e : Event) → stepped (run c es) e .byte ≡ byteGiven (over a es) e
+  pub levels : (p : ℕ) → pinsOf (run c es) p .levels ≡ levelsShown (over a es) p
+  pub driven : (p : ℕ) → pinsOf (run c es) p .driven ≡ maskShown (over a es) p
+  pub reads : (p : ℕ) → readOf (run c es) p ≡ readAnswer (over a es) p
+  pub interrupt : (g : Group) → intrOf (run c es) g ≡ intr (over a es) g
+  pub explains : (n : ℕ) → numbersOf (explainedOf (run c es) n) ≡ explained (over a es) n

@@ -1,7 +1,7 @@
 -- Demand 3 from a chip that a host restores from an image; and what the host holds after a power-up.
--- Rests on Conditions and Stays, on image's Long, ComesBack, OneImage and SameBytes, on host's HostStep, and on fates' Tables, Surroundings,
--- Followed, SameByte, InTheLatch, Discipline and Demand.
-use mathlib.Core.Path.{_≡_, _∙_, refl, ap, sym, subst}
+-- Rests on Conditions and Holds, on image's ComesBack, OneImage and SameBytes, and on fates' Tables, Surroundings, Followed, SameByte, InTheLatch,
+-- Discipline and Demand.
+use mathlib.Core.Path.{_≡_, _∙_, ap, sym, subst}
 use mathlib.Core.Bool.{true}
 use mathlib.Core.List.{List, [], _∷_}
 use Prim.Native.Nat.{ℕ, _+_, _*_, _<_}
@@ -28,35 +28,12 @@ use Rattle.fates.proofs.Demand.{fates-from, no-read}
 use Rattle.image.specs.Layout.{imageOf}
 use Rattle.image.specs.Restored.{byteAt, tallyAt, stateOf}
 use Rattle.image.specs.Good.{kept, hasImage, isImage, Bytes}
-use Rattle.image.specs.Slices.{savedIn}
-use Rattle.host.specs.Calls.{stepImage}
-use Rattle.image.proofs.Long.{written-over}
 use Rattle.image.proofs.ComesBack.{comes-back}
 use Rattle.image.proofs.SameBytes.{small}
-use Rattle.image.proofs.OneImage.{has-image, tells-such}
-use Rattle.host.proofs.HostStep.{by-number}
-use Rattle.restored.specs.Host.{hostRun, Restored, PoweredUp, StillNoneLost}
+use Rattle.image.proofs.OneImage.{tells-such}
+use Rattle.restored.specs.Host.{powerUpIn, Restored, PoweredUp, StillNoneLost}
 use Rattle.restored.proofs.Conditions.{apart}
-use Rattle.restored.proofs.Stays.{image-stays, power-up-has}
-
--- The host holds the image of a chip that has one.
-record Holds (l : List ℕ) (c : Chip) : Type 0 where
-  image : isImage l ≡ true
-  state : stateOf l ≡ c
-  has : hasImage c ≡ true
-
-holds-next : (l : List ℕ) (e : Event) → Holds l (stateOf l) → Holds (stepImage l (e .kind) (e .first) (e .second)) (after (stateOf l) e)
-holds-next l e h =
-    let has-next = image-stays (stateOf l) e (h .has) in
-    by-number l (e .kind) (e .first) (e .second) Holds (h .image)
-    (record { image = has-image (after (stateOf l) e) has-next; state = comes-back (after (stateOf l) e); has = has-next }) h
-
-holds-run : (l : List ℕ) (c : Chip) (es : List Event) → Holds l c → Holds (hostRun l es) (run c es)
-holds-run l c [] h = h
-holds-run l c (e ∷ es) h =
-    let here : Holds l (stateOf l) = record { image = h .image; state = refl; has = subst (λ (d : Chip). hasImage d ≡ true) (sym (h .state)) (h .has) } in
-    holds-run (stepImage l (e .kind) (e .first) (e .second)) (after c e) es
-    (subst (λ (d : Chip). Holds (stepImage l (e .kind) (e .first) (e .second)) (after d e)) (h .state) (holds-next l e here))
+use Rattle.restored.proofs.Holds.{holds-new, holds-image, holds-run}
 
 -- Tallies of two bytes each.
 two-bytes : (b h : ℕ) → b < 256 → h < 256 → b + 256 * h < 65536
@@ -91,21 +68,18 @@ waits-strobed g s c has waits =
 -- From every image, over all events.
 pub restored : (l : List ℕ) → Bytes l → isImage l ≡ true → (es : List Event) → Restored l es
 restored l bytes good es =
-    let has = tells-such l bytes good in
-    let at-end = holds-run l (stateOf l) es (record { image = good; state = refl; has = has }) in
+    let at-end = holds-run l (stateOf l) es (holds-image l bytes good) in
     record {
       image = at-end .image;
       state = at-end .state;
       fates = λ g s. fates-from g s (stateOf l) (sixteen-bits l bytes g s) es;
-      held = λ g s. held-from g s (stateOf l) (waits-strobed g s (stateOf l) has) es;
+      held = λ g s. held-from g s (stateOf l) (waits-strobed g s (stateOf l) (tells-such l bytes good)) es;
     }
 
 -- From every power-up, in 64 bytes that held anything.
 pub powered-up : (l : List ℕ) (v : Levels) (es : List Event) → length l ≡ 64 → PoweredUp l v es
 powered-up l v es long =
-    let c = powerUpWith v in
-    let new : Holds (imageOf c) c = record { image = has-image c (power-up-has v); state = comes-back c; has = power-up-has v } in
-    let at-end = holds-run (savedIn l c) c es (subst (λ (b : List ℕ). Holds b c) (sym (written-over l c long)) new) in
+    let at-end = holds-run (powerUpIn l v) (powerUpWith v) es (holds-new l v long) in
     record { image = at-end .image; state = at-end .state }
 
 -- In a run that keeps to the discipline, a read of the strobed port has always found a byte.

@@ -17,10 +17,18 @@ use Rattle.image.specs.Restored.{stateOf}
 use Rattle.image.specs.Good.{isImage}
 use Rattle.host.specs.Calls.{powerUpImageWith, stepImage}
 
--- The bytes that the host holds after the events of a history, each of which it passed to the call.
+-- The bytes that a call of the step leaves, where an event is passed to it,
+abbrev pub passed : List ℕ → Event → List ℕ
+passed l e = stepImage l (e .kind) (e .first) (e .second)
+
+-- and those that the host holds after the events of a history.
 abbrev pub hostRun : List ℕ → List Event → List ℕ
 hostRun l [] = l
-hostRun l (e ∷ es) = hostRun (stepImage l (e .kind) (e .first) (e .second)) es
+hostRun l (e ∷ es) = hostRun (passed l e) es
+
+-- The bytes in which a chip was powered up under these levels.
+abbrev pub powerUpIn : List ℕ → Levels → List ℕ
+powerUpIn l v = powerUpImageWith l (v .a) (v .b) (v .c)
 
 -- What is promised of an image and any events after it: the host always holds an image, that of the chip after these events; on each
 -- channel the counts go on from the image's tallies, a byte that waits in it being offered already, with the latch's value, which later
@@ -35,8 +43,8 @@ pub record Restored (l : List ℕ) (es : List Event) : Type 0 where
 -- What is promised of a host that powers its chip up, under any levels, in 64 bytes that held anything, and passes it any events: it
 -- always holds an image, that of the chip after these events, from that power-up.
 pub record PoweredUp (l : List ℕ) (v : Levels) (es : List Event) : Type 0 where
-  pub image : isImage (hostRun (powerUpImageWith l (v .a) (v .b) (v .c)) es) ≡ true
-  pub state : stateOf (hostRun (powerUpImageWith l (v .a) (v .b) (v .c)) es) ≡ run (powerUpWith v) es
+  pub image : isImage (hostRun (powerUpIn l v) es) ≡ true
+  pub state : stateOf (hostRun (powerUpIn l v) es) ≡ run (powerUpWith v) es
 
 -- Demand 3's last sentence for an image that was saved from a run which kept to the discipline: where what follows keeps to it too, no
 -- input byte is overwritten or swallowed, the one that waited in the image among them.

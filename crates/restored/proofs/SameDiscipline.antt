@@ -1,0 +1,50 @@
+-- The discipline by the answers is the discipline by the chip.
+-- Rests on Holds and on account's Account.
+use mathlib.Core.Path.{_≡_, refl, ap₂}
+use mathlib.Core.Bool.{Bool, true, false}
+use mathlib.Core.List.{List, [], _∷_}
+use Prim.Native.Nat.{ℕ, _/_, _%_, _<_}
+use native.Mathlib.Omega.{arith}
+use Rattle.bits.specs.Bit.{num}
+use Rattle.control.specs.declared.Group.{Group}
+use Rattle.channel.specs.declared.Side.the-variants.{Input}
+use Rattle.chip.specs.declared.Chip.{Chip}
+use Rattle.ports.specs.Pins.{pinsOf}
+use Rattle.laws.specs.History.{Event}
+use Rattle.fates.specs.Around.{Around, aroundNext}
+use Rattle.fates.specs.Deeds.{deed}
+use Rattle.fates.specs.Discipline.{ibf, Minds, Disciplined}
+use Rattle.fates.proofs.Followed.{after}
+use Rattle.account.specs.Views.{pinLevel, byteBy}
+use Rattle.account.specs.Promise.{accountOf}
+use Rattle.account.proofs.Account.{account-from}
+use Rattle.host.specs.Calls.{packed}
+use Rattle.restored.specs.Host.{passed}
+use Rattle.restored.specs.Answers.{ibfAnswered, HostDisciplined}
+use Rattle.restored.proofs.Holds.{Holds, holds-next, pins-held}
+
+-- The levels of port C are a byte, so that they can be taken out of the answer.
+bit-below : (b : Bool) → num b < 2
+bit-below true = omega arith
+bit-below false = omega arith
+
+byte-below : (f : ℕ → Bool) → byteBy f < 256
+byte-below f =
+    omega (arith, bit-below (f 0), bit-below (f 1), bit-below (f 2), bit-below (f 3), bit-below (f 4), bit-below (f 5), bit-below (f 6), bit-below (f 7))
+
+lines-below : (c : Chip) → pinsOf c 2 .levels < 256
+lines-below c = rw (account-from c [] .levels 2) (byte-below (pinLevel (accountOf c)))
+
+taken-out : (levels driven : ℕ) → levels < 256 → packed 0 levels driven / 256 % 256 ≡ levels
+taken-out levels driven small = omega arith
+
+ibf-held : (g : Group) (l : List ℕ) (c : Chip) → Holds l c → ibfAnswered l g ≡ ibf c g
+ibf-held g l c h = rw (pins-held l c h 2, taken-out _ _ (lines-below c))
+
+-- So the one can be kept exactly where the other can.
+pub same-discipline : (g : Group) (a : Around) (l : List ℕ) (c : Chip) (es : List Event) → Holds l c
+    → HostDisciplined g a l es ≡ Disciplined g a c es
+same-discipline g a l c [] h = refl
+same-discipline g a l c (e ∷ es) h =
+    ap₂ (λ (level : Bool) (rest : Type 0). Minds level (deed g Input a e) × rest) (ibf-held g l c h)
+    (same-discipline g (aroundNext a e) (passed l e) (after c e) es (holds-next l c h e))
