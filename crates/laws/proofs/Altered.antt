@@ -1,5 +1,5 @@
 -- What it would take: with the one cause altered, a half of which no later reason is seen is high ("Why the interrupt is quiet").
--- Rests on Quiet, on status' ByReason and on bits' BitLaws.
+-- Rests on Interrupts and Quiet, on status' ByReason and on bits' BitLaws.
 use mathlib.Core.Path.{_≡_, _∙_, refl, ap, sym}
 use mathlib.Core.Bool.{true, false, not}
 use lib.Dec.{lit<}
@@ -9,15 +9,15 @@ use Rattle.control.specs.declared.Group.the-variants.{A, B}
 use Rattle.channel.specs.declared.Side.{Side}
 use Rattle.channel.specs.declared.Side.the-variants.{Input, Output}
 use Rattle.channel.specs.Channel.{flagOf}
-use Rattle.chip.specs.declared.Phase.the-variants.{Idle}
 use Rattle.chip.specs.declared.Chip.{Chip}
-use Rattle.chip.specs.Handshakes.{strobed, running}
+use Rattle.chip.specs.Handshakes.{strobed}
 use Rattle.status.specs.declared.reasons.Reason.{Reason}
 use Rattle.status.specs.declared.reasons.Reason.the-variants.{EnableOff, FlagWrong, LineLow, OwnCycle, High}
 use Rattle.status.specs.Reasons.{holds, reasonOf}
 use Rattle.status.proofs.ByReason.{NoneHolds, by-reason, none-named, none-asks}
 use Rattle.laws.specs.Quiet.{later, NoneSeen}
 use Rattle.laws.specs.Altered.{altered, HalfHigh}
+use Rattle.laws.proofs.Interrupts.{none-runs}
 use Rattle.laws.proofs.Quiet.{wrong-seen, low-seen, asked-seen}
 
 -- The cause altered no longer holds, and the others are as they were.
@@ -68,10 +68,6 @@ module _ (c : Chip) where
   flag-beside-line : (g : Group) (s : Side) → holds (altered c g s LineLow) g s FlagWrong ≡ holds c g s FlagWrong
   flag-beside-line A s = refl
   flag-beside-line B s = refl
-
-none-runs : (g : Group) (s : Side) → running Idle g s ≡ false
-none-runs g Input = refl
-none-runs g Output = refl
 
 -- A half that is there, of which no reason holds, is high.
 high-where : (c : Chip) (g : Group) (s : Side) → strobed (c .core .word) g s ≡ true → NoneHolds c g s → HalfHigh c g s

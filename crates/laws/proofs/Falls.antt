@@ -20,12 +20,8 @@ use Rattle.levels.specs.Levels.{fallen, lineFalls, letsThrough, levelled}
 use Rattle.levels.proofs.After.{levelled-input, levelled-output}
 use Rattle.step.specs.Step.{stepOf}
 use Rattle.step.proofs.Outcome.{step-either}
+use Rattle.laws.specs.Kept.{Kept}
 use Rattle.laws.proofs.FlagAfter.{either-way}
-
--- Condition and tallies as they were. The latch may change: levels go through to an input's, and a mode 0 write changes an output's.
-pub record Kept (before after : Channel) : Type 0 where
-  pub fill : after .fill ≡ before .fill
-  pub tally : after .tally ≡ before .tally
 
 -- A channel that is the same is kept.
 pub kept : {before after : Channel} → after ≡ before → Kept before after

@@ -2,8 +2,9 @@
 -- the theorems on the flags.
 -- Rests on ChannelPins.
 use mathlib.Core.Path.{_≡_, _∙_, refl, sym, subst}
-use mathlib.Core.Bool.{Bool, true, false, cond, not, _&&_}
+use mathlib.Core.Bool.{Bool, true, false, cond, _&&_}
 use Prim.Native.Nat.{ℕ}
+use lib.Dec.{T, eqb}
 use Rattle.bits.specs.Bit.{bitOf}
 use Rattle.control.specs.declared.Group.{Group}
 use Rattle.channel.specs.declared.Side.{Side}
@@ -13,7 +14,7 @@ use Rattle.chip.specs.Handshakes.{strobed, lineOf}
 use Rattle.status.specs.Status.{flagAt}
 use Rattle.levels.specs.Levels.{fallen, lineFalls}
 use Rattle.step.specs.Numbers.{numberOf}
-use Rattle.laws.specs.Seen.{pin, flagPin}
+use Rattle.laws.specs.Seen.{pin, flagPin, lowers}
 use Rattle.laws.proofs.ChannelPins.{flag-pin, line-pin}
 
 -- The flag of a chip whose mode word is that of another, which strobes the channel.
@@ -28,10 +29,10 @@ pub line-falls : (c : Chip) (g : Group) (s : Side) (d : ℕ) → strobed (c .cor
 unfolding fallen
 line-falls c g s d on high low = rw (on, sym (line-pin c g s on) ∙ high, low)
 
-pub line-stays : (c : Chip) (g : Group) (s : Side) (d : ℕ) → strobed (c .core .word) g s ≡ true
-    → (pin c (lineOf g s) && not (bitOf d (lineOf g s))) ≡ false → lineFalls (c .core) d g s ≡ false
+pub seen-falls : (c : Chip) (g : Group) (s : Side) (x d : ℕ) → strobed (c .core .word) g s ≡ true
+    → (eqb x 2 && lineFalls (c .core) d g s) ≡ lowers c g s x d
 unfolding fallen
-line-stays c g s d on stays = rw (on, ← line-pin c g s on) (stays)
+seen-falls c g s x d on = rw (on, line-pin c g s on)
 
 pub levels-accepted : (ph : Phase) → numberOf ph 5 2 ≡ 0
 unfolding numberOf
@@ -41,3 +42,7 @@ levels-accepted ph = refl
 pub either-way : {X Y : Type 0} (P : X → Y) (v : Y) (b : Bool) (y n : X) → P y ≡ v → P n ≡ v → P (cond b y n) ≡ v
 either-way P v true y n hy hn = hy
 either-way P v false y n hy hn = hn
+
+-- What is so and not so.
+pub contrary : (b : Bool) → b ≡ false → b ≡ true → ⊥
+contrary b off on = subst T (sym on ∙ off) tt

@@ -33,8 +33,8 @@ use Rattle.step.specs.Step.{stepOf}
 use Rattle.step.proofs.ByKind.{by-kind}
 use Rattle.step.proofs.Ends.{by-phase}
 use Rattle.step.proofs.Outcome.{step-accepts, step-either}
-use Rattle.laws.specs.Seen.{pin, makesAnew}
-use Rattle.laws.specs.Loads.{lowers, comesUnderLow, loads}
+use Rattle.laws.specs.Seen.{pin, lowers, makesAnew}
+use Rattle.laws.specs.Loads.{comesUnderLow, loads}
 use Rattle.laws.proofs.Refusals.{no-kind-refused}
 use Rattle.laws.proofs.ChannelPins.{line-pin}
 use Rattle.laws.proofs.FlagAfter.{line-falls, levels-accepted, either-way}
@@ -107,7 +107,7 @@ module _ (c : Chip) (g : Group) where
       low : Bool
       low = not (bitOf d (lineOf g Input))
 
-      go : (on : Bool) → strobed (c .core .word) g Input ≡ on → (on && (lowers c g x d || comesUnderLow c g x)) ≡ false
+      go : (on : Bool) → strobed (c .core .word) g Input ≡ on → (on && (lowers c g Input x d || comesUnderLow c g x)) ≡ false
           → cond (eqb x 2 && (strobed (c .core .word) g Input && (was && low))) (afterOffer ch (portOf (c .core) g .outside))
           (cond (ownAddress x g && (strobed (c .core .word) g Input && not was)) (afterFollow ch d) ch) .latch ≡ ch .latch
       go true on none =

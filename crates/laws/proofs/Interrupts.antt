@@ -13,6 +13,7 @@ use Rattle.control.proofs.ModeTwo.{mode-2-both-ways}
 use Rattle.control.proofs.Strobed.{mode-1-takes, mode-1-gives}
 use Rattle.channel.specs.declared.Side.{Side}
 use Rattle.channel.specs.declared.Side.the-variants.{Input, Output}
+use Rattle.chip.specs.declared.Phase.the-variants.{Idle}
 use Rattle.chip.specs.declared.Chip.{Chip}
 use Rattle.chip.specs.Handshakes.{strobed, lineOf, enableOf, ownAddress, running}
 use Rattle.status.specs.Status.{flagAt, requestOf, intrOf}
@@ -20,12 +21,9 @@ use Rattle.status.proofs.ByReason.{quiet}
 use Rattle.step.specs.Numbers.{numberOf}
 use Rattle.step.specs.Step.{stepOf}
 use Rattle.step.proofs.Outcome.{step-accepts}
-use Rattle.laws.specs.Seen.{pin, intrPin, flagPin}
+use Rattle.laws.specs.Seen.{pin, intrPin}
+use Rattle.laws.specs.Halves.{half, other}
 use Rattle.laws.proofs.ChannelPins.{flag-pin, line-pin, intr-pin}
-
--- One half of INTR, told by the pins: INTE and the flag and the line high and no own cycle running.
-abbrev pub half : Chip → Group → Side → Bool
-half c g s = enableOf (c .core .inte) g s && pin c (flagPin g s) && pin c (lineOf g s) && not (running (c .phase) g s)
 
 pub half-is : (c : Chip) (g : Group) (s : Side) → strobed (c .core .word) g s ≡ true → requestOf c g s ≡ half c g s
 unfolding requestOf
@@ -47,10 +45,6 @@ dropped true false d e = refl
 dropped false b d e = refl
 
 -- Mode 1: only one side is strobed, and the pin is its half.
-abbrev other : Side → Side
-other Input = Output
-other Output = Input
-
 one-side : (w : ℕ) (g : Group) (s : Side) → modeOf w g ≡ 1 → strobed w g s ≡ true → strobed w g (other s) ≡ false
 one-side w g Input one on = mode-1-gives w g one ∙ ap not (sym (mode-1-takes w g one) ∙ on)
 one-side w g Output one on = mode-1-takes w g one ∙ not-true (inputOf w g) (sym (mode-1-gives w g one) ∙ on)
@@ -90,6 +84,11 @@ pub intr-in-own-cycle-of-mode-2 : (c : Chip) (s : Side) → modeOf (c .core .wor
 intr-in-own-cycle-of-mode-2 c s two r =
     let on = both-sides (c .core .word) (other s) two in
     intr-pin c A (other s) on ∙ either-half c A (other s) (rw (other-other s) (cycle-drops-half c A s r)) ∙ half-is c A (other s) on
+
+-- On an idle bus none runs.
+pub none-runs : (g : Group) (s : Side) → running Idle g s ≡ false
+none-runs g Input = refl
+none-runs g Output = refl
 
 -- The own cycle runs from its beginning: an accepted read for an input, an accepted write for an output.
 pub begun-read-runs : (c : Chip) (g : Group) (x d : ℕ) → numberOf (c .phase) 1 x ≡ 0 → running (stepOf c 1 x d .chip .phase) g Input ≡ ownAddress x g

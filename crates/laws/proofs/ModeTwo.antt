@@ -1,6 +1,6 @@
--- Port A in mode 2 is driven exactly while ACK is low, and then shows its output latch ("Reads and pins").
--- Rests on ChannelPins and control's ModeTwo.
-use mathlib.Core.Path.{_≡_, refl}
+-- Port A in mode 2, which is bit 6: driven exactly while ACK is low, when it shows its output latch; read as its input latch ("Reads and pins").
+-- Rests on PlainBits, ChannelPins, OwnPort, ports' Strobed and control's ModeTwo.
+use mathlib.Core.Path.{_≡_, _∙_, refl}
 use mathlib.Core.Bool.{Bool, true, false, cond, not}
 use Rattle.bits.specs.Bit.{bitOf}
 use Rattle.control.specs.declared.Group.the-variants.{A}
@@ -10,14 +10,22 @@ use Rattle.channel.specs.declared.Side.the-variants.{Output}
 use Rattle.chip.specs.declared.Chip.{Chip}
 use Rattle.ports.specs.declared.Pins.{Pins}
 use Rattle.ports.specs.Pins.{drivesPort, pinsOfPort, pinsOf}
-use Rattle.laws.specs.Seen.{pin}
+use Rattle.ports.proofs.Strobed.{strobed-reads}
+use Rattle.laws.specs.Ports.{GivesAndTakes}
+use Rattle.laws.proofs.PlainBits.{mode-by-bits}
 use Rattle.laws.proofs.ChannelPins.{line-pin}
+use Rattle.laws.proofs.OwnPort.{own-read}
 
-pub mode-2-drives : (c : Chip) → modeOf (c .core .word) A ≡ 2
-    → pinsOf c 0 ≡ cond (pin c 6) (record { levels = c .core .a .outside; driven = 0 }) (record { levels = c .core .a .output .latch; driven = 0xff })
+pub mode-2-drives : (c : Chip) → bitOf (c .core .word) 6 ≡ true → GivesAndTakes c
 unfolding pinsOf pinsOfPort drivesPort
-mode-2-drives c two =
-    rw (two, line-pin c A Output (mode-2-both-ways (c .core .word) A two .giving)) (go (bitOf (c .core .c .outside) 6))
+mode-2-drives c six =
+    let w = c .core .word in
+    let two : modeOf w A ≡ 2 = mode-by-bits w A ∙ rw (six) in
+    let both = mode-2-both-ways w A two in
+    record {
+      shows = rw (two, line-pin c A Output (both .giving)) (go (bitOf (c .core .c .outside) 6));
+      answers = own-read c 0 A refl ∙ strobed-reads w A (c .core .a) (both .taking);
+    }
   where
     go : (high : Bool)
         → _≡_ {A = Pins} (record { levels = cond (not high) (c .core .a .output .latch) (c .core .a .outside); driven = cond (not high) 0xff 0 })

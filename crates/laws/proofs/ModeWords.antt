@@ -1,6 +1,6 @@
 -- Every mode word, the same one again included, and a reset make the chip anew; after a reset every pin is an input ("State",
 -- "Mode words").
--- Rests on OneEnd, the channel's Left, settings' After, roles' PinByMasks, bits' Tested and the step's Ends.
+-- Rests on the channel's Left, settings' After, roles' PinByMasks, bits' Tested and the step's Ends.
 use mathlib.Core.Path.{_≡_, _∙_, refl, ap}
 use mathlib.Core.Bool.{Bool, true, false, cond}
 use Prim.Native.Nat.{ℕ, _<_}
@@ -14,8 +14,6 @@ use Rattle.roles.specs.Role.{input, number, usesOf, freeRole, roleOf}
 use Rattle.roles.proofs.PinByMasks.{number-one}
 use Rattle.channel.specs.declared.Side.{Side}
 use Rattle.channel.specs.declared.Side.the-variants.{Input, Output}
-use Rattle.channel.specs.declared.Fill.the-variants.{Empty}
-use Rattle.channel.specs.Channel.{isWaiting, counted, cleared}
 use Rattle.channel.proofs.Left.{clear-empties, clear-zeroes, clear-counts}
 use Rattle.chip.specs.declared.Phase.the-variants.{Writing}
 use Rattle.chip.specs.declared.Core.{Core}
@@ -27,23 +25,10 @@ use Rattle.settings.proofs.After.{renewed-channel, renewed-word, renewed-ports,
 use Rattle.writes.specs.Write.{written}
 use Rattle.ports.specs.Reads.{readPort}
 use Rattle.ports.specs.Pins.{drivesPort, pinsOfPort, pinsOfLines, pinsOf}
-use Rattle.step.specs.declared.Stepped.{Stepped}
 use Rattle.step.specs.Numbers.{numberOf}
 use Rattle.step.specs.Step.{stepOf}
 use Rattle.step.proofs.Ends.{write-ends}
-use Rattle.laws.proofs.OneEnd.{Freed}
-
--- What a chip made anew is, beside the one that it was.
-pub record Anew (before : Core) (w : ℕ) (after : Core) : Type 0 where
-  pub word : after .word ≡ w
-  pub empty : (g : Group) (s : Side) → channelOf after g s .fill ≡ Empty
-  pub latches : (g : Group) (s : Side) → channelOf after g s .latch ≡ 0
-  pub lines : after .c .latch ≡ 0
-  pub enables : (g : Group) (s : Side) → enableOf (after .inte) g s ≡ false
-  pub tallies : (g : Group) (s : Side)
-      → channelOf after g s .tally ≡ counted cleared (isWaiting (channelOf before g s .fill)) (channelOf before g s .tally)
-  pub levels : (g : Group) → portOf after g .outside ≡ portOf before g .outside
-  pub linesLevels : after .c .outside ≡ before .c .outside
+use Rattle.laws.specs.Anew.{Anew, Obeyed}
 
 anew : (c : Core) (w : ℕ) → Anew c w (renewed c w)
 anew c w = record {
@@ -64,10 +49,6 @@ anew c w = record {
     off B Output = refl
 
 -- A mode word, whatever the last one was.
-pub record Obeyed (c : Chip) (w : ℕ) (r : Stepped) : Type 0 where
-  pub bus : Freed r
-  pub core : Anew (c .core) w (r .chip .core)
-
 mode-write : (c : Core) (w : ℕ) → bitOf w 7 ≡ true → written c 3 w ≡ renewed c w
 unfolding written
 mode-write c w set = mode-word c w set

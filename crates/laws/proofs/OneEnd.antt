@@ -16,19 +16,13 @@ use Rattle.chip.proofs.Surrounded.{spared-port}
 use Rattle.reads.proofs.After.{ended-output}
 use Rattle.writes.specs.Write.{written}
 use Rattle.writes.proofs.After.{by-address}
-use Rattle.step.specs.declared.Stepped.{Stepped}
 use Rattle.step.specs.Step.{refused, stepOf}
 use Rattle.step.proofs.Ends.{read-ends, write-ends}
 use Rattle.laws.specs.Seen.{makesAnew}
+use Rattle.laws.specs.Anew.{Freed}
 use Rattle.laws.proofs.Refusals.{no-kind-refused}
 
--- An event is accepted, has no byte to give, and leaves the bus idle.
-pub record Freed (r : Stepped) : Type 0 where
-  pub taken : r .number ≡ 0
-  pub silent : r .byte ≡ 0
-  pub idle : r .chip .phase ≡ Idle
-
--- So it is with the end of whatever runs. The idle bus itself refuses with 5: idle-ends-nothing, in the step's Ends.
+-- The end of whatever runs is accepted. The idle bus itself refuses with 5: idle-ends-nothing, in the step's Ends.
 pub cycle-ends : (c : Chip) (x d : ℕ) → ¬ (c .phase ≡ Idle) → Freed (stepOf c 2 x d)
 cycle-ends c x d runs = go (c .phase) refl
   where

@@ -3,7 +3,7 @@
 use mathlib.Core.Path.{_≡_, _∙_, refl, ap, sym, subst}
 use mathlib.Core.Bool.{true}
 use mathlib.Core.List.{_++_}
-use Prim.Native.Nat.{ℕ, _<_}
+use Prim.Native.Nat.{ℕ}
 use Rattle.bits.specs.Bit.{bitOf, valueOf}
 use Rattle.control.specs.declared.Group.{Group}
 use Rattle.control.specs.declared.Group.the-variants.{A, B}
@@ -20,19 +20,14 @@ use Rattle.levels.specs.Levels.{edged, levelledLines, levelledPort, levelled}
 use Rattle.ports.specs.Pins.{levelAs, drivesPort, pinsOfPort, pinsOfLines, pinsOf}
 use Rattle.step.specs.Numbers.{numberOf}
 use Rattle.step.specs.Step.{accepted, stepOf}
-use Rattle.laws.specs.Seen.{pin}
+use Rattle.laws.specs.Anew.{Anew}
+use Rattle.laws.specs.PowerUp.{AsNamed, Starts}
 use Rattle.laws.specs.History.{levels, write}
 use Rattle.laws.specs.Marked.{after}
 use Rattle.laws.proofs.ChannelPins.{pin-by-role, line-pin}
-use Rattle.laws.proofs.ModeWords.{Anew, mode-word-renews, reset-roles}
+use Rattle.laws.proofs.ModeWords.{mode-word-renews, reset-roles}
 
 -- Each port shows the levels that were named for it, and nothing is driven.
-pub record AsNamed (l : Levels) (c : Chip) : Type 0 where
-  pub a : pinsOf c 0 ≡ record { levels = l .a; driven = 0 }
-  pub b : pinsOf c 1 ≡ record { levels = l .b; driven = 0 }
-  pub lines : (n : ℕ) → n < 8 → pin c n ≡ bitOf (l .c) n
-  pub linesDriven : pinsOf c 2 .driven ≡ 0
-
 pub power-up-shows : (l : Levels) → AsNamed l (powerUpWith l)
 unfolding pinsOf pinsOfPort pinsOfLines drivesPort outputOf modeOf inputOf roleOf usesOf freeRole upperInput lowerInput bitOf valueOf
 power-up-shows l = record {
@@ -49,11 +44,7 @@ pub named-is-put : (k l : Levels)
 unfolding stepOf numberOf levelled levelledLines levelledPort edged strobedInput strobedOutput modeOf inputOf bitOf
 named-is-put k l = refl
 
--- A mode word finds the lines as they were named, and takes no level for a fall: no channel has had a byte.
-pub record Starts (l : Levels) (w : ℕ) (c : Chip) : Type 0 where
-  pub line : (g : Group) (s : Side) → strobed w g s ≡ true → pin c (lineOf g s) ≡ bitOf (l .c) (lineOf g s)
-  pub none : (g : Group) (s : Side) → channelOf (c .core) g s ≡ noByte
-
+-- A mode word finds the lines as they were named, and no byte.
 no-byte-yet : (l : Levels) (g : Group) (s : Side) → channelOf (powerUpWith l .core) g s ≡ noByte
 no-byte-yet l A Input = refl
 no-byte-yet l A Output = refl

@@ -20,8 +20,9 @@ use Rattle.status.proofs.ByReason.{by-reason, none-asks, named-high, quiet}
 use Rattle.status.proofs.ByMode.{by-mode, says-high}
 use Rattle.laws.specs.Seen.{pin, intrPin}
 use Rattle.laws.specs.Quiet.{seen, TrueOf, TrueOfGroup, intrSeen}
+use Rattle.laws.specs.Halves.{half}
 use Rattle.laws.proofs.ChannelPins.{intr-where, flag-pin, line-pin, intr-pin, told-enable}
-use Rattle.laws.proofs.Interrupts.{half, half-is}
+use Rattle.laws.proofs.Interrupts.{half-is}
 
 either-raises : (c : Chip) (g : Group) (s : Side) → requestOf c g s ≡ true → intrOf c g ≡ true
 unfolding intrOf

@@ -14,17 +14,7 @@ use Rattle.chip.specs.declared.Chip.{Chip}
 use Rattle.step.specs.Numbers.{noKind, rows, firstOf, numberOf}
 use Rattle.step.specs.Step.{refused, stepOf}
 use Rattle.step.proofs.Outcome.{step-refuses, step-number}
-
--- Of the rows, counted from 0, row j applies and no earlier one does.
-abbrev pub First : ℕ → List Bool → Type 0
-First j [] = ⊥
-First zero (b ∷ bs) = b ≡ true
-First (suc j) (b ∷ bs) = (b ≡ false) × First j bs
-
--- No row applies.
-abbrev pub NoneOf : List Bool → Type 0
-NoneOf [] = Unit {0}
-NoneOf (b ∷ bs) = (b ≡ false) × NoneOf bs
+use Rattle.laws.specs.Refusals.{First, NoneOf, Numbered}
 
 -- A number found among rows counted from n + 1 is above n, unless it is 0.
 above : (n : ℕ) (bs : List Bool) → (firstOf (suc n) bs ≡ 0) ⊎ (suc n ≤ firstOf (suc n) bs)
@@ -54,12 +44,6 @@ is-none n (true ∷ bs) e = absurd (omega (arith, e))
 is-none n (false ∷ bs) e = (refl, is-none (suc n) bs e)
 
 -- The number of every event is that of the first row that applies, and of no other.
-pub record Numbered (ph : Phase) (k x : ℕ) : Type 0 where
-  pub given : (j : ℕ) → First j (rows ph k x) → numberOf ph k x ≡ suc j
-  pub onlyThen : (j : ℕ) → numberOf ph k x ≡ suc j → First j (rows ph k x)
-  pub accepted : NoneOf (rows ph k x) → numberOf ph k x ≡ 0
-  pub onlyAccepted : numberOf ph k x ≡ 0 → NoneOf (rows ph k x)
-
 pub numbered : (ph : Phase) (k x : ℕ) → Numbered ph k x
 unfolding numberOf
 numbered ph k x = record {

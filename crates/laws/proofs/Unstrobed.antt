@@ -25,8 +25,9 @@ use Rattle.step.proofs.ByKind.{by-kind}
 use Rattle.step.proofs.Ends.{by-phase}
 use Rattle.step.proofs.Outcome.{step-either}
 use Rattle.laws.specs.Seen.{makesAnew}
+use Rattle.laws.specs.Kept.{Kept}
 use Rattle.laws.proofs.Refusals.{no-kind-refused}
-use Rattle.laws.proofs.Falls.{Kept, kept, levelled-kept}
+use Rattle.laws.proofs.Falls.{kept, levelled-kept}
 
 module _ (c : Core) (g : Group) where
   kept-begun : (s : Side) → strobed (c .word) g s ≡ false → (x : ℕ) → Kept (channelOf c g s) (channelOf (begunRead c x) g s)

@@ -1,5 +1,5 @@
 -- The words in which the theorems speak: what is seen of the chip from outside, and the pins of each channel.
-use mathlib.Core.Bool.{Bool, false, _&&_}
+use mathlib.Core.Bool.{Bool, false, not, _&&_}
 use Prim.Native.Nat.{ℕ}
 use lib.Dec.{eqb}
 use Rattle.bits.specs.Bit.{bitOf}
@@ -10,6 +10,7 @@ use Rattle.channel.specs.declared.Side.the-variants.{Input, Output}
 use Rattle.chip.specs.declared.Phase.{Phase}
 use Rattle.chip.specs.declared.Phase.the-variants.{Idle, Reading, Writing}
 use Rattle.chip.specs.declared.Chip.{Chip}
+use Rattle.chip.specs.Handshakes.{lineOf}
 use Rattle.ports.specs.Reads.{readOf}
 use Rattle.ports.specs.Pins.{pinsOf}
 
@@ -21,6 +22,10 @@ pin c n = bitOf (pinsOf c 2 .levels) n
 abbrev pub told : Chip → ℕ → Bool
 told c n = bitOf (readOf c 2) n
 
+-- The chip drives pin n of port C.
+abbrev pub driven : Chip → ℕ → Bool
+driven c n = bitOf (pinsOf c 2 .driven) n
+
 -- The pin of a group's INTR, and that of a channel's IBF or OBF ("Port C roles").
 abbrev pub intrPin : Group → ℕ
 intrPin A = 3
@@ -31,8 +36,18 @@ flagPin A Input = 5
 flagPin A Output = 7
 flagPin B s = 1
 
+-- Levels d on port x lower a channel's STB or ACK, which the pins show high.
+abbrev pub lowers : Chip → Group → Side → ℕ → ℕ → Bool
+lowers c g s x d = eqb x 2 && (pin c (lineOf g s) && not (bitOf d (lineOf g s)))
+
 -- A write of a mode word runs, which will make the chip anew at its end.
 abbrev pub makesAnew : Phase → Bool
 makesAnew Idle = false
 makesAnew (Reading p) = false
 makesAnew (Writing a d) = eqb a 3 && bitOf d 7
+
+-- A write to control runs, be it of a mode word or of bit set/reset.
+abbrev pub commands : Phase → Bool
+commands Idle = false
+commands (Reading p) = false
+commands (Writing a d) = eqb a 3
