@@ -1,6 +1,5 @@
 pub mod ByGroup
 pub mod SameWords
-pub mod BitSeven
 pub mod ModeTwo
 pub mod PinNamed
 pub mod AsByte

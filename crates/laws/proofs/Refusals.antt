@@ -70,8 +70,3 @@ refusal-changes-nothing c k x d h = step-refuses c k x d (λ e. h (step-number c
 pub no-kind-refused : (c : Chip) (k x d : ℕ) → noKind k ≡ true → stepOf c k x d ≡ refused c 1
 unfolding stepOf numberOf
 no-kind-refused c k x d none = rw (none)
-
--- The control register cannot be read, in any state.
-pub control-read-refused : (c : Chip) (d : ℕ) → stepOf c 1 3 d ≡ refused c 3
-unfolding stepOf numberOf
-control-read-refused c d = refl

@@ -1,4 +1,2 @@
 pub mod SameWords
-pub mod BitSeven
-pub mod ModeTwo
 pub mod PinByMasks
