@@ -1,14 +1,15 @@
 -- Mode words with the same bits 0 to 6 have the same place in the summary; so bit 7 is asked for nothing.
--- Rests on nothing.
-use mathlib.Core.Path.{_≡_, refl, ap₂}
+-- Rests on laws' PlainBits.
+use mathlib.Core.Path.{_≡_, refl, ap, ap₂}
 use mathlib.Core.Bool.{Bool, true, false, cond}
-use Prim.Native.Nat.{ℕ, zero, suc, _+_, _/_, _%_, _<_}
+use Prim.Native.Nat.{ℕ, _+_, _/_, _%_, _^_, _<_}
 use native.Mathlib.Omega.{arith}
-use lib.Dec.{lit<}
+use lib.Dec.{eqb, lit<}
 use lib.ListN.{getD}
 use Rattle.bits.specs.Bit.{bitOf}
 use Rattle.control.specs.declared.Group.{Group}
 use Rattle.control.specs.declared.Group.the-variants.{A, B}
+use Rattle.laws.proofs.PlainBits.{by-pin, bit-as-byte}
 use Rattle.account.specs.Summary.{Column, columnOf, io, summary, signalAt, isIn}
 use Rattle.account.specs.Promise.{counted}
 
@@ -29,27 +30,16 @@ module _ (u w : ℕ) (alike : Alike u w) where
 
 -- A number has the low bits of its lowest byte,
 pub byte-alike : (w : ℕ) → Alike (w % 256) w
-unfolding bitOf
-byte-alike w zero h = let e : w % 256 / 1 % 2 ≡ w / 1 % 2 = omega arith in rw (e)
-byte-alike w (suc zero) h = let e : w % 256 / 2 % 2 ≡ w / 2 % 2 = omega arith in rw (e)
-byte-alike w (suc (suc zero)) h = let e : w % 256 / 4 % 2 ≡ w / 4 % 2 = omega arith in rw (e)
-byte-alike w (suc (suc (suc zero))) h = let e : w % 256 / 8 % 2 ≡ w / 8 % 2 = omega arith in rw (e)
-byte-alike w (suc (suc (suc (suc zero)))) h = let e : w % 256 / 16 % 2 ≡ w / 16 % 2 = omega arith in rw (e)
-byte-alike w (suc (suc (suc (suc (suc zero))))) h = let e : w % 256 / 32 % 2 ≡ w / 32 % 2 = omega arith in rw (e)
-byte-alike w (suc (suc (suc (suc (suc (suc zero)))))) h = let e : w % 256 / 64 % 2 ≡ w / 64 % 2 = omega arith in rw (e)
-byte-alike w (suc (suc (suc (suc (suc (suc (suc k))))))) h = absurd (omega (arith, h))
+byte-alike w k h = bit-as-byte w k (omega (arith, h))
 
 -- and keeps them where bit 7 is set.
 set-alike : (w : ℕ) → Alike (w + 128) w
 unfolding bitOf
-set-alike w zero h = let e : (w + 128) / 1 % 2 ≡ w / 1 % 2 = omega arith in rw (e)
-set-alike w (suc zero) h = let e : (w + 128) / 2 % 2 ≡ w / 2 % 2 = omega arith in rw (e)
-set-alike w (suc (suc zero)) h = let e : (w + 128) / 4 % 2 ≡ w / 4 % 2 = omega arith in rw (e)
-set-alike w (suc (suc (suc zero))) h = let e : (w + 128) / 8 % 2 ≡ w / 8 % 2 = omega arith in rw (e)
-set-alike w (suc (suc (suc (suc zero)))) h = let e : (w + 128) / 16 % 2 ≡ w / 16 % 2 = omega arith in rw (e)
-set-alike w (suc (suc (suc (suc (suc zero))))) h = let e : (w + 128) / 32 % 2 ≡ w / 32 % 2 = omega arith in rw (e)
-set-alike w (suc (suc (suc (suc (suc (suc zero)))))) h = let e : (w + 128) / 64 % 2 ≡ w / 64 % 2 = omega arith in rw (e)
-set-alike w (suc (suc (suc (suc (suc (suc (suc k))))))) h = absurd (omega (arith, h))
+set-alike w k h =
+    ap (λ (b : ℕ). eqb b 1)
+    (by-pin (λ k. k < 7 → (w + 128) / 2 ^ k % 2 ≡ w / 2 ^ k % 2)
+    (λ h. omega arith) (λ h. omega arith) (λ h. omega arith) (λ h. omega arith) (λ h. omega arith) (λ h. omega arith) (λ h. omega arith)
+    (λ h. absurd (omega (arith, h))) k (omega (arith, h)) h)
 
 pub counted-alike : (w : ℕ) → Alike (counted w) w
 counted-alike w k h = go (bitOf w 7)

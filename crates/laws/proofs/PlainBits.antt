@@ -34,7 +34,7 @@ by-pin P a b c d e f g h (suc (suc (suc (suc (suc (suc (suc zero))))))) below = 
 by-pin P a b c d e f g h (suc (suc (suc (suc (suc (suc (suc (suc n)))))))) below = absurd (omega (arith, below))
 
 -- The eight bits of a word are those of a byte.
-bit-as-byte : (w n : ℕ) → n < 8 → bitOf (w % 256) n ≡ bitOf w n
+pub bit-as-byte : (w n : ℕ) → n < 8 → bitOf (w % 256) n ≡ bitOf w n
 unfolding bitOf
 bit-as-byte w n below =
     ap (λ (k : ℕ). eqb k 1)
