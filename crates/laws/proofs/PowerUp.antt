@@ -12,10 +12,12 @@ use Rattle.roles.specs.Role.{usesOf, freeRole, roleOf}
 use Rattle.channel.specs.declared.Side.{Side}
 use Rattle.channel.specs.declared.Side.the-variants.{Input, Output}
 use Rattle.chip.specs.declared.Phase.the-variants.{Writing}
+use Rattle.channel.specs.Moves.{afterClear}
 use Rattle.chip.specs.declared.Chip.{Chip}
 use Rattle.chip.specs.declared.Levels.{Levels}
 use Rattle.chip.specs.State.{noTally, noByte, powerUpWith, channelOf}
 use Rattle.chip.specs.Handshakes.{strobed, lineOf}
+use Rattle.settings.specs.Renewed.{clearedPort, renewed}
 use Rattle.levels.specs.Levels.{edged, levelledLines, levelledPort, levelled}
 use Rattle.ports.specs.Pins.{levelAs, drivesPort, pinsOfPort, pinsOfLines, pinsOf}
 use Rattle.step.specs.Numbers.{numberOf}
@@ -36,6 +38,11 @@ power-up-shows l = record {
   lines = λ n small. pin-by-role (powerUpWith l) n small ∙ ap (levelAs (powerUpWith l) n) (reset-roles n small);
   linesDriven = refl;
 }
+
+-- A reset right after a power-up changes nothing: it goes back to what the chip was then, in every field.
+pub reset-as-power-up : (l : Levels) (x d : ℕ) → stepOf (powerUpWith l) 0 x d .chip ≡ powerUpWith l
+unfolding stepOf numberOf renewed clearedPort afterClear
+reset-as-power-up l x d = refl
 
 -- To name levels is to put them on the ports right after a power-up under any others: in mode 0 none of them is an edge, and none goes
 -- through to a latch.
