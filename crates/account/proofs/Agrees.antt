@@ -1,5 +1,5 @@
 -- An account that agrees with a chip goes on to agree with it.
--- Rests on ByEvent, Pins, Ports and Waves, and on fates' Surroundings.
+-- Rests on Words, Columns, Signals, ByEvent, Moves, Pins, Ports and Waves, on fates' Surroundings, and on bits' Tested.
 use mathlib.Core.Path.{_≡_, _∙_, refl, ap, sym}
 use mathlib.Core.Bool.{Bool, true, false, not, _&&_, and-false}
 use Prim.Native.Nat.{ℕ, _<_}

@@ -1,5 +1,5 @@
 -- INTR is what the account says, by the sheet's equation.
--- Rests on Here, Waves and Truth.
+-- Rests on Truth, Columns, Moves, Agrees and Here, and on fates' Tables.
 use mathlib.Core.Path.{_≡_, refl, sym}
 use mathlib.Core.Bool.{Bool, true, false, not, _&&_}
 use Prim.Native.Nat.{ℕ}

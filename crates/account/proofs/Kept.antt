@@ -1,5 +1,5 @@
 -- Reads, writes to ports A and B and levels leave port C's latch and the enables; and the mode word, as all but a mode word and a reset do.
--- Rests on chip's OnPort, on reads', settings' and levels' After.
+-- Rests on ByAct and on chip's OnPort.
 use mathlib.Core.Path.{_≡_, refl, ap}
 use mathlib.Core.Bool.{Bool, true, false, cond}
 use Prim.Native.Nat.{ℕ}

@@ -1,5 +1,5 @@
 -- The bit that a program puts at a pin of port C goes on as the account says: the latch of a free pin, or the enable of a line.
--- Rests on ByAct, Words, Signals, PinNamed, BitSet and Kept, on bits' BitLaws and Tested, and on settings' After.
+-- Rests on ByAct, Words, Columns, Signals, PinNamed, BitSet and Kept, on bits' BitLaws and Tested, and on settings' After.
 use mathlib.Core.Path.{_≡_, _∙_, refl, ap, sym}
 use mathlib.Core.Bool.{Bool, true, false, cond, _&&_, _||_, and-false}
 use Prim.Native.Nat.{ℕ, _/_, _%_, _<_}

@@ -1,5 +1,6 @@
 -- The latches of ports A and B, IBF and OBF go on as the account says.
--- Rests on ByAct, Columns and Moves, on the channel's Left, chip's OnPort and Surrounded, settings', reads' and levels' After, and fates' Tables.
+-- Rests on ByAct, Columns and Moves, on the channel's Left, chip's OnPort and Surrounded, control's Strobed, settings', reads' and levels' After, and
+-- fates' Tables.
 use mathlib.Core.Path.{_≡_, refl, ap, sym}
 use mathlib.Core.Bool.{false, not, _&&_, and-true}
 use Prim.Native.Nat.{ℕ}

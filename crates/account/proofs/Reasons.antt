@@ -1,5 +1,5 @@
 -- Why a half of INTR is low is what the account says.
--- Rests on Here, Interrupts and Columns.
+-- Rests on Columns, Moves, Agrees, Here and Interrupts, and on fates' Tables.
 use mathlib.Core.Path.{_≡_, _∙_, refl, ap, ap₂, sym}
 use mathlib.Core.Bool.{Bool, true, false, cond, not}
 use Prim.Native.Nat.{ℕ, zero, suc}

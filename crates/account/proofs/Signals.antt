@@ -1,5 +1,5 @@
 -- The summary's signals are the chip's roles, and each stands at its own pins.
--- Rests on Words, on roles' PinByMasks and SameWords, and on bits' Tested.
+-- Rests on Words and Columns, on roles' PinByMasks and SameWords, and on bits' Tested.
 use mathlib.Core.Path.{_≡_, _∙_, refl, sym, subst}
 use mathlib.Core.Bool.{Bool, true, false, cond}
 use Prim.Native.Nat.{ℕ, _%_, _<_}

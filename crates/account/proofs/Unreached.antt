@@ -1,6 +1,6 @@
 -- In states that no history reaches an output marked fetching counts as empty, and bit 7 of the mode word as set: nothing that is seen, over
 -- any history, tells it from the other.
--- Rests on Account.
+-- Rests on Words, Moves, Pins, Agrees and Account.
 use mathlib.Core.Path.{_≡_, _∙_, refl, ap, sym}
 use mathlib.Core.Bool.{Bool, true, false, cond}
 use mathlib.Core.List.{List}

@@ -1,5 +1,5 @@
 -- What is seen of a chip is what an account that agrees with it shows.
--- Rests on Here, Interrupts, Columns and Signals, and on bits' BitLaws.
+-- Rests on Agrees, Here, Interrupts, Columns and Signals, and on bits' BitLaws.
 use mathlib.Core.Path.{_≡_, _∙_, refl, ap, ap₂, sym}
 use mathlib.Core.Bool.{Bool, true, false, cond, not}
 use Prim.Native.Nat.{ℕ, zero, suc, _+_, _*_, _<_}

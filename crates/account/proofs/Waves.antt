@@ -1,5 +1,5 @@
 -- INTR's waveform is the sheet's equation: a half is up exactly while INTE, the flag and the line are high and the port is not being served.
--- Rests on ByEvent, Tables and Truth.
+-- Rests on ByEvent, Signals and Truth, on chip's OnPort, and on fates' Tables.
 use mathlib.Core.Path.{_≡_, _∙_, refl, sym}
 use mathlib.Core.Bool.{Bool, true, false, cond, not, _&&_, _||_, and-false, and-true}
 use Prim.Native.Nat.{ℕ}

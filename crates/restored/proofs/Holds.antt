@@ -1,5 +1,5 @@
 -- A host that holds the image of a chip: it holds that of the next chip after every event, and its calls answer what the chip does.
--- Rests on Stays, on image's Long, ComesBack and OneImage, and on host's HostStep.
+-- Rests on Stays, on image's Long, ComesBack and OneImage, on host's HostStep, and on fates' Followed.
 use mathlib.Core.Path.{_≡_, refl}
 use mathlib.Core.Bool.{true, _||_}
 use mathlib.Core.List.{List, [], _∷_}

@@ -1,5 +1,5 @@
 -- The discipline by the answers is the discipline by the chip.
--- Rests on Holds and on account's Account.
+-- Rests on Holds, on account's Account, and on fates' Followed.
 use mathlib.Core.Path.{_≡_, refl, ap₂}
 use mathlib.Core.Bool.{Bool, true, false}
 use mathlib.Core.List.{List, [], _∷_}

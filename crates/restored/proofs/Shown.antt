@@ -1,5 +1,5 @@
 -- What the chip shows at an event, the calls answer there.
--- Rests on Holds.
+-- Rests on Holds, and on fates' Followed.
 use mathlib.Core.Path.{_≡_, _∙_, refl}
 use mathlib.Core.Bool.{false}
 use mathlib.Core.List.{List, [], _∷_}
