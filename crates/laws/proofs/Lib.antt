@@ -22,6 +22,7 @@ pub mod OneWay
 pub mod ModeTwo
 pub mod OnePin
 pub mod PortC
+pub mod Chart
 pub mod OtherModels
 pub mod Marked
 pub mod Determined

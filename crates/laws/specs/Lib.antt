@@ -7,6 +7,7 @@ pub mod Anew
 pub mod Kept
 pub mod PowerUp
 pub mod Ports
+pub mod Chart
 pub mod PortC
 pub mod OnePin
 pub mod Loads
