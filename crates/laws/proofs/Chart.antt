@@ -12,7 +12,7 @@ use Rattle.chip.specs.Handshakes.{ownAddress}
 use Rattle.ports.specs.declared.Pins.{Pins}
 use Rattle.ports.specs.Pins.{pinsOf}
 use Rattle.laws.specs.PlainBits.{bothWays, handshake, into, used, intoC}
-use Rattle.laws.specs.Chart.{AsCharted}
+use Rattle.laws.specs.Chart.{LinesCharted, AsCharted}
 use Rattle.laws.proofs.PlainBits.{by-pin}
 use Rattle.laws.proofs.OneWay.{output-drives, input-undriven}
 use Rattle.laws.proofs.PortC.{line-driven}
@@ -46,10 +46,10 @@ module _ (c : Chip) where
       go true way = ap (λ (p : Pins). p .driven) (input-undriven c g a own (rw (one-way w g none, way)) .shows)
       go false way = ap (λ (p : Pins). p .driven) (output-drives c g a own (rw (one-way w g none, way)) .shows)
 
+  lines-charted : handshake w A ≡ false → handshake w B ≡ false → LinesCharted c (directionsOf w)
+  unfolding upperInput lowerInput
+  lines-charted a b n hn = line-driven c n hn ∙ rw (unused w a b n hn) (ap not (or-false (intoC w n)))
+
   pub as-charted : handshake w A ≡ false → handshake w B ≡ false → AsCharted c (directionsOf w)
-  unfolding inputOf upperInput lowerInput
-  as-charted a b = record {
-    portA = port-charted A 0 refl a;
-    portB = port-charted B 1 refl b;
-    lines = λ n hn. line-driven c n hn ∙ rw (unused w a b n hn) (ap not (or-false (intoC w n)));
-  }
+  unfolding inputOf
+  as-charted a b = record { portA = port-charted A 0 refl a; portB = port-charted B 1 refl b; lines = lines-charted a b }
