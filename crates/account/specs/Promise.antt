@@ -2,9 +2,10 @@
 use mathlib.Core.Path.{_≡_}
 use mathlib.Core.Bool.{Bool, false, cond, not, _&&_}
 use mathlib.Core.List.{List, [], _∷_}
-use Prim.Native.Nat.{ℕ, _+_}
+use Prim.Native.Nat.{ℕ, _+_, _<_, _≤_}
 use Rattle.bits.specs.Bit.{bitOf}
 use Rattle.control.specs.declared.Group.{Group}
+use Rattle.published.specs.Published.{lookupOf}
 use Rattle.channel.specs.declared.Side.{Side}
 use Rattle.channel.specs.declared.Side.the-variants.{Input, Output}
 use Rattle.channel.specs.Channel.{isWaiting, isEmpty}
@@ -20,7 +21,7 @@ use Rattle.laws.specs.History.{Event, stepped}
 use Rattle.fates.specs.Kinds.{named}
 use Rattle.fates.specs.Around.{Around}
 use Rattle.fates.specs.Promise.{run}
-use Rattle.account.specs.Summary.{Signal, io, INTR, IBF, OBF, STB, ACK, signalAt}
+use Rattle.account.specs.Summary.{Signal, io, INTR, IBF, OBF, STB, ACK, signalAt, isIn, published}
 use Rattle.account.specs.Acts.{numberBy}
 use Rattle.account.specs.Account.{Account, strobed, line, served, next}
 use Rattle.account.specs.Views.{intr, levelsShown, maskShown, readAnswer, byteGiven}
@@ -86,3 +87,9 @@ pub record Accounted (c : Chip) (a : Account) (es : List Event) : Type 0 where
   pub reads : (p : ℕ) → readOf (run c es) p ≡ readAnswer (over a es) p
   pub interrupt : (g : Group) → intrOf (run c es) g ≡ intr (over a es) g
   pub explains : (n : ℕ) → numbersOf (explainedOf (run c es) n) ≡ explained (over a es) n
+
+-- What is promised of the lookup of a role: the number of the summary's cell, and 255 for a word below 128 and for a pin above 7.
+pub record LooksUp (w n : ℕ) : Type 0 where
+  pub cell : 128 ≤ w → n < 8 → lookupOf w n ≡ published (signalAt w n) (isIn w n)
+  pub noWord : w < 128 → lookupOf w n ≡ 255
+  pub noPin : 7 < n → lookupOf w n ≡ 255
