@@ -4,7 +4,8 @@
 #include <stdio.h>
 #include <stdlib.h>
 
-/* The number is never other than 0 here, unless this emulator is at fault: it stops where it would go on with a wrong machine. */
+/* For calls that no guest can get refused. Where one is refused, this emulator is at fault: it stops where it would go on with a wrong
+ * machine. */
 static unsigned int accepted(unsigned int answer)
 {
     if (TOWANCHOR_NUMBER(answer) != TOWANCHOR_ACCEPTED) {
@@ -14,9 +15,21 @@ static unsigned int accepted(unsigned int answer)
     return answer;
 }
 
+/* Whether a cycle runs that the guest began. The card may have refused it: it has no such address, or its control register is not read.
+ * That is the guest's own affair, and the machine goes on. Any other refusal is this emulator's fault. */
+static int runs(unsigned int answer)
+{
+    unsigned int number = TOWANCHOR_NUMBER(answer);
+
+    if (number == TOWANCHOR_OUT_OF_RANGE || number == TOWANCHOR_NOT_READABLE)
+        return 0;
+    accepted(answer);
+    return 1;
+}
+
 static unsigned int event(struct bus *bus, unsigned char kind, unsigned char first, unsigned char second)
 {
-    return accepted(towanchor_step(bus->image, sizeof bus->image, kind, first, second));
+    return towanchor_step(bus->image, sizeof bus->image, kind, first, second);
 }
 
 static unsigned int view(const struct bus *bus, unsigned char port)
@@ -31,35 +44,41 @@ void bus_power_up(struct bus *bus, pin_view its_view)
     const unsigned char high = 0xFF;
 
     bus->view = its_view;
+    bus->outside_c = high;
     accepted(towanchor_power_up_with_levels(bus->image, sizeof bus->image, high, high, high));
 }
 
-unsigned char bus_begin_read(struct bus *bus, unsigned char address)
+int bus_begin_read(struct bus *bus, unsigned char address, unsigned char *byte)
 {
-    return (unsigned char)TOWANCHOR_BYTE(event(bus, TOWANCHOR_BEGIN_READ, address, 0));
+    unsigned int answer = event(bus, TOWANCHOR_BEGIN_READ, address, 0);
+    int it_runs = runs(answer);
+
+    *byte = it_runs ? (unsigned char)TOWANCHOR_BYTE(answer) : BUS_FLOATING;
+    return it_runs;
 }
 
-void bus_begin_write(struct bus *bus, unsigned char address, unsigned char byte)
+int bus_begin_write(struct bus *bus, unsigned char address, unsigned char byte)
 {
-    event(bus, TOWANCHOR_BEGIN_WRITE, address, byte);
+    return runs(event(bus, TOWANCHOR_BEGIN_WRITE, address, byte));
 }
 
 void bus_end_cycle(struct bus *bus)
 {
-    event(bus, TOWANCHOR_END_CYCLE, 0, 0);
+    accepted(event(bus, TOWANCHOR_END_CYCLE, 0, 0));
 }
 
 void bus_put_levels(struct bus *bus, unsigned char port, unsigned char levels)
 {
-    event(bus, TOWANCHOR_OUTSIDE_LEVELS, port, levels);
+    accepted(event(bus, TOWANCHOR_OUTSIDE_LEVELS, port, levels));
+    if (port == TOWANCHOR_C)
+        bus->outside_c = levels;
 }
 
 void bus_put_pin(struct bus *bus, unsigned char pin, int high)
 {
-    /* Pins that the card does not drive show what the outside put there last, and keep it. On those that it drives nothing from
-     * outside counts: they are left high. */
-    unsigned int pins = view(bus, TOWANCHOR_C);
-    unsigned int levels = TOWANCHOR_LEVELS(pins) | TOWANCHOR_DRIVEN(pins);
+    /* The card is told all eight levels. Its pins cannot be asked for the other seven: those that it drives show its own level, and the
+     * outside's counts again when they become inputs. */
+    unsigned int levels = bus->outside_c;
 
     levels = high ? levels | TOWANCHOR_PIN(pin) : levels & ~TOWANCHOR_PIN(pin);
     bus_put_levels(bus, TOWANCHOR_C, (unsigned char)levels);

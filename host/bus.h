@@ -9,18 +9,23 @@ typedef unsigned int (*pin_view)(const unsigned char *image, size_t length, unsi
 
 struct bus {
     unsigned char image[TOWANCHOR_IMAGE_SIZE]; /* the whole card */
+    unsigned char outside_c;                   /* the levels that the outside puts on port C: its own, not the card's */
     pin_view view;
 };
+
+/* What a read gets that the card refuses: nothing drives the data lines then, and on this backplane idle lines are high. */
+#define BUS_FLOATING 0xFF
 
 /* Powers the card up, with every line high. */
 void bus_power_up(struct bus *bus, pin_view view);
 
-/* The processor's side. A cycle takes time: between its beginning and its end the outside goes on. */
-unsigned char bus_begin_read(struct bus *bus, unsigned char address);
-void bus_begin_write(struct bus *bus, unsigned char address, unsigned char byte);
+/* The processor's side. A cycle takes time: between its beginning and its end the outside goes on. A beginning answers whether the cycle
+ * runs. Where the card refuses what the guest began, none does, and none is ended: a read has BUS_FLOATING, and a written byte is lost. */
+int bus_begin_read(struct bus *bus, unsigned char address, unsigned char *byte);
+int bus_begin_write(struct bus *bus, unsigned char address, unsigned char byte);
 void bus_end_cycle(struct bus *bus);
 
-/* The outside: puts levels on the pins of a port, or a level on one pin of port C. */
+/* The outside: puts levels on the pins of a port, or a level on one pin of port C, whose other lines keep theirs. */
 void bus_put_levels(struct bus *bus, unsigned char port, unsigned char levels);
 void bus_put_pin(struct bus *bus, unsigned char pin, int high);
 

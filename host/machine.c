@@ -18,16 +18,20 @@ void machine_outside(struct machine *machine)
 
 unsigned char machine_read(struct machine *machine, unsigned char address)
 {
-    unsigned char byte = bus_begin_read(&machine->bus, address);
+    unsigned char byte;
+    int runs = bus_begin_read(&machine->bus, address, &byte);
 
     machine_outside(machine);
-    bus_end_cycle(&machine->bus);
+    if (runs)
+        bus_end_cycle(&machine->bus);
     return byte;
 }
 
 void machine_write(struct machine *machine, unsigned char address, unsigned char byte)
 {
-    bus_begin_write(&machine->bus, address, byte);
+    int runs = bus_begin_write(&machine->bus, address, byte);
+
     machine_outside(machine);
-    bus_end_cycle(&machine->bus);
+    if (runs)
+        bus_end_cycle(&machine->bus);
 }

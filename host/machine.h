@@ -17,7 +17,8 @@ void machine_start(struct machine *machine, pin_view view, enum scale_kind kind,
 /* Gives the outside a moment: the scale and the printer. */
 void machine_outside(struct machine *machine);
 
-/* A whole cycle of the processor; the outside has a moment before it ends. */
+/* A whole cycle of the processor, at any address; the outside has a moment before it ends. The processor goes on also where the card
+ * refuses it: a read then gets BUS_FLOATING. */
 unsigned char machine_read(struct machine *machine, unsigned char address);
 void machine_write(struct machine *machine, unsigned char address, unsigned char byte);
 
