@@ -1,5 +1,8 @@
 // A history: a start state, which both models are put into, and the events that follow.
 use super::agree;
+use super::apart;
+use super::apart::Answer;
+use super::apart::Machine;
 use super::counts;
 use super::counts::Counts;
 use super::events;
@@ -7,14 +10,12 @@ use super::random;
 use super::views;
 use super::views::View;
 use chip::Chip;
-use second::Answer;
-use second::Machine;
 use step::Stepped;
 
 // Both models with their last answers.
 struct Pair {
     proved: Stepped,
-    second: Answer,
+    apart: Answer,
 }
 
 // Before the first event there is no answer, so both have the same one.
@@ -25,7 +26,7 @@ fn start(chip: Chip, machine: Machine) -> Pair {
             number: 0,
             byte: 0,
         },
-        second: Answer {
+        apart: Answer {
             machine,
             number: 0,
             byte: 0,
@@ -35,7 +36,7 @@ fn start(chip: Chip, machine: Machine) -> Pair {
 
 fn happen(mut pair: Pair, kind: u8, first: u8, second: u8) -> Pair {
     pair.proved = step::step(pair.proved.chip, kind, first, second);
-    pair.second = second::event(pair.second.machine, kind, first, second);
+    pair.apart = apart::event(pair.apart.machine, kind, first, second);
     pair
 }
 
@@ -43,7 +44,7 @@ fn happen(mut pair: Pair, kind: u8, first: u8, second: u8) -> Pair {
 fn judge(counts: &mut Counts, event: u64, place: u64, before: View, pair: Pair) -> View {
     let after = views::of_proved(pair.proved);
     counts::count(counts, random::byte(event >> 16), before, after);
-    agree::hold(counts, event, place, after, views::of_second(pair.second));
+    agree::hold(counts, event, place, after, views::of_apart(pair.apart));
     after
 }
 
@@ -76,7 +77,7 @@ fn advance(counts: &mut Counts, course: Course, place: u64) -> Course {
 // The start of a history. It is compared too, as if the event FF FF FF had led there.
 fn begin(counts: &mut Counts, pair: Pair, seed: u64) -> Course {
     let view = views::of_proved(pair.proved);
-    agree::hold(counts, 0xffffff, 0, view, views::of_second(pair.second));
+    agree::hold(counts, 0xffffff, 0, view, views::of_apart(pair.apart));
     Course {
         pair,
         view,

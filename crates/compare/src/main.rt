@@ -1,6 +1,7 @@
 // Runs two models of the chip over the same pseudo-random histories, the proved one and a second one that was written apart
 // from it, and compares what they show and count after every event.
 mod agree;
+mod apart; // the second model
 mod counts;
 mod events;
 mod exchanges;

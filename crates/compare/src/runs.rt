@@ -1,5 +1,6 @@
 // The three runs: long histories from a power-up with every line high; short ones from arbitrary states, where a mode word or a reset soon
 // ends what is strange; and short ones from power-ups under other levels.
+use super::apart;
 use super::counts;
 use super::counts::Counts;
 use super::history;
@@ -21,7 +22,7 @@ fn powered(counts: &mut Counts, a: u8, b: u8, c: u8, seed: u64, length: u64) -> 
     history::run(
         counts,
         chip,
-        second::power_up_with_levels(a, b, c),
+        apart::power_up_with_levels(a, b, c),
         seed,
         length,
     )
@@ -29,9 +30,9 @@ fn powered(counts: &mut Counts, a: u8, b: u8, c: u8, seed: u64, length: u64) -> 
 
 // From the default power-up, or from one with levels of the seed, as the seed decides.
 fn other_levels(counts: &mut Counts, seed: u64) -> u64 {
-    let far = random::apart(seed);
+    let far = random::far(seed);
     if seed % 2 == 0 {
-        return history::run(counts, chip::power_up(), second::power_up(), far, 30);
+        return history::run(counts, chip::power_up(), apart::power_up(), far, 30);
     }
     powered(
         counts,
@@ -45,7 +46,7 @@ fn other_levels(counts: &mut Counts, seed: u64) -> u64 {
 
 fn anywhere(counts: &mut Counts, seed: u64) -> u64 {
     let chip = states::arbitrary(seed);
-    let far = random::apart(seed);
+    let far = random::far(seed);
     history::run(counts, chip, twins::machine(chip), far, 30)
 }
 

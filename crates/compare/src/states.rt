@@ -1,6 +1,6 @@
 // Arbitrary states of the proved model, most of which no history reaches: every field is drawn by itself.
-use super::random::apart;
 use super::random::byte;
+use super::random::far;
 use super::random::next;
 use channel::Channel;
 use channel::Fill;
@@ -48,7 +48,7 @@ fn channel(seed: u64) -> Channel {
 fn port(seed: u64) -> Port {
     Port {
         input: channel(seed),
-        output: channel(apart(seed)),
+        output: channel(far(seed)),
         outside: byte(seed >> 40),
     }
 }
@@ -72,7 +72,7 @@ pub(super) fn arbitrary(seed: u64) -> Chip {
     let core = Core {
         word: byte(number >> 48),
         a: port(ports),
-        b: port(apart(apart(ports))),
+        b: port(far(far(ports))),
         c: Lines {
             latch: byte(number >> 40),
             outside: byte(number >> 32) | high,

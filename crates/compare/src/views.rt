@@ -1,6 +1,7 @@
 // What a model shows and counts after an event, in one form for both models.
+use super::apart;
+use super::apart::Answer;
 use super::twins;
-use second::Answer;
 use step::Stepped;
 
 // What is shown: 0 the number, 1 the byte; 2 to 4 the levels of A, B and C, 5 to 7 their driven pins; and of what is kept:
@@ -53,23 +54,23 @@ pub(super) fn of_proved(last: Stepped) -> View {
     }
 }
 
-pub(super) fn of_second(last: Answer) -> View {
+pub(super) fn of_apart(last: Answer) -> View {
     let machine = last.machine;
-    let of_a = second::explain(machine, 0);
-    let of_b = second::explain(machine, 1);
-    let of_none = second::explain(machine, machine.word | 2);
+    let of_a = apart::explain(machine, 0);
+    let of_b = apart::explain(machine, 1);
+    let of_none = apart::explain(machine, machine.word | 2);
     let latch = machine.latch;
     let tally = machine.tally;
     View {
         shown: [
             last.number,
             last.byte,
-            second::levels(machine, 0),
-            second::levels(machine, 1),
-            second::levels(machine, 2),
-            second::driven(machine, 0),
-            second::driven(machine, 1),
-            second::driven(machine, 2),
+            apart::levels(machine, 0),
+            apart::levels(machine, 1),
+            apart::levels(machine, 2),
+            apart::driven(machine, 0),
+            apart::driven(machine, 1),
+            apart::driven(machine, 2),
             machine.phase,
             machine.place,
             machine.data,

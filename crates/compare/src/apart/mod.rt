@@ -1,5 +1,6 @@
-// A second model of the 8255A, to be held against another one. It shares nothing with that one, and keeps the chip in
-// bytes and flat arrays with numbered places. Each function answers for every value of the machine, reached or not.
+// The second model of the 8255A, written apart from the proved one, to be held against it. It uses nothing of the proved crates, nor of the
+// program around it, and keeps the chip in bytes and flat arrays with numbered places. Each function answers for every value of the
+// machine, reached or not.
 
 mod bus; // reset, the beginnings of reads and writes, and the end of either
 mod channels; // the four handshake channels by number
@@ -13,34 +14,34 @@ mod reasons; // why INTR is low
 mod signals; // INTR, IBF and OBF
 mod words; // what a mode word makes of the ports
 
-pub struct Machine {
-    pub phase: u8, // 0 idle, 1 reading, 2 writing
-    pub place: u8, // the port being read, or the address being written; 0 when idle
-    pub data: u8, // the byte being written; 0 when none is
-    pub word: u8, // the last mode word, as stored
-    pub outside_a: u8, // outside levels
-    pub outside_b: u8,
-    pub outside_c: u8,
-    pub latch: [u8; 4], // A in, A out, B in, B out
-    pub latch_c: u8,
-    pub enable: u8, // INTE at the pin behind which it lies: 4 A in, 6 A out, 2 B
-    pub fill: [u8; 4], // A in, A out, B in, B out: 0 empty, 1 waiting, 2 fetching
-    pub tally: [u16; 20], // channel * 5 + (offered, handed over, overwritten, swallowed, cleared)
+pub(super) struct Machine {
+    pub(super) phase: u8, // 0 idle, 1 reading, 2 writing
+    pub(super) place: u8, // the port being read, or the address being written; 0 when idle
+    pub(super) data: u8, // the byte being written; 0 when none is
+    pub(super) word: u8, // the last mode word, as stored
+    pub(super) outside_a: u8, // outside levels
+    pub(super) outside_b: u8,
+    pub(super) outside_c: u8,
+    pub(super) latch: [u8; 4], // A in, A out, B in, B out
+    pub(super) latch_c: u8,
+    pub(super) enable: u8, // INTE at the pin behind which it lies: 4 A in, 6 A out, 2 B
+    pub(super) fill: [u8; 4], // A in, A out, B in, B out: 0 empty, 1 waiting, 2 fetching
+    pub(super) tally: [u16; 20], // channel * 5 + (offered, handed over, overwritten, swallowed, cleared)
 }
 
-pub struct Answer {
-    pub machine: Machine,
-    pub number: u8,
-    pub byte: u8,
+pub(super) struct Answer {
+    pub(super) machine: Machine,
+    pub(super) number: u8,
+    pub(super) byte: u8,
 }
 
-pub struct Explanation {
-    pub number: u8, // 0, or 2 for a group that there is not
-    pub input: u8, // 0 no such half, 1 mode 0, 2 enable off, 3 IBF 0, 4 STB low, 5 being read, 6 high
-    pub output: u8, // 0 no such half, 1 mode 0, 2 enable off, 3 OBF 0, 4 ACK low, 5 being written, 6 high
+pub(super) struct Explanation {
+    pub(super) number: u8, // 0, or 2 for a group that there is not
+    pub(super) input: u8, // 0 no such half, 1 mode 0, 2 enable off, 3 IBF 0, 4 STB low, 5 being read, 6 high
+    pub(super) output: u8, // 0 no such half, 1 mode 0, 2 enable off, 3 OBF 0, 4 ACK low, 5 being written, 6 high
 }
 
-pub fn power_up_with_levels(a: u8, b: u8, c: u8) -> Machine {
+pub(super) fn power_up_with_levels(a: u8, b: u8, c: u8) -> Machine {
     Machine {
         phase: bus::IDLE,
         place: 0,
@@ -58,13 +59,13 @@ pub fn power_up_with_levels(a: u8, b: u8, c: u8) -> Machine {
 }
 
 // Idle lines are pulled down.
-pub fn power_up() -> Machine {
+pub(super) fn power_up() -> Machine {
     power_up_with_levels(0, 0, 0)
 }
 
 // One event. Operands that the kind lacks are not looked at. A begun read is the only event that answers a byte, and the byte is that
 // of the state before it.
-pub fn event(mut machine: Machine, kind: u8, first: u8, second: u8) -> Answer {
+pub(super) fn event(mut machine: Machine, kind: u8, first: u8, second: u8) -> Answer {
     let number = numbers::refusal(machine.phase, kind, first);
     let accepted = if number == 0 { kind } else { NO_KIND };
     let byte = match accepted {
@@ -90,17 +91,17 @@ pub fn event(mut machine: Machine, kind: u8, first: u8, second: u8) -> Answer {
 const NO_KIND: u8 = 6;
 
 // The levels that an observer sees on the pins of port 0, 1 or 2.
-pub fn levels(machine: Machine, port: u8) -> u8 {
+pub(super) fn levels(machine: Machine, port: u8) -> u8 {
     pins::ask(machine, port, pins::LEVELS)
 }
 
 // A 1 for each pin of port 0, 1 or 2 that the chip drives.
-pub fn driven(machine: Machine, port: u8) -> u8 {
+pub(super) fn driven(machine: Machine, port: u8) -> u8 {
     pins::ask(machine, port, pins::DRIVEN)
 }
 
 // What is said of the two halves of a group's INTR, the input's and the output's, behind the number by which the call is refused.
-pub fn explain(machine: Machine, group: u8) -> Explanation {
+pub(super) fn explain(machine: Machine, group: u8) -> Explanation {
     Explanation {
         number: digits::pick(group > 1, reasons::NO_SUCH_GROUP, 0),
         input: reasons::of_input(machine, group),

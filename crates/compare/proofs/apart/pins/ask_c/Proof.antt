@@ -1,9 +1,9 @@
--- `second::pins::ask_c` is safe and ends: its loop counts to 8.
+-- `compare::apart::pins::ask_c` is safe and ends: its loop counts to 8.
 -- Rests on nothing.
 use Prim.Native.Nat.{_≤_, _-_}
 use borrow.Author.Needs.{needs}
-use Rattle.second.proofs.pins.ask_c.Statement.{statement}
-use Rattle.second.proofs.pins.ask_c.Tie as tie
+use Rattle.compare.proofs.apart.pins.ask_c.Statement.{statement}
+use Rattle.compare.proofs.apart.pins.ask_c.Tie as tie
 
 abbrev Inv-loop : tie.InvT-loop
 Inv-loop machine asked roles byte₀ pin₀ byte pin = pin ≤ 8
