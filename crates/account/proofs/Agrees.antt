@@ -1,10 +1,11 @@
 -- An account that agrees with a chip goes on to agree with it.
--- Rests on Words, Columns, Signals, ByEvent, Moves, Pins, Ports and Waves, on fates' Surroundings, and on bits' Tested.
+-- Rests on Words, Columns, Signals, ByEvent, Moves, Pins, Ports and Waves, on fates' SurroundingsKept, and on bits' Tested.
 use mathlib.Core.Path.{_≡_, _∙_, refl, ap, sym}
 use mathlib.Core.Bool.{Bool, true, false, not, _&&_, and-false}
 use Prim.Native.Nat.{ℕ, _<_}
 use Rattle.bits.specs.Bit.{bitOf}
 use Rattle.bits.proofs.Tested.{bits}
+use Rattle.events.specs.Event.{Event}
 use Rattle.control.specs.declared.Group.{Group}
 use Rattle.control.specs.declared.Group.the-variants.{A, B}
 use Rattle.channel.specs.declared.Side.{Side}
@@ -14,15 +15,15 @@ use Rattle.chip.specs.declared.Chip.{Chip}
 use Rattle.chip.specs.declared.Levels.{Levels}
 use Rattle.chip.specs.State.{powerUpWith, channelOf}
 use Rattle.chip.specs.Handshakes.{strobed, enableOf}
-use Rattle.laws.specs.History.{Event, stepped}
-use Rattle.fates.specs.Around.{atPowerUp, aroundNext}
-use Rattle.fates.specs.Deeds.{strobePin}
-use Rattle.fates.specs.Promise.{aroundOf}
-use Rattle.fates.proofs.Surroundings.{around-next}
+use Rattle.step.specs.Step.{stepped}
+use Rattle.fates.specs.Surroundings.{atPowerUp, surroundingsNext}
+use Rattle.fates.specs.Effects.{strobePin}
+use Rattle.fates.specs.Promise.{surroundingsOf}
+use Rattle.fates.proofs.SurroundingsKept.{surroundings-next}
 use Rattle.account.specs.Summary.{signalAt}
-use Rattle.account.specs.Account.{Account, strobed as Account·strobed, line, served, next, opened}
-use Rattle.account.specs.Promise.{counted, aroundHere, bitHere, flagHere, accountOf}
-use Rattle.account.proofs.Words.{signal-alike, counted-alike}
+use Rattle.account.specs.Account.{Account, strobed as Account·strobed, line, served, accountNext, opened}
+use Rattle.account.specs.Promise.{withBit7, surroundingsHere, bitHere, flagHere, accountOf}
+use Rattle.account.proofs.Words.{signal-alike, with-bit-7-alike}
 use Rattle.account.proofs.Columns.{takes-same, gives-same, takes-here, gives-here}
 use Rattle.account.proofs.Signals.{strobe-stands, acknowledge-stands}
 use Rattle.account.proofs.ByEvent.{seven, seven-next}
@@ -33,7 +34,7 @@ use Rattle.account.proofs.Waves.{Even, even-next}
 
 -- The account has what the chip has.
 pub record Agrees (c : Chip) (a : Account) : Type 0 where
-  pub around : a .around ≡ aroundHere c
+  pub surroundings : a .surroundings ≡ surroundingsHere c
   pub bit : (n : ℕ) → n < 8 → a .bit n ≡ bitHere (c .core) n (signalAt (c .core .word) n)
   pub output : (g : Group) → a .output g ≡ channelOf (c .core) g Output .latch
   pub input : (g : Group) → a .input g ≡ channelOf (c .core) g Input .latch
@@ -42,17 +43,17 @@ pub record Agrees (c : Chip) (a : Account) : Type 0 where
   pub even : Even a
 
 -- The surroundings, with bit 7 of the word counted as set.
-here-next : (c : Chip) (e : Event) → aroundHere (stepped c e .chip) ≡ aroundNext (aroundHere c) e
-here-next c e = ap seven (around-next c e) ∙ seven-next (aroundOf c) e
+here-next : (c : Chip) (e : Event) → surroundingsHere (stepped c e .chip) ≡ surroundingsNext (surroundingsHere c) e
+here-next c e = ap seven (surroundings-next c e) ∙ seven-next (surroundingsOf c) e
 
-pub agrees-next : (c : Chip) (a : Account) (e : Event) → Agrees c a → Agrees (stepped c e .chip) (next a e)
+pub agrees-next : (c : Chip) (a : Account) (e : Event) → Agrees c a → Agrees (stepped c e .chip) (accountNext a e)
 agrees-next c a e k = record {
-  around = rw (k .around) (sym (here-next c e));
-  bit = λ n hn. rw (k .around, k .bit n hn) (bit-next c n hn e);
-  output = λ g. rw (k .around, k .output g) (sym (output-next c g e));
-  input = λ g. rw (k .around, k .input g) (sym (input-next c g e));
-  ibf = λ g. rw (k .around, k .ibf g) (sym (ibf-next c g e));
-  obf = λ g. rw (k .around, k .obf g) (sym (obf-next c g e));
+  surroundings = rw (k .surroundings) (sym (here-next c e));
+  bit = λ n hn. rw (k .surroundings, k .bit n hn) (bit-next c n hn e);
+  output = λ g. rw (k .surroundings, k .output g) (sym (output-next c g e));
+  input = λ g. rw (k .surroundings, k .input g) (sym (input-next c g e));
+  ibf = λ g. rw (k .surroundings, k .ibf g) (sym (ibf-next c g e));
+  obf = λ g. rw (k .surroundings, k .obf g) (sym (obf-next c g e));
   even = even-next a (k .even) e;
 }
 
@@ -71,27 +72,27 @@ module _ (c : Chip) where
   abbrev w : ℕ
   w = c .core .word
 
-  here : (n : ℕ) → signalAt (counted w) n ≡ signalAt w n
-  here n = signal-alike (counted w) w (counted-alike w) n
+  here : (n : ℕ) → signalAt (withBit7 w) n ≡ signalAt w n
+  here n = signal-alike (withBit7 w) w (with-bit-7-alike w) n
 
   line-here : (g : Group) (s : Side) → strobed w g s ≡ true → accountOf c .bit (strobePin g s) ≡ enableOf (c .core .inte) g s
   line-here g s on = ap (bitHere (c .core) (strobePin g s)) (here (strobePin g s)) ∙ line-bit (c .core) g s on
 
   -- What a half asks for beside its enable.
   abbrev others : Group → Side → Bool
-  others g s = flagHere (c .core) g s && (line (aroundHere c) g s && not (served (aroundHere c) g s))
+  others g s = flagHere (c .core) g s && (line (surroundingsHere c) g s && not (served (surroundingsHere c) g s))
 
   even-here : Even (accountOf c)
   even-here g Input =
-      within (Account·strobed (aroundHere c) g Input) (enableOf (c .core .inte) g Input) (accountOf c .bit (strobePin g Input)) (others g Input)
+      within (Account·strobed (surroundingsHere c) g Input) (enableOf (c .core .inte) g Input) (accountOf c .bit (strobePin g Input)) (others g Input)
       (λ on. line-here g Input (sym (takes-here w g) ∙ on))
   even-here g Output =
-      within (Account·strobed (aroundHere c) g Output) (enableOf (c .core .inte) g Output) (accountOf c .bit (strobePin g Output)) (others g Output)
+      within (Account·strobed (surroundingsHere c) g Output) (enableOf (c .core .inte) g Output) (accountOf c .bit (strobePin g Output)) (others g Output)
       (λ on. line-here g Output (sym (gives-here w g) ∙ on))
 
   pub agrees-of : Agrees c (accountOf c)
   agrees-of = record {
-    around = refl;
+    surroundings = refl;
     bit = λ n hn. ap (bitHere (c .core) n) (here n);
     output = λ g. refl;
     input = λ g. refl;
@@ -104,7 +105,7 @@ module _ (c : Chip) where
 pub agrees-opened : (l : Levels) → Agrees (powerUpWith l) (opened l)
 unfolding bitOf
 agrees-opened l = record {
-  around = refl;
+  surroundings = refl;
   bit = bits 8 (λ n. false) (λ n. bitHere (powerUpWith l .core) n (signalAt 0x9b n)) tt;
   output = zeros Output;
   input = zeros Input;

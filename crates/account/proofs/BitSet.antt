@@ -17,8 +17,8 @@ use Rattle.channel.specs.declared.Side.the-variants.{Input, Output}
 use Rattle.chip.specs.declared.Enables.{Enables}
 use Rattle.chip.specs.declared.Core.{Core}
 use Rattle.chip.specs.Handshakes.{groupAt, enableOf}
-use Rattle.settings.specs.Commanded.{enabled, setAs}
-use Rattle.fates.specs.Deeds.{strobePin}
+use Rattle.settings.specs.ControlWord.{enabled, setAs}
+use Rattle.fates.specs.Effects.{strobePin}
 use Rattle.account.specs.Summary.{Signal, io, INTR, IBF, OBF, STB, ACK, signalAt, isIn, freeOut}
 use Rattle.account.proofs.Signals.{roleBy, by-signal}
 

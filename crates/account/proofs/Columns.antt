@@ -13,8 +13,8 @@ use Rattle.control.specs.Mode.{modeOf, inputOf, strobedInput, strobedOutput, ou
 use Rattle.control.proofs.AsByte.{as-byte}
 use Rattle.control.proofs.SameWords.{same-taking, same-giving}
 use Rattle.account.specs.Summary.{Column, plainIn, plainOut, strobedIn, strobedOut, columnOf, takes, gives, keeps, isPlain}
-use Rattle.account.specs.Promise.{counted}
-use Rattle.account.proofs.Words.{column-alike, byte-alike, counted-alike}
+use Rattle.account.specs.Promise.{withBit7}
+use Rattle.account.proofs.Words.{column-alike, byte-alike, with-bit-7-alike}
 
 -- What two tests find alike at every byte they find alike at every number, where neither asks more than the lowest byte.
 by-bytes : (f h : ℕ → Bool) → ((w : ℕ) → f (w % 256) ≡ f w) → ((w : ℕ) → h (w % 256) ≡ h w)
@@ -65,11 +65,11 @@ abbrev pub columnB : Bool → Bool → Column
 columnB one taking = cond one (cond taking strobedIn strobedOut) (cond taking plainIn plainOut)
 
 -- A column of the summary under a word whose bit 7 counts as set.
-pub takes-here : (w : ℕ) (g : Group) → takes (columnOf (counted w) g) ≡ strobedInput w g
-takes-here w g = ap takes (column-alike (counted w) w (counted-alike w) g) ∙ takes-same w g
+pub takes-here : (w : ℕ) (g : Group) → takes (columnOf (withBit7 w) g) ≡ strobedInput w g
+takes-here w g = ap takes (column-alike (withBit7 w) w (with-bit-7-alike w) g) ∙ takes-same w g
 
-pub gives-here : (w : ℕ) (g : Group) → gives (columnOf (counted w) g) ≡ strobedOutput w g
-gives-here w g = ap gives (column-alike (counted w) w (counted-alike w) g) ∙ gives-same w g
+pub gives-here : (w : ℕ) (g : Group) → gives (columnOf (withBit7 w) g) ≡ strobedOutput w g
+gives-here w g = ap gives (column-alike (withBit7 w) w (with-bit-7-alike w) g) ∙ gives-same w g
 
-pub keeps-here : (w : ℕ) (g : Group) → keeps (columnOf (counted w) g) ≡ outputOf w g
-keeps-here w g = ap keeps (column-alike (counted w) w (counted-alike w) g) ∙ keeps-same w g
+pub keeps-here : (w : ℕ) (g : Group) → keeps (columnOf (withBit7 w) g) ≡ outputOf w g
+keeps-here w g = ap keeps (column-alike (withBit7 w) w (with-bit-7-alike w) g) ∙ keeps-same w g

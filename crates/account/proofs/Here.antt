@@ -12,11 +12,11 @@ use Rattle.channel.specs.declared.Side.the-variants.{Input, Output}
 use Rattle.chip.specs.declared.Chip.{Chip}
 use Rattle.chip.specs.State.{portOf}
 use Rattle.chip.specs.Handshakes.{strobed, enableOf}
-use Rattle.fates.specs.Deeds.{levelsOn, strobePin}
+use Rattle.fates.specs.Effects.{levelsOn, strobePin}
 use Rattle.account.specs.Summary.{columnOf, signalAt, isIn}
 use Rattle.account.specs.Account.{Account}
-use Rattle.account.specs.Promise.{counted}
-use Rattle.account.proofs.Words.{column-alike, signal-alike, in-alike, counted-alike}
+use Rattle.account.specs.Promise.{withBit7}
+use Rattle.account.proofs.Words.{column-alike, signal-alike, in-alike, with-bit-7-alike}
 use Rattle.account.proofs.Ports.{outside-here}
 use Rattle.account.proofs.Agrees.{Agrees, line-bit}
 
@@ -32,20 +32,20 @@ module _ (c : Chip) (a : Account) (k : Agrees c a) where
   w = c .core .word
 
   -- The account's table is that of the chip's own word.
-  pub column-here : (g : Group) → columnOf (a .around .word) g ≡ columnOf w g
-  column-here g = ap (λ r. columnOf (r .word) g) (k .around) ∙ column-alike (counted w) w (counted-alike w) g
+  pub column-here : (g : Group) → columnOf (a .surroundings .word) g ≡ columnOf w g
+  column-here g = ap (λ r. columnOf (r .word) g) (k .surroundings) ∙ column-alike (withBit7 w) w (with-bit-7-alike w) g
 
-  pub signal-here : (n : ℕ) → signalAt (a .around .word) n ≡ signalAt w n
-  signal-here n = ap (λ r. signalAt (r .word) n) (k .around) ∙ signal-alike (counted w) w (counted-alike w) n
+  pub signal-here : (n : ℕ) → signalAt (a .surroundings .word) n ≡ signalAt w n
+  signal-here n = ap (λ r. signalAt (r .word) n) (k .surroundings) ∙ signal-alike (withBit7 w) w (with-bit-7-alike w) n
 
-  pub in-here : (n : ℕ) → isIn (a .around .word) n ≡ isIn w n
-  in-here n = ap (λ r. isIn (r .word) n) (k .around) ∙ in-alike (counted w) w (counted-alike w) n
+  pub in-here : (n : ℕ) → isIn (a .surroundings .word) n ≡ isIn w n
+  in-here n = ap (λ r. isIn (r .word) n) (k .surroundings) ∙ in-alike (withBit7 w) w (with-bit-7-alike w) n
 
-  pub lines-here : (n : ℕ) → bitOf (a .around .levelsC) n ≡ bitOf (c .core .c .outside) n
-  lines-here n = ap (λ r. bitOf (r .levelsC) n) (k .around)
+  pub lines-here : (n : ℕ) → bitOf (a .surroundings .levelsC) n ≡ bitOf (c .core .c .outside) n
+  lines-here n = ap (λ r. bitOf (r .levelsC) n) (k .surroundings)
 
-  pub levels-here : (g : Group) → levelsOn g (a .around) ≡ portOf (c .core) g .outside
-  levels-here g = ap (levelsOn g) (k .around) ∙ outside-here c g
+  pub levels-here : (g : Group) → levelsOn g (a .surroundings) ≡ portOf (c .core) g .outside
+  levels-here g = ap (levelsOn g) (k .surroundings) ∙ outside-here c g
 
   -- The bit at the line of a strobed channel is its enable.
   pub line-same : (g : Group) (s : Side) → strobed w g s ≡ true → a .bit (strobePin g s) ≡ enableOf (c .core .inte) g s

@@ -4,18 +4,18 @@ use mathlib.Core.Path.{_≡_, refl, sym}
 use mathlib.Core.Bool.{Bool, true, false, not, _&&_}
 use Prim.Native.Nat.{ℕ}
 use Rattle.bits.specs.Bit.{bitOf}
+use Rattle.bus.specs.declared.Phase.{Phase}
+use Rattle.bus.specs.declared.Phase.the-variants.{Idle, Reading, Writing}
 use Rattle.control.specs.declared.Group.{Group}
 use Rattle.control.specs.Mode.{strobedInput, strobedOutput}
 use Rattle.channel.specs.declared.Side.{Side}
 use Rattle.channel.specs.declared.Side.the-variants.{Input, Output}
 use Rattle.channel.specs.Channel.{flagOf}
-use Rattle.chip.specs.declared.Phase.{Phase}
-use Rattle.chip.specs.declared.Phase.the-variants.{Idle, Reading, Writing}
 use Rattle.chip.specs.declared.Chip.{Chip}
 use Rattle.chip.specs.State.{channelOf}
 use Rattle.chip.specs.Handshakes.{enableOf, reading, writing}
 use Rattle.status.specs.Status.{requestOf, intrOf}
-use Rattle.fates.specs.Deeds.{strobePin, readRuns, writeRuns}
+use Rattle.fates.specs.Effects.{strobePin, readRuns, writeRuns}
 use Rattle.fates.proofs.Tables.{own-same, line-same as pin-same}
 use Rattle.account.specs.Account.{Account}
 use Rattle.account.specs.Views.{intr}
@@ -49,11 +49,11 @@ module _ (c : Chip) (a : Account) (k : Agrees c a) where
   request-same : (g : Group) (s : Side) → requestOf c g s ≡ a .asks g s
   unfolding requestOf flagOf
   request-same g Input =
-      rw (k .even g Input, k .around, takes-here w g, ← pin-same g Input, k .ibf g, read-runs (c .phase) g)
+      rw (k .even g Input, k .surroundings, takes-here w g, ← pin-same g Input, k .ibf g, read-runs (c .phase) g)
       (request (strobedInput w g) (enableOf (c .core .inte) g Input) (a .bit (strobePin g Input)) (full (channelOf (c .core) g Input))
       (bitOf (c .core .c .outside) (strobePin g Input)) (readRuns g (c .phase)) (line-same c a k g Input))
   request-same g Output =
-      rw (k .even g Output, k .around, gives-here w g, ← pin-same g Output, k .obf g, write-runs (c .phase) g)
+      rw (k .even g Output, k .surroundings, gives-here w g, ← pin-same g Output, k .obf g, write-runs (c .phase) g)
       (request (strobedOutput w g) (enableOf (c .core .inte) g Output) (a .bit (strobePin g Output)) (vacant (channelOf (c .core) g Output))
       (bitOf (c .core .c .outside) (strobePin g Output)) (writeRuns g (c .phase)) (line-same c a k g Output))
 

@@ -10,9 +10,9 @@ use Rattle.chip.specs.declared.Port.{Port}
 use Rattle.chip.specs.declared.Core.{Core}
 use Rattle.chip.specs.State.{onPort}
 use Rattle.chip.proofs.OnPort.{word-on, lines-on, enables-on}
-use Rattle.reads.specs.Read.{fetchedFrom, doneWith, begunRead, endedRead}
+use Rattle.reads.specs.Read.{fetchedFrom, doneWith, afterReadBegins, afterReadEnds}
 use Rattle.writes.specs.Write.{storedBy}
-use Rattle.levels.specs.Levels.{letsThrough, levelledPort, levelledLines, levelled}
+use Rattle.levels.specs.Levels.{letsThrough, portAfterLevels, afterLevelsOnC, afterLevels}
 use Rattle.account.proofs.ByAct.{stored}
 
 -- The mode word, port C's latch and the enables are the same.
@@ -25,21 +25,21 @@ pub record Kept (c′ c : Core) : Type 0 where
 on-port : (c : Core) (x : ℕ) (f : Group → Port → Port) → Kept (onPort c x f) c
 on-port c x f = record { word = word-on c x f; latch = ap (λ l. l .latch) (lines-on c x f); enables = enables-on c x f }
 
-pub kept-begun : (c : Core) (x : ℕ) → Kept (begunRead c x) c
-unfolding begunRead
+pub kept-begun : (c : Core) (x : ℕ) → Kept (afterReadBegins c x) c
+unfolding afterReadBegins
 kept-begun c x = on-port c x (λ g p. fetchedFrom p (strobedInput (c .word) g))
 
-pub kept-ended : (c : Core) (x : ℕ) → Kept (endedRead c x) c
-unfolding endedRead
+pub kept-ended : (c : Core) (x : ℕ) → Kept (afterReadEnds c x) c
+unfolding afterReadEnds
 kept-ended c x = on-port c x (λ g p. doneWith p (strobedInput (c .word) g))
 
 pub kept-stored : (c : Core) (x d : ℕ) → Kept (stored c x d) c
 kept-stored c x d = on-port c x (λ g p. storedBy p (c .word) g d)
 
-pub kept-levelled : (c : Core) (x d : ℕ) → Kept (levelled c x d) c
-unfolding levelled levelledLines
+pub kept-levelled : (c : Core) (x d : ℕ) → Kept (afterLevels c x d) c
+unfolding afterLevels afterLevelsOnC
 kept-levelled c x d = go (eqb x 2)
   where
-    go : (two : Bool) → Kept (cond two (levelledLines c d) (onPort c x (λ g p. levelledPort p (letsThrough c g) d))) c
+    go : (two : Bool) → Kept (cond two (afterLevelsOnC c d) (onPort c x (λ g p. portAfterLevels p (letsThrough c g) d))) c
     go true = record { word = refl; latch = refl; enables = refl }
-    go false = on-port c x (λ g p. levelledPort p (letsThrough c g) d)
+    go false = on-port c x (λ g p. portAfterLevels p (letsThrough c g) d)

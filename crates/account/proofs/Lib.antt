@@ -1,7 +1,7 @@
 pub mod Words
 pub mod Columns
 pub mod Signals
-pub mod Published
+pub mod Lookup
 pub mod Truth
 pub mod ByEvent
 pub mod Waves

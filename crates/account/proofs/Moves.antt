@@ -1,15 +1,15 @@
 -- What each move of a channel leaves of its latch and of its flag, in the account's shapes.
--- Rests on the channel's Left.
-use mathlib.Core.Path.{_≡_, _∙_, refl, ap, sym, subst}
+-- Rests on bits' Logic and the channel's ConditionsLeft.
+use mathlib.Core.Path.{_≡_, _∙_, refl, ap, sym}
 use mathlib.Core.Bool.{Bool, true, false, cond, not, _&&_, _||_, and-false, and-true, or-false, or-true}
 use Prim.Native.Nat.{ℕ}
-use lib.Dec.{T}
+use Rattle.bits.proofs.Logic.{either-way}
 use Rattle.channel.specs.declared.Fill.{Fill}
 use Rattle.channel.specs.declared.Fill.the-variants.{Empty, Waiting, Fetching}
 use Rattle.channel.specs.declared.Channel.{Channel}
 use Rattle.channel.specs.Channel.{isWaiting, isEmpty}
 use Rattle.channel.specs.Moves.{afterOffer, afterFollow, afterHandOver, afterEndRead}
-use Rattle.channel.proofs.Left.{leaves, offer-waits, offer-latches, follow-stays, follow-latches, hand-over-leaves, hand-over-keeps, end-read-empties, end-read-keeps}
+use Rattle.channel.proofs.ConditionsLeft.{leaves, offer-waits, offer-latches, follow-stays, follow-latches, hand-over-leaves, hand-over-keeps, end-read-empties, end-read-keeps}
 use Rattle.chip.specs.declared.Port.{Port}
 use Rattle.chip.specs.State.{withOutput}
 use Rattle.writes.specs.Write.{storedIn}
@@ -40,7 +40,7 @@ module _ (p : Port) (d : ℕ) where
   pub written-vacant : (own out on : Bool) → (on ≡ true → out ≡ true) → vacant (after own out on .output) ≡ (vacant (p .output) && not (own && on))
   written-vacant true true true sure = rw (offer-waits (p .output) d) (sym (and-false (vacant (p .output))))
   written-vacant true true false sure = sym (and-true (vacant (p .output)))
-  written-vacant true false true sure = absurd (subst T (sym (sure refl)) tt)
+  written-vacant true false true sure = cc (sure refl)
   written-vacant true false false sure = sym (and-true (vacant (p .output)))
   written-vacant false out on sure = sym (and-true (vacant (p .output)))
 
@@ -55,19 +55,17 @@ module _ (ch : Channel) where
       go Fetching = refl
   begun-full false = refl
 
-  pub begun-latch : (b : Bool) → cond b (afterHandOver ch Fetching) ch .latch ≡ ch .latch
-  begun-latch true = hand-over-keeps ch Fetching
-  begun-latch false = refl
-
   pub ended-full : (on own : Bool) → full (cond (on && own) (afterEndRead ch) ch) ≡ (full ch && not (own && on))
   ended-full true true = rw (end-read-empties ch) (sym (and-false (full ch)))
   ended-full true false = sym (and-true (full ch))
   ended-full false true = sym (and-true (full ch))
   ended-full false false = sym (and-true (full ch))
 
+  pub handed-latch : (left : Fill) (b : Bool) → cond b (afterHandOver ch left) ch .latch ≡ ch .latch
+  handed-latch left b = either-way (λ (r : Channel). r .latch) (ch .latch) b (afterHandOver ch left) ch (hand-over-keeps ch left) refl
+
   pub ended-latch : (b : Bool) → cond b (afterEndRead ch) ch .latch ≡ ch .latch
-  ended-latch true = end-read-keeps ch
-  ended-latch false = refl
+  ended-latch b = either-way (λ (r : Channel). r .latch) (ch .latch) b (afterEndRead ch) ch (end-read-keeps ch) refl
 
   -- Levels, to an input: two, on port C; on, strobed; fell and low, the line; own, on the port's lines.
   abbrev under : ℕ → ℕ → Bool → Bool → Channel
@@ -90,17 +88,11 @@ module _ (ch : Channel) where
       go true b = rw (offer-waits ch l) (sym (or-true (full ch)))
       go false true = rw (follow-stays ch d) (sym (or-false (full ch)))
       go false false = sym (or-false (full ch))
-  under-full l d two false fell b = rw (and-false two) (go b)
-    where
-      go : (b : Bool) → full (cond b (afterFollow ch d) ch) ≡ (full ch || false)
-      go true = rw (follow-stays ch d) (sym (or-false (full ch)))
-      go false = sym (or-false (full ch))
+  under-full l d two false fell b =
+      rw (and-false two)
+      (either-way full (full ch || false) b (afterFollow ch d) ch (rw (follow-stays ch d) (sym (or-false (full ch)))) (sym (or-false (full ch))))
 
   -- The fall of ACK, to an output.
-  pub taken-latch : (b : Bool) → cond b (afterHandOver ch Empty) ch .latch ≡ ch .latch
-  taken-latch true = hand-over-keeps ch Empty
-  taken-latch false = refl
-
   pub taken-vacant : (two on fell : Bool) → vacant (cond (two && (on && fell)) (afterHandOver ch Empty) ch) ≡ (vacant ch || (on && (two && fell)))
   taken-vacant two true fell = go (two && fell)
     where

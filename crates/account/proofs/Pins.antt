@@ -1,5 +1,5 @@
 -- The bit that a program puts at a pin of port C goes on as the account says: the latch of a free pin, or the enable of a line.
--- Rests on ByAct, Words, Columns, Signals, PinNamed, BitSet and Kept, on bits' BitLaws and Tested, and on settings' After.
+-- Rests on ByAct, Words, Columns, Signals, PinNamed, BitSet and Kept, on bits' BitLaws and Tested, and on settings' PortsAfter.
 use mathlib.Core.Path.{_≡_, _∙_, refl, ap, sym}
 use mathlib.Core.Bool.{Bool, true, false, cond, _&&_, _||_, and-false}
 use Prim.Native.Nat.{ℕ, _/_, _%_, _<_}
@@ -9,6 +9,7 @@ use borrow.Author.Tests.{eqb-true}
 use Rattle.bits.specs.Bit.{bitOf}
 use Rattle.bits.proofs.Tested.{bits}
 use Rattle.bits.proofs.BitLaws.{bit-of-assembled}
+use Rattle.events.specs.Event.{Event}
 use Rattle.control.specs.declared.Group.{Group}
 use Rattle.control.specs.declared.Group.the-variants.{A, B}
 use Rattle.channel.specs.declared.Side.{Side}
@@ -17,17 +18,17 @@ use Rattle.chip.specs.declared.Core.{Core}
 use Rattle.chip.specs.declared.Chip.{Chip}
 use Rattle.chip.specs.State.{noEnables}
 use Rattle.chip.specs.Handshakes.{enableOf}
-use Rattle.settings.specs.Renewed.{renewed}
-use Rattle.settings.specs.Commanded.{setAs, pinSet, commanded}
-use Rattle.settings.proofs.After.{renewed-latch, renewed-enables, bit-word, bit-spares}
+use Rattle.settings.specs.ModeWord.{afterModeWord}
+use Rattle.settings.specs.ControlWord.{setAs, pinSet, afterControlWord}
+use Rattle.settings.proofs.PortsAfter.{mode-word-latch, mode-word-enables, bit-word, bit-spares}
 use Rattle.writes.specs.Write.{latchWritten, writable}
-use Rattle.laws.specs.History.{Event, stepped}
-use Rattle.fates.specs.Deeds.{strobePin}
+use Rattle.step.specs.Step.{stepped}
+use Rattle.fates.specs.Effects.{strobePin}
 use Rattle.account.specs.Summary.{columnOf, isPlain, Signal, io, INTR, IBF, OBF, STB, ACK, signalAt, isIn, settable, freeOut, reached}
 use Rattle.account.specs.Acts.{written, act}
 use Rattle.account.specs.Account.{names, bitAfter}
-use Rattle.account.specs.Promise.{counted, aroundHere, bitHere}
-use Rattle.account.proofs.Words.{column-alike, signal-alike, in-alike, counted-alike}
+use Rattle.account.specs.Promise.{withBit7, surroundingsHere, bitHere}
+use Rattle.account.proofs.Words.{column-alike, signal-alike, in-alike, with-bit-7-alike}
 use Rattle.account.proofs.Columns.{plain-same}
 use Rattle.account.proofs.Signals.{roleBy, role-same, by-signal}
 use Rattle.account.proofs.ByAct.{latched, by-act}
@@ -45,13 +46,13 @@ no-enable A Output = refl
 no-enable B s = refl
 
 -- Made anew, a core has no bit at any pin; and what keeps latch and enables keeps the bits.
-renewed-bit : (c : Core) (w n : ℕ) → n < 8 → (r : Signal) → false ≡ bitHere (renewed c w) n r
-renewed-bit c w n hn io = rw (renewed-latch c w) (sym (no-bit n hn))
-renewed-bit c w n hn (INTR g) = refl
-renewed-bit c w n hn (IBF g) = refl
-renewed-bit c w n hn (OBF g) = refl
-renewed-bit c w n hn (STB g) = rw (renewed-enables c w) (sym (no-enable g Input))
-renewed-bit c w n hn (ACK g) = rw (renewed-enables c w) (sym (no-enable g Output))
+mode-word-bit : (c : Core) (w n : ℕ) → n < 8 → (r : Signal) → false ≡ bitHere (afterModeWord c w) n r
+mode-word-bit c w n hn io = rw (mode-word-latch c w) (sym (no-bit n hn))
+mode-word-bit c w n hn (INTR g) = refl
+mode-word-bit c w n hn (IBF g) = refl
+mode-word-bit c w n hn (OBF g) = refl
+mode-word-bit c w n hn (STB g) = rw (mode-word-enables c w) (sym (no-enable g Input))
+mode-word-bit c w n hn (ACK g) = rw (mode-word-enables c w) (sym (no-enable g Output))
 
 pub same-bit : (c′ c : Core) → c′ .c .latch ≡ c .c .latch → c′ .inte ≡ c .inte → (n : ℕ) (r : Signal) → bitHere c′ n r ≡ bitHere c n r
 same-bit c′ c latch enables n io = ap (λ (l : ℕ). bitOf l n) latch
@@ -77,10 +78,10 @@ module _ (c : Chip) (n : ℕ) (hn : n < 8) where
 
   -- What a write puts at the pin, under the word as it stands.
   put-here : (x d : ℕ)
-      → bitAfter (aroundHere c) n now (written x d)
+      → bitAfter (surroundingsHere c) n now (written x d)
       ≡ cond (names x d n && settable (signalAt w n) (isIn w n)) (bitOf d 0) (cond (eqb x 2 && reached w n) (bitOf d n) now)
   put-here x d =
-      let u = counted w in let same = counted-alike w in
+      let u = withBit7 w in let same = with-bit-7-alike w in
       rw (signal-alike u w same n, in-alike u w same n, column-alike u w same A)
 
   -- A control word that names pin m.
@@ -112,14 +113,14 @@ module _ (c : Chip) (n : ℕ) (hn : n < 8) where
   abbrev Goes : Core → Bool → Type 0
   Goes c′ after = after ≡ bitHere c′ n (signalAt (c′ .word) n)
 
-  named : (x d : ℕ) → eqb x 3 ≡ true → bitOf d 7 ≡ false → Goes (commanded core d) (bitAfter (aroundHere c) n now (written x d))
+  named : (x d : ℕ) → eqb x 3 ≡ true → bitOf d 7 ≡ false → Goes (afterControlWord core d) (bitAfter (surroundingsHere c) n now (written x d))
   unfolding pinSet
   named x d three seven =
       let m = d / 2 % 8 in let v = bitOf d 0 in
-      let same : commanded core d ≡ set m (omega arith) v = bit-word core d seven ∙ ap (setAs core m v) (role-same w m (omega arith)) in
+      let same : afterControlWord core d ≡ set m (omega arith) v = bit-word core d seven ∙ ap (setAs core m v) (role-same w m (omega arith)) in
       put-here x d
       ∙ rw (eqb-true x 3 three, pin-same d) (set-bit m (omega arith) v)
-      ∙ sym (ap (λ (u : ℕ). bitHere (commanded core d) n (signalAt u n)) (bit-spares core d seven .word)
+      ∙ sym (ap (λ (u : ℕ). bitHere (afterControlWord core d) n (signalAt u n)) (bit-spares core d seven .word)
       ∙ ap (λ (c′ : Core). bitHere c′ n (signalAt w n)) same)
 
   abbrev Written : ℕ → Signal → Type 0
@@ -127,7 +128,7 @@ module _ (c : Chip) (n : ℕ) (hn : n < 8) where
       signalAt w n ≡ r
       → cond (freeOut r (isIn w n) && (ltb n 4 || isPlain (columnOf w A))) (bitOf d n) (bitHere core n r) ≡ bitHere (latched core d) n r
 
-  lines-written : (x d : ℕ) → eqb x 2 ≡ true → Goes (latched core d) (bitAfter (aroundHere c) n now (written x d))
+  lines-written : (x d : ℕ) → eqb x 2 ≡ true → Goes (latched core d) (bitAfter (surroundingsHere c) n now (written x d))
   unfolding latchWritten
   lines-written x d two =
       put-here x d
@@ -138,11 +139,11 @@ module _ (c : Chip) (n : ℕ) (hn : n < 8) where
       (λ e. refl) (λ e. refl) (λ e. refl) (λ g at e. refl) (λ g at e. refl)
       w hn refl)
 
-  pub bit-next : (e : Event) → Goes (stepped c e .chip .core) (bitAfter (aroundHere c) n now (act (c .phase) e))
+  pub bit-next : (e : Event) → Goes (stepped c e .chip .core) (bitAfter (surroundingsHere c) n now (act (c .phase) e))
   bit-next =
-      by-act (λ c′ t. Goes c′ (bitAfter (aroundHere c) n now t)) c
+      by-act (λ c′ t. Goes c′ (bitAfter (surroundingsHere c) n now t)) c
       refl
-      (λ v. renewed-bit core v n hn (signalAt (renewed core v .word) n))
+      (λ v. mode-word-bit core v n hn (signalAt (afterModeWord core v .word) n))
       (λ x. kept-bit _ core (kept-begun core x) n)
       (λ x. kept-bit _ core (kept-ended core x) n)
       (λ x. refl)

@@ -1,41 +1,43 @@
 -- The latches of ports A and B, IBF and OBF go on as the account says.
--- Rests on ByAct, Columns and Moves, on the channel's Left, chip's OnPort and Surrounded, control's Strobed, settings', reads' and levels' After, and
+-- Rests on ByAct, Columns and Moves, on the channel's ConditionsLeft, chip's OnPort and Surrounded, control's Strobed, settings', reads' and levels' PortsAfter, and
 -- fates' Tables.
 use mathlib.Core.Path.{_≡_, refl, ap, sym}
 use mathlib.Core.Bool.{false, not, _&&_, and-true}
 use Prim.Native.Nat.{ℕ}
 use lib.Dec.{eqb}
 use Rattle.bits.specs.Bit.{bitOf}
+use Rattle.events.specs.Event.{Event}
 use Rattle.control.specs.declared.Group.{Group}
 use Rattle.control.specs.declared.Group.the-variants.{A, B}
 use Rattle.control.specs.Mode.{strobedInput, strobedOutput, outputOf}
 use Rattle.control.proofs.Strobed.{giving-is-output}
 use Rattle.channel.specs.declared.Side.the-variants.{Input, Output}
-use Rattle.channel.proofs.Left.{clear-empties, clear-zeroes}
+use Rattle.channel.specs.declared.Fill.the-variants.{Empty, Fetching}
+use Rattle.channel.proofs.ConditionsLeft.{clear-empties, clear-zeroes}
 use Rattle.chip.specs.declared.Port.{Port}
 use Rattle.chip.specs.declared.Core.{Core}
 use Rattle.chip.specs.declared.Chip.{Chip}
 use Rattle.chip.specs.State.{portOf, channelOf}
-use Rattle.chip.specs.Handshakes.{ownAddress, lineOf}
+use Rattle.chip.specs.Handshakes.{ownAddress, linePin}
 use Rattle.chip.proofs.OnPort.{lines-not-own, control-not-own, port-on}
 use Rattle.chip.proofs.Surrounded.{spared-port}
-use Rattle.settings.specs.Commanded.{commanded}
-use Rattle.settings.proofs.After.{renewed-channel, bit-spares}
-use Rattle.reads.proofs.After.{begun-input, begun-output, ended-input, ended-output}
+use Rattle.settings.specs.ControlWord.{afterControlWord}
+use Rattle.settings.proofs.PortsAfter.{mode-word-channel, bit-spares}
+use Rattle.reads.proofs.PortsAfter.{begun-input, begun-output, ended-input, ended-output}
 use Rattle.writes.specs.Write.{storedBy}
 use Rattle.levels.specs.Levels.{fallen, lineFalls, letsThrough}
-use Rattle.levels.proofs.After.{levelled-input, levelled-output}
-use Rattle.laws.specs.History.{Event, stepped}
-use Rattle.fates.specs.Deeds.{levelsOn}
+use Rattle.levels.proofs.PortsAfter.{levels-input, levels-output}
+use Rattle.step.specs.Step.{stepped}
+use Rattle.fates.specs.Effects.{levelsOn}
 use Rattle.fates.proofs.Tables.{own-same, line-same}
 use Rattle.account.specs.Acts.{act}
 use Rattle.account.specs.Account.{outputAfter, inputAfter, ibfAfter, obfAfter}
-use Rattle.account.specs.Promise.{aroundHere}
+use Rattle.account.specs.Promise.{surroundingsHere}
 use Rattle.account.proofs.Columns.{takes-here, gives-here, keeps-here}
 use Rattle.account.proofs.ByAct.{latched, by-act}
-use Rattle.account.proofs.Moves.{full, vacant, written-input, written-latch, written-vacant, begun-full, begun-latch, ended-full, ended-latch, under-latch, under-full, taken-latch, taken-vacant}
+use Rattle.account.proofs.Moves.{full, vacant, written-input, written-latch, written-vacant, begun-full, ended-full, handed-latch, ended-latch, under-latch, under-full, taken-vacant}
 
-pub outside-here : (c : Chip) (g : Group) → levelsOn g (aroundHere c) ≡ portOf (c .core) g .outside
+pub outside-here : (c : Chip) (g : Group) → levelsOn g (surroundingsHere c) ≡ portOf (c .core) g .outside
 outside-here c A = refl
 outside-here c B = refl
 
@@ -50,19 +52,19 @@ module _ (c : Chip) (g : Group) where
   abbrev w : ℕ
   w = core .word
 
-  spared : (d : ℕ) → bitOf d 7 ≡ false → portOf (commanded core d) g ≡ portOf core g
+  spared : (d : ℕ) → bitOf d 7 ≡ false → portOf (afterControlWord core d) g ≡ portOf core g
   spared d seven = spared-port (bit-spares core d seven) g
 
   abbrev storing : ℕ → Group → Port → Port
   storing d g p = storedBy p w g d
 
   pub output-next : (e : Event)
-      → channelOf (stepped c e .chip .core) g Output .latch ≡ outputAfter (aroundHere c) g (channelOf core g Output .latch) (act (c .phase) e)
+      → channelOf (stepped c e .chip .core) g Output .latch ≡ outputAfter (surroundingsHere c) g (channelOf core g Output .latch) (act (c .phase) e)
   unfolding storedBy
   output-next =
-      by-act (λ c′ t. channelOf c′ g Output .latch ≡ outputAfter (aroundHere c) g (channelOf core g Output .latch) t) c
+      by-act (λ c′ t. channelOf c′ g Output .latch ≡ outputAfter (surroundingsHere c) g (channelOf core g Output .latch) t) c
       refl
-      (λ v. rw (renewed-channel core v g Output) (clear-zeroes (channelOf core g Output)))
+      (λ v. rw (mode-word-channel core v g Output) (clear-zeroes (channelOf core g Output)))
       (λ x. rw (begun-output core x g))
       (λ x. rw (ended-output core x g))
       (λ x. refl)
@@ -70,15 +72,15 @@ module _ (c : Chip) (g : Group) where
       (λ x d two. rw (latched-port core d g, own-same x g, lines-not-own x two g))
       (λ x d two three. rw (port-on core x (storing d) g, own-same x g, keeps-here w g)
       (written-latch (portOf core g) d (ownAddress x g) (outputOf w g) (strobedOutput w g)))
-      (λ x d. rw (levelled-output core x d g) (taken-latch (channelOf core g Output) (eqb x 2 && lineFalls core d g Output)))
+      (λ x d. rw (levels-output core x d g) (handed-latch (channelOf core g Output) Empty (eqb x 2 && lineFalls core d g Output)))
 
   pub obf-next : (e : Event)
-      → vacant (channelOf (stepped c e .chip .core) g Output) ≡ obfAfter (aroundHere c) g (vacant (channelOf core g Output)) (act (c .phase) e)
+      → vacant (channelOf (stepped c e .chip .core) g Output) ≡ obfAfter (surroundingsHere c) g (vacant (channelOf core g Output)) (act (c .phase) e)
   unfolding storedBy fallen
   obf-next =
-      by-act (λ c′ t. vacant (channelOf c′ g Output) ≡ obfAfter (aroundHere c) g (vacant (channelOf core g Output)) t) c
+      by-act (λ c′ t. vacant (channelOf c′ g Output) ≡ obfAfter (surroundingsHere c) g (vacant (channelOf core g Output)) t) c
       refl
-      (λ v. rw (renewed-channel core v g Output, clear-empties (channelOf core g Output)))
+      (λ v. rw (mode-word-channel core v g Output, clear-empties (channelOf core g Output)))
       (λ x. rw (begun-output core x g))
       (λ x. rw (ended-output core x g))
       (λ x. refl)
@@ -86,34 +88,34 @@ module _ (c : Chip) (g : Group) where
       (λ x d two. rw (latched-port core d g, own-same x g, lines-not-own x two g) (sym (and-true (vacant (channelOf core g Output)))))
       (λ x d two three. rw (port-on core x (storing d) g, own-same x g, gives-here w g)
       (written-vacant (portOf core g) d (ownAddress x g) (outputOf w g) (strobedOutput w g) (giving-is-output w g)))
-      (λ x d. rw (levelled-output core x d g, gives-here w g, line-same g Output)
-      (taken-vacant (channelOf core g Output) (eqb x 2) (strobedOutput w g) (fallen (core .c .outside) d (lineOf g Output))))
+      (λ x d. rw (levels-output core x d g, gives-here w g, line-same g Output)
+      (taken-vacant (channelOf core g Output) (eqb x 2) (strobedOutput w g) (fallen (core .c .outside) d (linePin g Output))))
 
   pub input-next : (e : Event)
-      → channelOf (stepped c e .chip .core) g Input .latch ≡ inputAfter (aroundHere c) g (channelOf core g Input .latch) (act (c .phase) e)
+      → channelOf (stepped c e .chip .core) g Input .latch ≡ inputAfter (surroundingsHere c) g (channelOf core g Input .latch) (act (c .phase) e)
   unfolding storedBy fallen
   input-next =
-      by-act (λ c′ t. channelOf c′ g Input .latch ≡ inputAfter (aroundHere c) g (channelOf core g Input .latch) t) c
+      by-act (λ c′ t. channelOf c′ g Input .latch ≡ inputAfter (surroundingsHere c) g (channelOf core g Input .latch) t) c
       refl
-      (λ v. rw (renewed-channel core v g Input) (clear-zeroes (channelOf core g Input)))
-      (λ x. rw (begun-input core x g) (begun-latch (channelOf core g Input) (strobedInput w g && ownAddress x g)))
+      (λ v. rw (mode-word-channel core v g Input) (clear-zeroes (channelOf core g Input)))
+      (λ x. rw (begun-input core x g) (handed-latch (channelOf core g Input) Fetching (strobedInput w g && ownAddress x g)))
       (λ x. rw (ended-input core x g) (ended-latch (channelOf core g Input) (strobedInput w g && ownAddress x g)))
       (λ x. refl)
       (λ x d three seven. rw (spared d seven))
       (λ x d two. rw (latched-port core d g))
       (λ x d two three. rw (port-on core x (storing d) g)
       (ap (λ ch. ch .latch) (written-input (portOf core g) d (ownAddress x g) (outputOf w g) (strobedOutput w g))))
-      (λ x d. rw (levelled-input core x d g, takes-here w g, line-same g Input, own-same x g, outside-here c g)
-      (under-latch (channelOf core g Input) (portOf core g .outside) d (eqb x 2) (strobedInput w g) (fallen (core .c .outside) d (lineOf g Input))
-      (ownAddress x g) (not (bitOf (core .c .outside) (lineOf g Input)))))
+      (λ x d. rw (levels-input core x d g, takes-here w g, line-same g Input, own-same x g, outside-here c g)
+      (under-latch (channelOf core g Input) (portOf core g .outside) d (eqb x 2) (strobedInput w g) (fallen (core .c .outside) d (linePin g Input))
+      (ownAddress x g) (not (bitOf (core .c .outside) (linePin g Input)))))
 
   pub ibf-next : (e : Event)
-      → full (channelOf (stepped c e .chip .core) g Input) ≡ ibfAfter (aroundHere c) g (full (channelOf core g Input)) (act (c .phase) e)
+      → full (channelOf (stepped c e .chip .core) g Input) ≡ ibfAfter (surroundingsHere c) g (full (channelOf core g Input)) (act (c .phase) e)
   unfolding storedBy fallen
   ibf-next =
-      by-act (λ c′ t. full (channelOf c′ g Input) ≡ ibfAfter (aroundHere c) g (full (channelOf core g Input)) t) c
+      by-act (λ c′ t. full (channelOf c′ g Input) ≡ ibfAfter (surroundingsHere c) g (full (channelOf core g Input)) t) c
       refl
-      (λ v. rw (renewed-channel core v g Input, clear-empties (channelOf core g Input)))
+      (λ v. rw (mode-word-channel core v g Input, clear-empties (channelOf core g Input)))
       (λ x. rw (begun-input core x g) (begun-full (channelOf core g Input) (strobedInput w g && ownAddress x g)))
       (λ x. rw (ended-input core x g, takes-here w g, own-same x g) (ended-full (channelOf core g Input) (strobedInput w g) (ownAddress x g)))
       (λ x. refl)
@@ -121,6 +123,6 @@ module _ (c : Chip) (g : Group) where
       (λ x d two. rw (latched-port core d g))
       (λ x d two three. rw (port-on core x (storing d) g)
       (ap full (written-input (portOf core g) d (ownAddress x g) (outputOf w g) (strobedOutput w g))))
-      (λ x d. rw (levelled-input core x d g, takes-here w g, line-same g Input)
-      (under-full (channelOf core g Input) (portOf core g .outside) d (eqb x 2) (strobedInput w g) (fallen (core .c .outside) d (lineOf g Input))
+      (λ x d. rw (levels-input core x d g, takes-here w g, line-same g Input)
+      (under-full (channelOf core g Input) (portOf core g .outside) d (eqb x 2) (strobedInput w g) (fallen (core .c .outside) d (linePin g Input))
       (ownAddress x g && letsThrough core g)))

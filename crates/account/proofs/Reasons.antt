@@ -17,7 +17,7 @@ use Rattle.chip.specs.Handshakes.{strobed, enableOf}
 use Rattle.status.specs.declared.reasons.Reason.the-variants.{EnableOff, FlagWrong, LineLow, OwnCycle, High}
 use Rattle.status.specs.declared.reasons.Explained.the-variants.{ModeZero, InputHalf, OutputHalf, BothHalves}
 use Rattle.status.specs.Reasons.{reasonOf, explainedIn, explainedOf, reasonNumber, numbersOf}
-use Rattle.fates.specs.Deeds.{strobePin, readRuns, writeRuns}
+use Rattle.fates.specs.Effects.{strobePin, readRuns, writeRuns}
 use Rattle.fates.proofs.Tables.{line-same as pin-same}
 use Rattle.account.specs.Summary.{Column, plainIn, plainOut, strobedIn, strobedOut, bothWays, columnOf, takes, gives, keeps, isPlain}
 use Rattle.account.specs.Account.{Account}
@@ -42,8 +42,8 @@ module _ (c : Chip) (a : Account) (k : Agrees c a) where
   abbrev w : ℕ
   w = c .core .word
 
-  phase-here : a .around .phase ≡ c .phase
-  phase-here = ap (λ r. r .phase) (k .around)
+  phase-here : a .surroundings .phase ≡ c .phase
+  phase-here = ap (λ r. r .phase) (k .surroundings)
 
   reason-same : (g : Group) (s : Side) → strobed w g s ≡ true → reasonNumber (reasonOf c g s) ≡ lacks a g s
   unfolding reasonOf flagOf
@@ -54,7 +54,7 @@ module _ (c : Chip) (a : Account) (k : Agrees c a) where
       rw (line-same c a k g Output on, k .obf g, lines-here c a k (strobePin g Output), phase-here, ← pin-same g Output, write-runs (c .phase) g)
       (first (enableOf (c .core .inte) g Output) (vacant (channelOf (c .core) g Output)) (bitOf (c .core .c .outside) (strobePin g Output)) (writeRuns g (c .phase)))
 
-  said-same : (g : Group) → numbersOf (explainedIn c g) ≡ saidIn a g (columnOf (a .around .word) g)
+  said-same : (g : Group) → numbersOf (explainedIn c g) ≡ saidIn a g (columnOf (a .surroundings .word) g)
   unfolding explainedIn
   said-same g = rw (column-here c a k g, ← plain-same w g, ← two-same w g, ← keeps-same w g) (go (columnOf w g) refl)
     where

@@ -1,5 +1,5 @@
 -- What a run gives back is what the plain words say.
--- Rests on nothing.
+-- Rests on text's FirstLine.
 use mathlib.Core.Path.{_≡_, _∙_, refl}
 use mathlib.Core.Bool.{Bool, true, false, cond, not}
 use mathlib.Core.List.{List, [], _∷_}
@@ -9,24 +9,15 @@ use lib.Dec.{eqb}
 use lib.ListN.{length}
 use borrow.Author.Tests.{lt-ltb, le-ltb}
 use Rattle.bits.specs.Bit.{num}
-use Rattle.script.specs.Lines.{Line, ended, rest, lf, beforeLines, linesOf}
-use Rattle.script.specs.Run.{lineCount, numberOf}
+use Rattle.text.specs.Lines.{Line, ended, rest, beforeLines, linesOf, lineCount}
+use Rattle.text.proofs.FirstLine.{a-line}
+use Rattle.script.specs.Run.{runNumber}
 use Rattle.account.specs.Script.{endings, hasRest, lineTotal, RunNumbered}
 
 -- A byte set before the first of some lines leaves their number.
 set-before : (b : ℕ) (ls : List Line) → 0 < length ls → length (beforeLines b ls) ≡ length ls
 set-before b [] some = absurd (omega (arith, some))
 set-before b (l ∷ ls) some = refl
-
--- What is no empty text has a line.
-some-line : (b : ℕ) (text : List ℕ) → 0 < length (linesOf (b ∷ text))
-unfolding linesOf
-some-line b text = go (eqb b lf) (linesOf text)
-  where
-    go : (ends : Bool) (ls : List Line) → 0 < length (cond ends (ended [] ∷ ls) (beforeLines b ls))
-    go true ls = omega arith
-    go false [] = omega arith
-    go false (l ∷ ls) = omega arith
 
 -- One line more, or none, on either side.
 one-more : (n e r : ℕ) → n ≡ e + r → suc n ≡ 1 + e + r
@@ -43,7 +34,7 @@ lines-counted (b ∷ []) = go (eqb b 10)
     go : (ends : Bool) → length (cond ends (ended [] ∷ []) (rest (b ∷ []) ∷ [])) ≡ num ends + 0 + num (not ends)
     go true = refl
     go false = refl
-lines-counted (b ∷ c ∷ text) = go (eqb b 10) (linesOf (c ∷ text)) (some-line c text) (lines-counted (c ∷ text))
+lines-counted (b ∷ c ∷ text) = go (eqb b 10) (linesOf (c ∷ text)) (a-line (c ∷ text) (omega arith)) (lines-counted (c ∷ text))
   where
     go : (ends : Bool) (ls : List Line) → 0 < length ls → length ls ≡ lineTotal (c ∷ text)
         → length (cond ends (ended [] ∷ ls) (beforeLines b ls)) ≡ num ends + endings (c ∷ text) + num (hasRest (c ∷ text))
@@ -51,7 +42,7 @@ lines-counted (b ∷ c ∷ text) = go (eqb b 10) (linesOf (c ∷ text)) (some-li
     go false ls some same = set-before b ls some ∙ no-more (length ls) (endings (c ∷ text)) (num (hasRest (c ∷ text))) same
 
 pub run-numbered : (text : List ℕ) (room : ℕ) → RunNumbered text room
-unfolding numberOf
+unfolding runNumber
 run-numbered text room = record {
   tooLong = λ long. rw (lt-ltb 4096 (length text) long);
   noRoom = λ short less. rw (le-ltb 4096 (length text) short, lines-counted text, lt-ltb room (11 * lineTotal text) less);

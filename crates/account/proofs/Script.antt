@@ -3,13 +3,14 @@
 use mathlib.Core.Path.{_≡_, _∙_, refl}
 use mathlib.Core.List.{List, [], _∷_}
 use Prim.Native.Nat.{ℕ}
+use Rattle.events.specs.Event.{Event}
 use Rattle.chip.specs.declared.Chip.{Chip}
 use Rattle.chip.specs.State.{allHigh, powerUpWith}
+use Rattle.step.specs.Step.{stepped}
 use Rattle.script.specs.Answers.{lineText, shownAfter}
-use Rattle.laws.specs.History.{Event, stepped}
 use Rattle.fates.specs.ScriptRun.{historyOf, answersTo}
 use Rattle.fates.proofs.ScriptRun.{run-kept}
-use Rattle.account.specs.Account.{Account, next, opened}
+use Rattle.account.specs.Account.{Account, accountNext, opened}
 use Rattle.account.specs.Script.{lineBy, linesBy, AnsweredBy}
 use Rattle.account.proofs.Agrees.{Agrees, agrees-opened, agrees-next}
 use Rattle.account.proofs.Views.{levels-shown}
@@ -17,12 +18,12 @@ use Rattle.account.proofs.Account.{number-told, byte-told}
 
 line-is : (c : Chip) (a : Account) (e : Event) → Agrees c a → lineText (shownAfter (stepped c e)) ≡ lineBy a e
 line-is c a e k =
-    let levels = levels-shown (stepped c e .chip) (next a e) (agrees-next c a e k) in
+    let levels = levels-shown (stepped c e .chip) (accountNext a e) (agrees-next c a e k) in
     cc (number-told c a k e, byte-told c a k e, levels 0, levels 1, levels 2)
 
 lines-are : (es : List Event) (c : Chip) (a : Account) → Agrees c a → answersTo c es ≡ linesBy a es
 lines-are [] c a k = refl
-lines-are (e ∷ es) c a k = cc (line-is c a e k, lines-are es (stepped c e .chip) (next a e) (agrees-next c a e k))
+lines-are (e ∷ es) c a k = cc (line-is c a e k, lines-are es (stepped c e .chip) (accountNext a e) (agrees-next c a e k))
 
 pub answered-by : (text : List ℕ) → AnsweredBy text
 answered-by text = run-kept text .answers ∙ lines-are (historyOf text) (powerUpWith allHigh) (opened allHigh) (agrees-opened allHigh)

@@ -16,7 +16,7 @@ use Rattle.roles.proofs.PinByMasks.{number-one}
 use Rattle.roles.proofs.SameWords.{role-as-byte}
 use Rattle.channel.specs.declared.Side.the-variants.{Input, Output}
 use Rattle.chip.specs.Handshakes.{groupAt}
-use Rattle.fates.specs.Deeds.{strobePin}
+use Rattle.fates.specs.Effects.{strobePin}
 use Rattle.account.specs.Summary.{Column, plainIn, plainOut, strobedIn, strobedOut, bothWays, columnOf, takes, gives, Signal, io, INTR, IBF, OBF, STB, ACK, row, signalAt, isIn}
 use Rattle.account.proofs.Words.{signal-alike, in-alike, byte-alike}
 use Rattle.account.proofs.Columns.{columnB}
@@ -90,32 +90,32 @@ pub strobe-stands : (w : ℕ) (g : Group) → takes (columnOf w g) ≡ true → 
 strobe-stands w A = go (columnOf w A)
   where
     go : (k : Column) → takes k ≡ true → row io io (STB A) io (STB A) k ≡ STB A
-    go plainIn on = absurd (subst T (sym on) tt)
-    go plainOut on = absurd (subst T (sym on) tt)
+    go plainIn on = cc
+    go plainOut on = cc
     go strobedIn on = refl
-    go strobedOut on = absurd (subst T (sym on) tt)
+    go strobedOut on = cc
     go bothWays on = refl
 strobe-stands w B = go (bitOf w 2) (bitOf w 1)
   where
     go : (one taking : Bool) → takes (columnB one taking) ≡ true → row io io (STB B) (ACK B) io (columnB one taking) ≡ STB B
     go true true on = refl
-    go true false on = absurd (subst T (sym on) tt)
-    go false true on = absurd (subst T (sym on) tt)
-    go false false on = absurd (subst T (sym on) tt)
+    go true false on = cc
+    go false true on = cc
+    go false false on = cc
 
 pub acknowledge-stands : (w : ℕ) (g : Group) → gives (columnOf w g) ≡ true → signalAt w (strobePin g Output) ≡ ACK g
 acknowledge-stands w A = go (columnOf w A)
   where
     go : (k : Column) → gives k ≡ true → row io io io (ACK A) (ACK A) k ≡ ACK A
-    go plainIn on = absurd (subst T (sym on) tt)
-    go plainOut on = absurd (subst T (sym on) tt)
-    go strobedIn on = absurd (subst T (sym on) tt)
+    go plainIn on = cc
+    go plainOut on = cc
+    go strobedIn on = cc
     go strobedOut on = refl
     go bothWays on = refl
 acknowledge-stands w B = go (bitOf w 2) (bitOf w 1)
   where
     go : (one taking : Bool) → gives (columnB one taking) ≡ true → row io io (STB B) (ACK B) io (columnB one taking) ≡ ACK B
-    go true true on = absurd (subst T (sym on) tt)
+    go true true on = cc
     go true false on = refl
-    go false true on = absurd (subst T (sym on) tt)
-    go false false on = absurd (subst T (sym on) tt)
+    go false true on = cc
+    go false false on = cc

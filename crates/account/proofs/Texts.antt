@@ -5,12 +5,12 @@ use mathlib.Core.Path.{_≡_, _∙_, refl, ap₂}
 use mathlib.Core.List.{List, [], _∷_}
 use Prim.Native.Nat.{ℕ}
 use Rattle.bits.specs.Bit.{bitOf}
+use Rattle.events.specs.Kinds.{isKind, operandsOf}
 use Rattle.chip.specs.State.{allHigh}
-use Rattle.frames.specs.Digits.{digitValue, digitCode, pairValue}
-use Rattle.frames.specs.Kinds.{operandsOf}
-use Rattle.frames.specs.Frames.{leadingByte, isFrame, frameOf}
-use Rattle.script.specs.Lines.{linesOf}
-use Rattle.script.specs.Answers.{frameIn, lineText}
+use Rattle.text.specs.Digits.{digitValue, digitCode, pairValue}
+use Rattle.text.specs.Lines.{linesOf}
+use Rattle.text.specs.Frames.{leadingByte, isFrame, frameOf, frameIn}
+use Rattle.script.specs.Answers.{lineText}
 use Rattle.fates.specs.ScriptRun.{historyOf}
 use Rattle.account.specs.Account.{opened}
 use Rattle.account.specs.Script.{linesBy}
@@ -27,7 +27,7 @@ all-told [] = refl
 all-told (t ∷ ts) = ap₂ (λ (first : List ℕ) (others : List (List ℕ)). first ∷ others) (answered-by (codes (t .script))) (all-told ts)
 
 as-listed : told texts ≡ listed texts
-unfolding bitOf digitValue digitCode pairValue operandsOf leadingByte isFrame frameOf linesOf frameIn lineText
+unfolding bitOf digitValue digitCode pairValue isKind operandsOf leadingByte isFrame frameOf linesOf frameIn lineText
 as-listed = refl
 
 pub texts-answered : given texts ≡ listed texts

@@ -8,18 +8,18 @@ use Prim.Native.Nat.{ℕ, _+_, _/_, _%_}
 use native.Mathlib.Omega.{arith}
 use borrow.Author.Tests.{eqb-false}
 use Rattle.bits.specs.Bit.{bitOf}
+use Rattle.events.specs.Event.{Event}
 use Rattle.control.specs.declared.Group.{Group}
 use Rattle.control.specs.declared.Group.the-variants.{A, B}
 use Rattle.channel.specs.declared.Side.the-variants.{Input, Output}
 use Rattle.channel.specs.declared.Fill.the-variants.{Empty, Fetching}
 use Rattle.chip.specs.declared.Chip.{Chip}
 use Rattle.chip.specs.State.{channelOf}
-use Rattle.laws.specs.History.{Event}
 use Rattle.account.specs.Summary.{signalAt}
 use Rattle.account.specs.Account.{Account}
-use Rattle.account.specs.Promise.{counted, aroundHere, bitHere, accountOf, Accounted}
+use Rattle.account.specs.Promise.{withBit7, surroundingsHere, bitHere, accountOf, Accounted}
 use Rattle.account.specs.Unreached.{withCondition, withWord, SameSight}
-use Rattle.account.proofs.Words.{signal-alike, counted-alike}
+use Rattle.account.proofs.Words.{signal-alike, with-bit-7-alike}
 use Rattle.account.proofs.Moves.{full, vacant}
 use Rattle.account.proofs.Pins.{same-bit}
 use Rattle.account.proofs.Agrees.{Agrees, agrees-of}
@@ -49,11 +49,11 @@ record SameChannels (c c′ : Chip) (h : Group) : Type 0 where
   obf : vacant (channelOf (c .core) h Output) ≡ vacant (channelOf (c′ .core) h Output)
 
 -- One chip's account agrees with another that has the same surroundings, bits and channels.
-agrees-like : (c c′ : Chip) → aroundHere c ≡ aroundHere c′ → ((n : ℕ) → signalAt (counted (c .core .word)) n ≡ signalAt (c′ .core .word) n)
+agrees-like : (c c′ : Chip) → surroundingsHere c ≡ surroundingsHere c′ → ((n : ℕ) → signalAt (withBit7 (c .core .word)) n ≡ signalAt (c′ .core .word) n)
     → c .core .c .latch ≡ c′ .core .c .latch → c .core .inte ≡ c′ .core .inte → ((h : Group) → SameChannels c c′ h) → Agrees c′ (accountOf c)
-agrees-like c c′ around signals latch enables same = record {
-  around = around;
-  bit = λ n hn. same-bit (c .core) (c′ .core) latch enables n (signalAt (counted (c .core .word)) n) ∙ ap (bitHere (c′ .core) n) (signals n);
+agrees-like c c′ surroundings signals latch enables same = record {
+  surroundings = surroundings;
+  bit = λ n hn. same-bit (c .core) (c′ .core) latch enables n (signalAt (withBit7 (c .core .word)) n) ∙ ap (bitHere (c′ .core) n) (signals n);
   output = λ h. same h .output;
   input = λ h. same h .input;
   ibf = λ h. same h .ibf;
@@ -61,8 +61,8 @@ agrees-like c c′ around signals latch enables same = record {
   even = agrees-of c .even;
 }
 
-signals-here : (c : Chip) (n : ℕ) → signalAt (counted (c .core .word)) n ≡ signalAt (c .core .word) n
-signals-here c = signal-alike (counted (c .core .word)) (c .core .word) (counted-alike (c .core .word))
+signals-here : (c : Chip) (n : ℕ) → signalAt (withBit7 (c .core .word)) n ≡ signalAt (c .core .word) n
+signals-here c = signal-alike (withBit7 (c .core .word)) (c .core .word) (with-bit-7-alike (c .core .word))
 
 -- An output marked fetching, and the same output empty.
 same-channels : (c : Chip) (g h : Group) → SameChannels (withCondition c g Fetching) (withCondition c g Empty) h
@@ -83,18 +83,18 @@ seventh : (w : ℕ) → bitOf w 7 ≡ false → bitOf (w + 128) 7 ≡ true
 unfolding bitOf
 seventh w clear = let h = eqb-false (w / 128 % 2) 1 clear in let one : (w + 128) / 128 % 2 ≡ 1 = omega (arith, h) in rw (one)
 
-counted-set : (w : ℕ) → bitOf (counted w) 7 ≡ true
+counted-set : (w : ℕ) → bitOf (withBit7 w) 7 ≡ true
 counted-set w = go (bitOf w 7) refl
   where
     go : (b : Bool) → bitOf w 7 ≡ b → bitOf (cond b w (w + 128)) 7 ≡ true
     go true e = e
     go false e = seventh w e
 
-pub bit-7-unseen : (c : Chip) (w : ℕ) (es : List Event) → SameSight (withWord c w) (withWord c (counted w)) es
+pub bit-7-unseen : (c : Chip) (w : ℕ) (es : List Event) → SameSight (withWord c w) (withWord c (withBit7 w)) es
 bit-7-unseen c w =
-    same-account (withWord c w) (withWord c (counted w))
-    (agrees-like (withWord c w) (withWord c (counted w)) (rw (counted-set w)) (λ n. refl) refl refl same)
+    same-account (withWord c w) (withWord c (withBit7 w))
+    (agrees-like (withWord c w) (withWord c (withBit7 w)) (rw (counted-set w)) (λ n. refl) refl refl same)
   where
-    same : (h : Group) → SameChannels (withWord c w) (withWord c (counted w)) h
+    same : (h : Group) → SameChannels (withWord c w) (withWord c (withBit7 w)) h
     same A = record { output = refl; input = refl; ibf = refl; obf = refl }
     same B = record { output = refl; input = refl; ibf = refl; obf = refl }

@@ -20,7 +20,7 @@ use Rattle.chip.specs.State.{portOf}
 use Rattle.chip.specs.Handshakes.{groupAt, enableOf}
 use Rattle.ports.specs.Reads.{readPort, readAs, readLines, readOf}
 use Rattle.ports.specs.Pins.{drivesPort, pinsOfPort, isDriven, levelAs, pinsOfLines, pinsOf}
-use Rattle.fates.specs.Deeds.{strobePin}
+use Rattle.fates.specs.Effects.{strobePin}
 use Rattle.account.specs.Summary.{Column, plainIn, plainOut, strobedIn, strobedOut, bothWays, columnOf, takes, keeps, Signal, io, INTR, IBF, OBF, STB, ACK, signalAt, isIn, driven}
 use Rattle.account.specs.Account.{Account}
 use Rattle.account.specs.Views.{portRead, drives, driving, portLevels, toldOf, told, pinDriven, pinLevel, byteBy, levelsShown, maskShown, readAnswer}
@@ -59,7 +59,7 @@ module _ (c : Chip) (a : Account) (k : Agrees c a) where
   w = c .core .word
 
   -- Ports A and B, column by column.
-  read-same : (g : Group) → readPort w g (portOf (c .core) g) ≡ portRead a g (columnOf (a .around .word) g)
+  read-same : (g : Group) → readPort w g (portOf (c .core) g) ≡ portRead a g (columnOf (a .surroundings .word) g)
   unfolding readPort
   read-same g = rw (column-here c a k g, ← takes-same w g, ← keeps-same w g) (go (columnOf w g))
     where
@@ -75,7 +75,7 @@ module _ (c : Chip) (a : Account) (k : Agrees c a) where
   unfolding drivesPort
   drives-same A = rw (column-here c a k A, ← two-same w A, ← keeps-same w A) (go (columnOf w A))
     where
-      go : (col : Column) → cond (isTwo col) (not (bitOf (c .core .c .outside) 6)) (keeps col) ≡ drives (a .around) A col
+      go : (col : Column) → cond (isTwo col) (not (bitOf (c .core .c .outside) 6)) (keeps col) ≡ drives (a .surroundings) A col
       go plainIn = refl
       go plainOut = refl
       go strobedIn = refl
@@ -83,7 +83,7 @@ module _ (c : Chip) (a : Account) (k : Agrees c a) where
       go bothWays = ap not (sym (lines-here c a k 6))
   drives-same B = rw (column-here c a k B, ← keeps-same w B) (go (bitOf w 2) (bitOf w 1))
     where
-      go : (one taking : Bool) → keeps (columnB one taking) ≡ drives (a .around) B (columnB one taking)
+      go : (one taking : Bool) → keeps (columnB one taking) ≡ drives (a .surroundings) B (columnB one taking)
       go true true = refl
       go true false = refl
       go false true = refl

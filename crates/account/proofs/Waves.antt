@@ -5,38 +5,38 @@ use mathlib.Core.Bool.{Bool, true, false, cond, not, _&&_, _||_, and-false, and-
 use Prim.Native.Nat.{ℕ}
 use lib.Dec.{eqb}
 use Rattle.bits.specs.Bit.{bitOf}
+use Rattle.events.specs.Event.{Event}
+use Rattle.bus.specs.declared.Phase.the-variants.{Idle, Reading, Writing}
 use Rattle.control.specs.declared.Group.{Group}
 use Rattle.channel.specs.declared.Side.{Side}
 use Rattle.channel.specs.declared.Side.the-variants.{Input, Output}
-use Rattle.chip.specs.declared.Phase.the-variants.{Idle, Reading, Writing}
 use Rattle.chip.proofs.OnPort.{control-not-own}
-use Rattle.laws.specs.History.{Event}
 use Rattle.fates.specs.Kinds.{newLevels}
-use Rattle.fates.specs.Around.{Around, aroundAfter}
-use Rattle.fates.specs.Deeds.{portNumber, strobePin}
+use Rattle.fates.specs.Surroundings.{Surroundings, surroundingsAfter}
+use Rattle.fates.specs.Effects.{portNumber, strobePin}
 use Rattle.fates.proofs.Tables.{own-same}
 use Rattle.account.specs.Summary.{signalAt, isIn, settable, reached, pinNamed}
 use Rattle.account.specs.Acts.{Act, anew, readBegins, readEnds, writeBegins, written, levels}
-use Rattle.account.specs.Account.{Account, strobed, line, names, flag, served, asksAfter, accountAfter, next}
+use Rattle.account.specs.Account.{Account, strobed, line, names, flag, served, asksAfter, accountAfter, accountNext}
 use Rattle.account.proofs.Signals.{strobe-stands, acknowledge-stands}
 use Rattle.account.proofs.Truth.{truth}
 use Rattle.account.proofs.ByEvent.{onBus, by-event}
 
 -- The sheet's equation.
 abbrev pub equation : Account → Group → Side → Bool
-equation a g s = strobed (a .around) g s && (a .bit (strobePin g s) && (flag a g s && (line (a .around) g s && not (served (a .around) g s))))
+equation a g s = strobed (a .surroundings) g s && (a .bit (strobePin g s) && (flag a g s && (line (a .surroundings) g s && not (served (a .surroundings) g s))))
 
 -- The account's waveforms keep to it.
 abbrev pub Even : Account → Type 0
 Even a = (g : Group) (s : Side) → a .asks g s ≡ equation a g s
 
 -- The line of a strobed channel can be put by a control word, and by no write to port C.
-line-settable : (a : Around) (g : Group) (s : Side) → strobed a g s ≡ true
+line-settable : (a : Surroundings) (g : Group) (s : Side) → strobed a g s ≡ true
     → settable (signalAt (a .word) (strobePin g s)) (isIn (a .word) (strobePin g s)) ≡ true
 line-settable a g Input on = rw (strobe-stands (a .word) g on)
 line-settable a g Output on = rw (acknowledge-stands (a .word) g on)
 
-line-unreached : (a : Around) (g : Group) (s : Side) → strobed a g s ≡ true → reached (a .word) (strobePin g s) ≡ false
+line-unreached : (a : Surroundings) (g : Group) (s : Side) → strobed a g s ≡ true → reached (a .word) (strobePin g s) ≡ false
 line-unreached a g Input on = rw (strobe-stands (a .word) g on)
 line-unreached a g Output on = rw (acknowledge-stands (a .word) g on)
 
@@ -79,54 +79,54 @@ control-elsewhere x d n g = go (eqb x 3) refl
     go false e = refl
 
 module _ (a : Account) (even : Even a) where
-  abbrev Goes : Around → Act → Type 0
+  abbrev Goes : Surroundings → Act → Type 0
   Goes later t = (g : Group) (s : Side) → asksAfter a g s t ≡ equation (accountAfter a later t) g s
 
-  even-renewed : (w : ℕ) → Goes (onBus Idle w (a .around)) anew
-  even-renewed w g Input = sym (and-false (strobed (onBus Idle w (a .around)) g Input))
-  even-renewed w g Output = sym (and-false (strobed (onBus Idle w (a .around)) g Output))
+  even-renewed : (w : ℕ) → Goes (onBus Idle w (a .surroundings)) anew
+  even-renewed w g Input = sym (and-false (strobed (onBus Idle w (a .surroundings)) g Input))
+  even-renewed w g Output = sym (and-false (strobed (onBus Idle w (a .surroundings)) g Output))
 
-  even-read : (x : ℕ) → a .around .phase ≡ Idle → Goes (onBus (Reading x) (a .around .word) (a .around)) (readBegins x)
+  even-read : (x : ℕ) → a .surroundings .phase ≡ Idle → Goes (onBus (Reading x) (a .surroundings .word) (a .surroundings)) (readBegins x)
   even-read x phase g Input =
       rw (even g Input, phase)
       (truth 5 (λ s b f l o. (s && (b && (f && (l && true)))) && not o) (λ s b f l o. s && (b && (f && (l && not o)))) tt
-      (strobed (a .around) g Input) (a .bit (strobePin g Input)) (a .ibf g) (line (a .around) g Input) (eqb x (portNumber g)))
+      (strobed (a .surroundings) g Input) (a .bit (strobePin g Input)) (a .ibf g) (line (a .surroundings) g Input) (eqb x (portNumber g)))
   even-read x phase g Output = rw (even g Output, phase)
 
-  even-read-end : (x : ℕ) → a .around .phase ≡ Reading x → Goes (onBus Idle (a .around .word) (a .around)) (readEnds x)
+  even-read-end : (x : ℕ) → a .surroundings .phase ≡ Reading x → Goes (onBus Idle (a .surroundings .word) (a .surroundings)) (readEnds x)
   even-read-end x phase g Input =
       rw (even g Input, phase)
       (truth 5 (λ s b f l o. s && (b && (f && (l && not o)))) (λ s b f l o. s && (b && ((f && not (o && s)) && (l && true)))) tt
-      (strobed (a .around) g Input) (a .bit (strobePin g Input)) (a .ibf g) (line (a .around) g Input) (eqb x (portNumber g)))
+      (strobed (a .surroundings) g Input) (a .bit (strobePin g Input)) (a .ibf g) (line (a .surroundings) g Input) (eqb x (portNumber g)))
   even-read-end x phase g Output = rw (even g Output, phase)
 
-  even-write : (x d : ℕ) → a .around .phase ≡ Idle → Goes (onBus (Writing x d) (a .around .word) (a .around)) (writeBegins x)
+  even-write : (x d : ℕ) → a .surroundings .phase ≡ Idle → Goes (onBus (Writing x d) (a .surroundings .word) (a .surroundings)) (writeBegins x)
   even-write x d phase g Input = rw (even g Input, phase)
   even-write x d phase g Output =
       rw (even g Output, phase)
       (truth 5 (λ s b f l o. (s && (b && (f && (l && true)))) && not o) (λ s b f l o. s && (b && (f && (l && not o)))) tt
-      (strobed (a .around) g Output) (a .bit (strobePin g Output)) (a .obf g) (line (a .around) g Output) (eqb x (portNumber g)))
+      (strobed (a .surroundings) g Output) (a .bit (strobePin g Output)) (a .obf g) (line (a .surroundings) g Output) (eqb x (portNumber g)))
 
-  even-written : (x d : ℕ) → a .around .phase ≡ Writing x d → Goes (onBus Idle (a .around .word) (a .around)) (written x d)
+  even-written : (x d : ℕ) → a .surroundings .phase ≡ Writing x d → Goes (onBus Idle (a .surroundings .word) (a .surroundings)) (written x d)
   even-written x d phase g Input =
       rw (even g Input, phase)
-      (put (strobed (a .around) g Input) (names x d (strobePin g Input)) (bitOf d 0) _ (eqb x 2) _ (bitOf d (strobePin g Input))
-      (a .bit (strobePin g Input)) (a .ibf g) (line (a .around) g Input) (line-settable (a .around) g Input) (line-unreached (a .around) g Input))
+      (put (strobed (a .surroundings) g Input) (names x d (strobePin g Input)) (bitOf d 0) _ (eqb x 2) _ (bitOf d (strobePin g Input))
+      (a .bit (strobePin g Input)) (a .ibf g) (line (a .surroundings) g Input) (line-settable (a .surroundings) g Input) (line-unreached (a .surroundings) g Input))
   even-written x d phase g Output =
       rw (even g Output, phase)
-      (put-own (strobed (a .around) g Output) (names x d (strobePin g Output)) (bitOf d 0) _ (eqb x 2) _ (bitOf d (strobePin g Output))
-      (a .bit (strobePin g Output)) (a .obf g) (line (a .around) g Output) (eqb x (portNumber g))
-      (line-settable (a .around) g Output) (line-unreached (a .around) g Output) (control-elsewhere x d (strobePin g Output) g))
+      (put-own (strobed (a .surroundings) g Output) (names x d (strobePin g Output)) (bitOf d 0) _ (eqb x 2) _ (bitOf d (strobePin g Output))
+      (a .bit (strobePin g Output)) (a .obf g) (line (a .surroundings) g Output) (eqb x (portNumber g))
+      (line-settable (a .surroundings) g Output) (line-unreached (a .surroundings) g Output) (control-elsewhere x d (strobePin g Output) g))
 
-  even-levels : (x d : ℕ) → Goes (aroundAfter (a .around) (newLevels x d)) (levels x d)
+  even-levels : (x d : ℕ) → Goes (surroundingsAfter (a .surroundings) (newLevels x d)) (levels x d)
   even-levels x d g Input =
-      rw (even g Input, chosen (eqb x 2) d (a .around .levelsC) (strobePin g Input))
-      (lined (eqb x 2) (strobed (a .around) g Input) (a .bit (strobePin g Input)) (a .ibf g) (line (a .around) g Input)
-      (bitOf d (strobePin g Input)) (served (a .around) g Input))
+      rw (even g Input, chosen (eqb x 2) d (a .surroundings .levelsC) (strobePin g Input))
+      (lined (eqb x 2) (strobed (a .surroundings) g Input) (a .bit (strobePin g Input)) (a .ibf g) (line (a .surroundings) g Input)
+      (bitOf d (strobePin g Input)) (served (a .surroundings) g Input))
   even-levels x d g Output =
-      rw (even g Output, chosen (eqb x 2) d (a .around .levelsC) (strobePin g Output))
-      (lined (eqb x 2) (strobed (a .around) g Output) (a .bit (strobePin g Output)) (a .obf g) (line (a .around) g Output)
-      (bitOf d (strobePin g Output)) (served (a .around) g Output))
+      rw (even g Output, chosen (eqb x 2) d (a .surroundings .levelsC) (strobePin g Output))
+      (lined (eqb x 2) (strobed (a .surroundings) g Output) (a .bit (strobePin g Output)) (a .obf g) (line (a .surroundings) g Output)
+      (bitOf d (strobePin g Output)) (served (a .surroundings) g Output))
 
-  pub even-next : (e : Event) → Even (next a e)
-  even-next e = by-event Goes (a .around) even even-renewed even-read even-read-end even-write even-written even-levels e
+  pub even-next : (e : Event) → Even (accountNext a e)
+  even-next e = by-event Goes (a .surroundings) even even-renewed even-read even-read-end even-write even-written even-levels e

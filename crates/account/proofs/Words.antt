@@ -1,17 +1,17 @@
 -- Mode words with the same bits 0 to 6 have the same place in the summary; so bit 7 is asked for nothing.
--- Rests on laws' PlainBits.
+-- Rests on bits' Logic and laws' PlainBits.
 use mathlib.Core.Path.{_≡_, refl, ap, ap₂}
-use mathlib.Core.Bool.{Bool, true, false, cond}
 use Prim.Native.Nat.{ℕ, _+_, _/_, _%_, _^_, _<_}
 use native.Mathlib.Omega.{arith}
 use lib.Dec.{eqb, lit<}
 use lib.ListN.{getD}
 use Rattle.bits.specs.Bit.{bitOf}
+use Rattle.bits.proofs.Logic.{either-way}
 use Rattle.control.specs.declared.Group.{Group}
 use Rattle.control.specs.declared.Group.the-variants.{A, B}
 use Rattle.laws.proofs.PlainBits.{by-pin, bit-as-byte}
 use Rattle.account.specs.Summary.{Column, columnOf, io, summary, signalAt, isIn}
-use Rattle.account.specs.Promise.{counted}
+use Rattle.account.specs.Promise.{withBit7}
 
 -- Words with the same bits 0 to 6.
 abbrev pub Alike : ℕ → ℕ → Type 0
@@ -41,9 +41,5 @@ set-alike w k h =
     (λ h. omega arith) (λ h. omega arith) (λ h. omega arith) (λ h. omega arith) (λ h. omega arith) (λ h. omega arith) (λ h. omega arith)
     (λ h. absurd (omega (arith, h))) k (omega (arith, h)) h)
 
-pub counted-alike : (w : ℕ) → Alike (counted w) w
-counted-alike w k h = go (bitOf w 7)
-  where
-    go : (seven : Bool) → bitOf (cond seven w (w + 128)) k ≡ bitOf w k
-    go true = refl
-    go false = set-alike w k h
+pub with-bit-7-alike : (w : ℕ) → Alike (withBit7 w) w
+with-bit-7-alike w k h = either-way (λ v. bitOf v k) (bitOf w k) (bitOf w 7) w (w + 128) refl (set-alike w k h)

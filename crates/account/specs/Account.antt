@@ -4,20 +4,20 @@ use mathlib.Core.Bool.{Bool, true, false, cond, not, _&&_, _||_}
 use Prim.Native.Nat.{ℕ}
 use lib.Dec.{eqb}
 use Rattle.bits.specs.Bit.{bitOf}
+use Rattle.events.specs.Event.{Event}
 use Rattle.control.specs.declared.Group.{Group}
 use Rattle.channel.specs.declared.Side.{Side}
 use Rattle.channel.specs.declared.Side.the-variants.{Input, Output}
 use Rattle.chip.specs.declared.Levels.{Levels}
-use Rattle.laws.specs.History.{Event}
-use Rattle.fates.specs.Around.{Around, atPowerUp, aroundNext}
-use Rattle.fates.specs.Deeds.{portNumber, levelsOn, strobePin, readRuns, writeRuns, falls, underLow}
+use Rattle.fates.specs.Surroundings.{Surroundings, atPowerUp, surroundingsNext}
+use Rattle.fates.specs.Effects.{portNumber, levelsOn, strobePin, readRuns, writeRuns, falls, underLow}
 use Rattle.account.specs.Summary.{columnOf, takes, gives, keeps, signalAt, isIn, settable, reached, pinNamed}
 use Rattle.account.specs.Acts.{Act, nothing, anew, readBegins, readEnds, writeBegins, written, levels, act}
 
 -- The bus, the mode word and the levels outside; for each pin of port C the one bit that a program can put there, the latch of a free output
 -- or the INTE of STB or ACK; the latches of ports A and B; IBF and OBF; and the two halves of each INTR.
 pub record Account : Type 0 where
-  pub around : Around
+  pub surroundings : Surroundings
   pub bit : ℕ → Bool
   pub output : Group → ℕ
   pub input : Group → ℕ
@@ -26,12 +26,12 @@ pub record Account : Type 0 where
   pub asks : Group → Side → Bool
 
 -- Bytes come in by STB, or go out by ACK.
-abbrev pub strobed : Around → Group → Side → Bool
+abbrev pub strobed : Surroundings → Group → Side → Bool
 strobed a g Input = takes (columnOf (a .word) g)
 strobed a g Output = gives (columnOf (a .word) g)
 
 -- The level of a channel's STB or ACK.
-abbrev pub line : Around → Group → Side → Bool
+abbrev pub line : Surroundings → Group → Side → Bool
 line a g s = bitOf (a .levelsC) (strobePin g s)
 
 -- A write to control that is no mode word names pin n.
@@ -39,7 +39,7 @@ abbrev pub names : ℕ → ℕ → ℕ → Bool
 names x d n = eqb x 3 && eqb n (pinNamed d)
 
 -- The bit b at pin n: a control word puts the one that it names, and a write to port C those that it reaches.
-abbrev pub bitAfter : Around → ℕ → Bool → Act → Bool
+abbrev pub bitAfter : Surroundings → ℕ → Bool → Act → Bool
 bitAfter a n b nothing = b
 bitAfter a n b anew = false
 bitAfter a n b (readBegins x) = b
@@ -51,7 +51,7 @@ bitAfter a n b (written x d) =
 bitAfter a n b (levels x d) = b
 
 -- A port's output latch: what is written to it, where it keeps that.
-abbrev pub outputAfter : Around → Group → ℕ → Act → ℕ
+abbrev pub outputAfter : Surroundings → Group → ℕ → Act → ℕ
 outputAfter a g l nothing = l
 outputAfter a g l anew = 0
 outputAfter a g l (readBegins x) = l
@@ -61,7 +61,7 @@ outputAfter a g l (written x d) = cond (eqb x (portNumber g) && keeps (columnOf 
 outputAfter a g l (levels x d) = l
 
 -- A port's input latch: what stands on its lines as STB falls, and what comes there while STB is low.
-abbrev pub inputAfter : Around → Group → ℕ → Act → ℕ
+abbrev pub inputAfter : Surroundings → Group → ℕ → Act → ℕ
 inputAfter a g l nothing = l
 inputAfter a g l anew = 0
 inputAfter a g l (readBegins x) = l
@@ -72,7 +72,7 @@ inputAfter a g l (levels x d) =
     cond (strobed a g Input) (cond (falls g Input a x d) (levelsOn g a) (cond (underLow g a x) d l)) l
 
 -- IBF: set as STB falls, and reset as RD rises at the port.
-abbrev pub ibfAfter : Around → Group → Bool → Act → Bool
+abbrev pub ibfAfter : Surroundings → Group → Bool → Act → Bool
 ibfAfter a g f nothing = f
 ibfAfter a g f anew = false
 ibfAfter a g f (readBegins x) = f
@@ -82,7 +82,7 @@ ibfAfter a g f (written x d) = f
 ibfAfter a g f (levels x d) = f || (strobed a g Input && falls g Input a x d)
 
 -- OBF: reset as WR rises at the port, and set as ACK falls.
-abbrev pub obfAfter : Around → Group → Bool → Act → Bool
+abbrev pub obfAfter : Surroundings → Group → Bool → Act → Bool
 obfAfter a g f nothing = f
 obfAfter a g f anew = true
 obfAfter a g f (readBegins x) = f
@@ -97,7 +97,7 @@ flag a g Input = a .ibf g
 flag a g Output = a .obf g
 
 -- The cycle that serves a channel runs: a read of an input's port, a write to an output's.
-abbrev pub served : Around → Group → Side → Bool
+abbrev pub served : Surroundings → Group → Side → Bool
 served a g Input = readRuns g (a .phase)
 served a g Output = writeRuns g (a .phase)
 
@@ -106,12 +106,12 @@ served a g Output = writeRuns g (a .phase)
 abbrev pub withLine : Account → Group → Side → Bool → Bool
 withLine a g s high =
     high
-    && cond (line (a .around) g s) (a .asks g s)
-    (strobed (a .around) g s && (a .bit (strobePin g s) && (flag a g s && not (served (a .around) g s))))
+    && cond (line (a .surroundings) g s) (a .asks g s)
+    (strobed (a .surroundings) g s && (a .bit (strobePin g s) && (flag a g s && not (served (a .surroundings) g s))))
 
 -- As INTE is put: reset, it takes the half down; set, it lets it up, where the flag and the line are high.
 abbrev pub withEnable : Account → Group → Side → Bool → Bool
-withEnable a g s on = on && (strobed (a .around) g s && (flag a g s && line (a .around) g s))
+withEnable a g s on = on && (strobed (a .surroundings) g s && (flag a g s && line (a .surroundings) g s))
 
 -- A half of INTR. An input's falls as RD falls at the port, an output's as WR does, and no other cycle moves it.
 abbrev pub asksAfter : Account → Group → Side → Act → Bool
@@ -126,25 +126,25 @@ asksAfter a g s (written x d) = cond (names x d (strobePin g s)) (withEnable a g
 asksAfter a g s (levels x d) = cond (eqb x 2) (withLine a g s (bitOf d (strobePin g s))) (a .asks g s)
 
 -- All of it after an act, the surroundings being what they then are.
-abbrev pub accountAfter : Account → Around → Act → Account
+abbrev pub accountAfter : Account → Surroundings → Act → Account
 accountAfter a later t = record {
-  around = later;
-  bit = λ n. bitAfter (a .around) n (a .bit n) t;
-  output = λ g. outputAfter (a .around) g (a .output g) t;
-  input = λ g. inputAfter (a .around) g (a .input g) t;
-  ibf = λ g. ibfAfter (a .around) g (a .ibf g) t;
-  obf = λ g. obfAfter (a .around) g (a .obf g) t;
+  surroundings = later;
+  bit = λ n. bitAfter (a .surroundings) n (a .bit n) t;
+  output = λ g. outputAfter (a .surroundings) g (a .output g) t;
+  input = λ g. inputAfter (a .surroundings) g (a .input g) t;
+  ibf = λ g. ibfAfter (a .surroundings) g (a .ibf g) t;
+  obf = λ g. obfAfter (a .surroundings) g (a .obf g) t;
   asks = λ g s. asksAfter a g s t;
 }
 
 -- After an event.
-abbrev pub next : Account → Event → Account
-next a e = accountAfter a (aroundNext (a .around) e) (act (a .around .phase) e)
+abbrev pub accountNext : Account → Event → Account
+accountNext a e = accountAfter a (surroundingsNext (a .surroundings) e) (act (a .surroundings .phase) e)
 
 -- At power-up nothing is put, latched or asked for, IBF is low, and OBF is high.
 abbrev pub opened : Levels → Account
 opened l = record {
-  around = atPowerUp l;
+  surroundings = atPowerUp l;
   bit = λ n. false;
   output = λ g. 0;
   input = λ g. 0;

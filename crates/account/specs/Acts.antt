@@ -3,11 +3,11 @@ use mathlib.Core.Bool.{cond}
 use mathlib.Core.List.{[], _∷_}
 use Prim.Native.Nat.{ℕ}
 use lib.ListN.{getD}
-use Rattle.chip.specs.declared.Phase.{Phase}
-use Rattle.chip.specs.declared.Phase.the-variants.{Idle, Reading, Writing}
-use Rattle.laws.specs.History.{Event}
-use Rattle.fates.specs.Kinds.{Named, reset, cycleEnded, unknown, readBegun, writeBegun, newLevels, named, free, accepts}
-use Rattle.fates.specs.Around.{ofModeWord}
+use Rattle.events.specs.Event.{Event}
+use Rattle.bus.specs.declared.Phase.{Phase}
+use Rattle.bus.specs.declared.Phase.the-variants.{Idle, Reading, Writing}
+use Rattle.fates.specs.Kinds.{Kind, reset, cycleEnded, unknown, readBegun, writeBegun, newLevels, kindOf, free, accepts}
+use Rattle.fates.specs.Surroundings.{ofModeWord}
 
 -- `anew`: a reset, or the end of a mode word's write. `readBegins x`, `readEnds x`: RD falls, and rises, at the address x. `writeBegins x`,
 -- `written x d`: WR falls, and rises with the byte d, which is no mode word. `levels x d`: the levels d come onto port x.
@@ -23,7 +23,7 @@ ending (Reading x) = readEnds x
 ending (Writing x d) = cond (ofModeWord (Writing x d)) anew (written x d)
 
 -- An accepted event.
-abbrev pub actOf : Phase → Named → Act
+abbrev pub actOf : Phase → Kind → Act
 actOf ph reset = anew
 actOf ph (readBegun x) = readBegins x
 actOf ph cycleEnded = ending ph
@@ -33,14 +33,14 @@ actOf ph unknown = nothing
 
 -- Any event.
 abbrev pub act : Phase → Event → Act
-act ph e = cond (accepts ph (named e)) (actOf ph (named e)) nothing
+act ph e = cond (accepts ph (kindOf e)) (actOf ph (kindOf e)) nothing
 
 -- A cycle that would begin: 4 where another runs.
 abbrev pub begun : Phase → ℕ
 begun ph = cond (free ph) 0 4
 
 -- The number of an event, place by place: A, B, C and control; 2 is for every place that there is not, whatever runs.
-abbrev pub numberBy : Phase → Named → ℕ
+abbrev pub numberBy : Phase → Kind → ℕ
 numberBy ph reset = 0
 numberBy ph (readBegun x) = getD (begun ph ∷ begun ph ∷ begun ph ∷ 3 ∷ []) x 2
 numberBy ph cycleEnded = cond (free ph) 5 0

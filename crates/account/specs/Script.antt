@@ -6,31 +6,31 @@ use Prim.Native.Nat.{ℕ, _+_, _*_, _<_, _≤_}
 use lib.Dec.{eqb}
 use lib.ListN.{length}
 use Rattle.bits.specs.Bit.{num}
+use Rattle.events.specs.Event.{Event}
 use Rattle.chip.specs.State.{allHigh}
 use Rattle.script.specs.Answers.{lineText, answersOf}
 use Rattle.script.specs.Run.{ranOf}
-use Rattle.laws.specs.History.{Event}
-use Rattle.fates.specs.Kinds.{named}
+use Rattle.fates.specs.Kinds.{kindOf}
 use Rattle.fates.specs.ScriptRun.{historyOf}
 use Rattle.account.specs.Acts.{numberBy}
-use Rattle.account.specs.Account.{Account, next, opened}
-use Rattle.account.specs.Views.{levelsShown, byteGiven}
+use Rattle.account.specs.Account.{Account, accountNext, opened}
+use Rattle.account.specs.Views.{levelsShown, byteAnswered}
 
 -- The answer line of an event: its number and its byte, and the levels of A, B and C after it.
 abbrev pub lineBy : Account → Event → List ℕ
 lineBy a e =
     lineText (record {
-      number = numberBy (a .around .phase) (named e);
-      byte = byteGiven a e;
-      a = levelsShown (next a e) 0;
-      b = levelsShown (next a e) 1;
-      c = levelsShown (next a e) 2;
+      number = numberBy (a .surroundings .phase) (kindOf e);
+      byte = byteAnswered a e;
+      a = levelsShown (accountNext a e) 0;
+      b = levelsShown (accountNext a e) 1;
+      c = levelsShown (accountNext a e) 2;
     })
 
 -- The answer lines of a history.
 abbrev pub linesBy : Account → List Event → List ℕ
 linesBy a [] = []
-linesBy a (e ∷ es) = lineBy a e ++ linesBy (next a e) es
+linesBy a (e ∷ es) = lineBy a e ++ linesBy (accountNext a e) es
 
 -- What is promised of a text: its answers are the account's, from a power-up with every line high.
 abbrev pub AnsweredBy : List ℕ → Type 0

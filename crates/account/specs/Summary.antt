@@ -85,14 +85,14 @@ signalAt w n = getD (summary (columnOf w B) (columnOf w A)) n io
 abbrev pub isIn : ℕ → ℕ → Bool
 isIn w n = cond (ltb n 4) (bitOf w 0) (bitOf w 3)
 
--- The published number of what a pin is: 0 input, 1 output, 2 INTR, 3 IBF, 4 OBF, 5 STB, 6 ACK.
-abbrev pub published : Signal → Bool → ℕ
-published io inward = cond inward 0 1
-published (INTR g) inward = 2
-published (IBF g) inward = 3
-published (OBF g) inward = 4
-published (STB g) inward = 5
-published (ACK g) inward = 6
+-- The number of what a pin is, as the table of roles has it: 0 input, 1 output, 2 INTR, 3 IBF, 4 OBF, 5 STB, 6 ACK.
+abbrev pub roleNumber : Signal → Bool → ℕ
+roleNumber io inward = cond inward 0 1
+roleNumber (INTR g) inward = 2
+roleNumber (IBF g) inward = 3
+roleNumber (OBF g) inward = 4
+roleNumber (STB g) inward = 5
+roleNumber (ACK g) inward = 6
 
 -- Of a pin that is `s`, and free as an input or not: the chip drives it.
 abbrev pub driven : Signal → Bool → Bool

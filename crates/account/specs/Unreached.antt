@@ -2,6 +2,7 @@
 use mathlib.Core.Path.{_≡_}
 use mathlib.Core.List.{List}
 use Prim.Native.Nat.{ℕ}
+use Rattle.events.specs.Event.{Event}
 use Rattle.control.specs.declared.Group.{Group}
 use Rattle.channel.specs.declared.Fill.{Fill}
 use Rattle.chip.specs.declared.Chip.{Chip}
@@ -10,7 +11,7 @@ use Rattle.status.specs.Status.{intrOf}
 use Rattle.status.specs.Reasons.{explainedOf, numbersOf}
 use Rattle.ports.specs.Reads.{readOf}
 use Rattle.ports.specs.Pins.{pinsOf}
-use Rattle.laws.specs.History.{Event, stepped}
+use Rattle.step.specs.Step.{stepped}
 use Rattle.fates.specs.Promise.{run}
 
 -- A chip with an output in another condition.

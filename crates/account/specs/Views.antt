@@ -4,13 +4,13 @@ use mathlib.Core.List.{[], _∷_}
 use Prim.Native.Nat.{ℕ, _+_, _*_}
 use lib.ListN.{getD}
 use Rattle.bits.specs.Bit.{bitOf, num}
+use Rattle.events.specs.Event.{Event}
 use Rattle.control.specs.declared.Group.{Group}
 use Rattle.control.specs.declared.Group.the-variants.{A, B}
 use Rattle.channel.specs.declared.Side.the-variants.{Input, Output}
-use Rattle.laws.specs.History.{Event}
-use Rattle.fates.specs.Kinds.{Named, reset, cycleEnded, unknown, readBegun, writeBegun, newLevels, named, accepts}
-use Rattle.fates.specs.Around.{Around}
-use Rattle.fates.specs.Deeds.{levelsOn}
+use Rattle.fates.specs.Kinds.{Kind, reset, cycleEnded, unknown, readBegun, writeBegun, newLevels, kindOf, accepts}
+use Rattle.fates.specs.Surroundings.{Surroundings}
+use Rattle.fates.specs.Effects.{levelsOn}
 use Rattle.account.specs.Summary.{Column, plainIn, plainOut, strobedIn, strobedOut, bothWays, columnOf, Signal, io, INTR, IBF, OBF, STB, ACK, signalAt, isIn, driven}
 use Rattle.account.specs.Account.{Account, line}
 
@@ -20,14 +20,14 @@ intr a g = a .asks g Input || a .asks g Output
 
 -- What a read of port A or B answers, column by column.
 abbrev pub portRead : Account → Group → Column → ℕ
-portRead a g plainIn = levelsOn g (a .around)
+portRead a g plainIn = levelsOn g (a .surroundings)
 portRead a g plainOut = a .output g
 portRead a g strobedIn = a .input g
 portRead a g strobedOut = a .output g
 portRead a g bothWays = a .input g
 
 -- The chip drives port A or B: an output always, and port A in mode 2 while ACK is low.
-abbrev pub drives : Around → Group → Column → Bool
+abbrev pub drives : Surroundings → Group → Column → Bool
 drives a g plainIn = false
 drives a g plainOut = true
 drives a g strobedIn = false
@@ -36,15 +36,15 @@ drives a g bothWays = not (line a g Output)
 
 -- So it is with the port's own column.
 abbrev pub driving : Account → Group → Bool
-driving a g = drives (a .around) g (columnOf (a .around .word) g)
+driving a g = drives (a .surroundings) g (columnOf (a .surroundings .word) g)
 
 -- The levels of port A or B: driven, the output latch; else what stands outside.
 abbrev pub portLevels : Account → Group → ℕ
-portLevels a g = cond (driving a g) (a .output g) (levelsOn g (a .around))
+portLevels a g = cond (driving a g) (a .output g) (levelsOn g (a .surroundings))
 
 -- What a read tells of pin n of port C, by what the pin is; a free one tells its line or its latch.
 abbrev pub toldOf : Account → ℕ → Signal → Bool
-toldOf a n io = cond (isIn (a .around .word) n) (bitOf (a .around .levelsC) n) (a .bit n)
+toldOf a n io = cond (isIn (a .surroundings .word) n) (bitOf (a .surroundings .levelsC) n) (a .bit n)
 toldOf a n (INTR g) = intr a g
 toldOf a n (IBF g) = a .ibf g
 toldOf a n (OBF g) = a .obf g
@@ -53,15 +53,15 @@ toldOf a n (ACK g) = a .bit n
 
 -- Bit n of a read of port C.
 abbrev pub told : Account → ℕ → Bool
-told a n = toldOf a n (signalAt (a .around .word) n)
+told a n = toldOf a n (signalAt (a .surroundings .word) n)
 
 -- The chip drives pin n of port C.
 abbrev pub pinDriven : Account → ℕ → Bool
-pinDriven a n = driven (signalAt (a .around .word) n) (isIn (a .around .word) n)
+pinDriven a n = driven (signalAt (a .surroundings .word) n) (isIn (a .surroundings .word) n)
 
 -- The level of pin n: driven, what a read tells of it; else what stands outside.
 abbrev pub pinLevel : Account → ℕ → Bool
-pinLevel a n = cond (pinDriven a n) (told a n) (bitOf (a .around .levelsC) n)
+pinLevel a n = cond (pinDriven a n) (told a n) (bitOf (a .surroundings .levelsC) n)
 
 -- The byte of eight bits.
 abbrev pub byteBy : (ℕ → Bool) → ℕ
@@ -76,17 +76,17 @@ abbrev pub maskShown : Account → ℕ → ℕ
 maskShown a p = getD (cond (driving a A) 0xff 0 ∷ cond (driving a B) 0xff 0 ∷ byteBy (pinDriven a) ∷ []) p 0
 
 abbrev pub readAnswer : Account → ℕ → ℕ
-readAnswer a p = getD (portRead a A (columnOf (a .around .word) A) ∷ portRead a B (columnOf (a .around .word) B) ∷ byteBy (told a) ∷ []) p 0
+readAnswer a p = getD (portRead a A (columnOf (a .surroundings .word) A) ∷ portRead a B (columnOf (a .surroundings .word) B) ∷ byteBy (told a) ∷ []) p 0
 
 -- The byte of an accepted event: only a read that begins has one to give.
-abbrev pub byteOf : Account → Named → ℕ
-byteOf a reset = 0
-byteOf a (readBegun x) = readAnswer a x
-byteOf a cycleEnded = 0
-byteOf a (writeBegun x d) = 0
-byteOf a (newLevels x d) = 0
-byteOf a unknown = 0
+abbrev pub byteFor : Account → Kind → ℕ
+byteFor a reset = 0
+byteFor a (readBegun x) = readAnswer a x
+byteFor a cycleEnded = 0
+byteFor a (writeBegun x d) = 0
+byteFor a (newLevels x d) = 0
+byteFor a unknown = 0
 
 -- The byte of an event; a refused one has none.
-abbrev pub byteGiven : Account → Event → ℕ
-byteGiven a e = cond (accepts (a .around .phase) (named e)) (byteOf a (named e)) 0
+abbrev pub byteAnswered : Account → Event → ℕ
+byteAnswered a e = cond (accepts (a .surroundings .phase) (kindOf e)) (byteFor a (kindOf e)) 0

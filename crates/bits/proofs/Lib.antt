@@ -3,3 +3,4 @@ pub mod Tabled
 pub mod BitLaws
 pub mod MaskLaws
 pub mod Determined
+pub mod Logic

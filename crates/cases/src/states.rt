@@ -1,10 +1,10 @@
 // How the chip comes to be in a state: by an event, by very many strobes, or by hand, where no history leads there.
+use bus::Phase;
 use channel::Channel;
 use channel::Fill;
 use chip::Chip;
 use chip::Core;
 use chip::Levels;
-use chip::Phase;
 use chip::Port;
 use step::Stepped;
 

@@ -10,17 +10,18 @@ use Rattle.control.specs.declared.Group.{Group}
 use Rattle.control.specs.declared.Group.the-variants.{A, B}
 use Rattle.chip.specs.declared.Port.{Port}
 use Rattle.chip.specs.declared.Core.{Core}
+use Rattle.chip.specs.Addresses.{portA, portB, portC, control}
 use Rattle.chip.specs.State.{portOf, withPort, onPort}
 use Rattle.chip.specs.Handshakes.{ownAddress}
 
 -- Port C and control are at neither port's address.
-pub lines-not-own : (x : ℕ) → eqb x 2 ≡ true → (g : Group) → ownAddress x g ≡ false
-lines-not-own x e A = rw (eqb-true x 2 e)
-lines-not-own x e B = rw (eqb-true x 2 e)
+pub lines-not-own : (x : ℕ) → eqb x portC ≡ true → (g : Group) → ownAddress x g ≡ false
+lines-not-own x e A = rw (eqb-true x portC e)
+lines-not-own x e B = rw (eqb-true x portC e)
 
-pub control-not-own : (x : ℕ) → eqb x 3 ≡ true → (g : Group) → ownAddress x g ≡ false
-control-not-own x e A = rw (eqb-true x 3 e)
-control-not-own x e B = rw (eqb-true x 3 e)
+pub control-not-own : (x : ℕ) → eqb x control ≡ true → (g : Group) → ownAddress x g ≡ false
+control-not-own x e A = rw (eqb-true x control e)
+control-not-own x e B = rw (eqb-true x control e)
 
 -- Where there is no port, no rule does anything.
 pub no-port : (c : Core) (x : ℕ) → 1 < x → (f : Group → Port → Port) → onPort c x f ≡ c
@@ -35,10 +36,10 @@ module _ (c : Core) (x : ℕ) (f : Group → Port → Port) where
   first false true = refl
   first false false = refl
 
-  second : (a : Bool) → eqb x 0 ≡ a
-      → portOf (cond a (withPort c A (f A (c .a))) (cond (eqb x 1) (withPort c B (f B (c .b))) c)) B ≡ cond (eqb x 1) (f B (c .b)) (c .b)
-  second true e = rw (eqb-true x 0 e)
-  second false e = go (eqb x 1)
+  second : (a : Bool) → eqb x portA ≡ a
+      → portOf (cond a (withPort c A (f A (c .a))) (cond (eqb x portB) (withPort c B (f B (c .b))) c)) B ≡ cond (eqb x portB) (f B (c .b)) (c .b)
+  second true e = rw (eqb-true x portA e)
+  second false e = go (eqb x portB)
     where
       go : (b : Bool) → portOf (cond b (withPort c B (f B (c .b))) c) B ≡ cond b (f B (c .b)) (c .b)
       go true = refl
@@ -46,8 +47,8 @@ module _ (c : Core) (x : ℕ) (f : Group → Port → Port) where
 
   -- A port changes where the address is its own, and else stays.
   pub port-on : (g : Group) → portOf (onPort c x f) g ≡ cond (ownAddress x g) (f g (portOf c g)) (portOf c g)
-  port-on A = first (eqb x 0) (eqb x 1)
-  port-on B = second (eqb x 0) refl
+  port-on A = first (eqb x portA) (eqb x portB)
+  port-on B = second (eqb x portA) refl
 
   rest : (a b : Bool) {X : Type 0} (p : Core → X) → p (withPort c A (f A (c .a))) ≡ p c → p (withPort c B (f B (c .b))) ≡ p c
       → p (cond a (withPort c A (f A (c .a))) (cond b (withPort c B (f B (c .b))) c)) ≡ p c
@@ -57,10 +58,10 @@ module _ (c : Core) (x : ℕ) (f : Group → Port → Port) where
 
   -- The mode word, the lines of port C and the enables stay.
   pub word-on : onPort c x f .word ≡ c .word
-  word-on = rest (eqb x 0) (eqb x 1) (λ c. c .word) refl refl
+  word-on = rest (eqb x portA) (eqb x portB) (λ c. c .word) refl refl
 
   pub lines-on : onPort c x f .c ≡ c .c
-  lines-on = rest (eqb x 0) (eqb x 1) (λ c. c .c) refl refl
+  lines-on = rest (eqb x portA) (eqb x portB) (λ c. c .c) refl refl
 
   pub enables-on : onPort c x f .inte ≡ c .inte
-  enables-on = rest (eqb x 0) (eqb x 1) (λ c. c .inte) refl refl
+  enables-on = rest (eqb x portA) (eqb x portB) (λ c. c .inte) refl refl

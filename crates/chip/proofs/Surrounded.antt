@@ -5,9 +5,10 @@ use mathlib.Core.Bool.{Bool, true, false, cond}
 use Prim.Native.Nat.{ℕ}
 use Rattle.control.specs.declared.Group.{Group}
 use Rattle.control.specs.declared.Group.the-variants.{A, B}
+use Rattle.channel.specs.declared.Side.{Side}
 use Rattle.chip.specs.declared.Port.{Port}
 use Rattle.chip.specs.declared.Core.{Core}
-use Rattle.chip.specs.State.{portOf, onPort}
+use Rattle.chip.specs.State.{portOf, sideOf, channelOf, withLatch, onPort}
 use Rattle.chip.specs.Handshakes.{ownAddress}
 use Rattle.chip.proofs.OnPort.{port-on, word-on, lines-on}
 
@@ -37,9 +38,15 @@ pub record Spared (c′ c : Core) : Type 0 where
   pub b : c′ .b ≡ c .b
   pub lines : c′ .c .outside ≡ c .c .outside
 
+pub latch-spares : (c : Core) (l : ℕ) → Spared (withLatch c l) c
+latch-spares c l = record { word = refl; a = refl; b = refl; lines = refl }
+
 pub spared-port : {c′ c : Core} → Spared c′ c → (g : Group) → portOf c′ g ≡ portOf c g
 spared-port k A = k .a
 spared-port k B = k .b
 
-pub spared-around : {c′ c : Core} → Spared c′ c → Surrounded c′ c
-spared-around k = record { word = k .word; ports = λ g. ap (λ p. p .outside) (spared-port k g); lines = k .lines }
+pub spared-channel : {c′ c : Core} → Spared c′ c → (g : Group) (s : Side) → channelOf c′ g s ≡ channelOf c g s
+spared-channel k g s = ap (λ p. sideOf p s) (spared-port k g)
+
+pub spared-surrounded : {c′ c : Core} → Spared c′ c → Surrounded c′ c
+spared-surrounded k = record { word = k .word; ports = λ g. ap (λ p. p .outside) (spared-port k g); lines = k .lines }

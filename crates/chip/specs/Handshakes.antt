@@ -2,19 +2,20 @@
 use mathlib.Core.Bool.{Bool, false, cond}
 use Prim.Native.Nat.{ℕ}
 use lib.Dec.{eqb, ltb}
+use Rattle.bus.specs.declared.Phase.{Phase}
+use Rattle.bus.specs.declared.Phase.the-variants.{Idle, Reading, Writing}
 use Rattle.control.specs.declared.Group.{Group}
 use Rattle.control.specs.declared.Group.the-variants.{A, B}
 use Rattle.control.specs.Mode.{strobedInput, strobedOutput}
 use Rattle.channel.specs.declared.Side.{Side}
 use Rattle.channel.specs.declared.Side.the-variants.{Input, Output}
-use Rattle.chip.specs.declared.Phase.{Phase}
-use Rattle.chip.specs.declared.Phase.the-variants.{Idle, Reading, Writing}
 use Rattle.chip.specs.declared.Enables.{Enables}
+use Rattle.chip.specs.Addresses.{portA, portB}
 
--- The bus finds port A at 0 and port B at 1 ("Events and numbers").
+-- The bus finds each group's port at its own address ("Events and numbers").
 abbrev pub ownAddress : ℕ → Group → Bool
-ownAddress a A = eqb a 0
-ownAddress a B = eqb a 1
+ownAddress a A = eqb a portA
+ownAddress a B = eqb a portB
 
 -- The mode word strobes the channel.
 abbrev pub strobed : ℕ → Group → Side → Bool
@@ -22,10 +23,10 @@ strobed w g Input = strobedInput w g
 strobed w g Output = strobedOutput w g
 
 -- The pin of an input's STB and of an output's ACK ("Port C roles").
-abbrev pub lineOf : Group → Side → ℕ
-lineOf A Input = 4
-lineOf A Output = 6
-lineOf B s = 2
+abbrev pub linePin : Group → Side → ℕ
+linePin A Input = 4
+linePin A Output = 6
+linePin B s = 2
 
 -- A handshake's pins 2 to 0 are group B's, and 7 to 3 group A's ("Port C roles").
 abbrev pub groupAt : ℕ → Group

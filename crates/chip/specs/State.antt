@@ -2,6 +2,7 @@
 use mathlib.Core.Bool.{false, cond}
 use Prim.Native.Nat.{ℕ}
 use lib.Dec.{eqb}
+use Rattle.bus.specs.declared.Phase.the-variants.{Idle}
 use Rattle.control.specs.declared.Group.{Group}
 use Rattle.control.specs.declared.Group.the-variants.{A, B}
 use Rattle.channel.specs.declared.Side.{Side}
@@ -9,12 +10,12 @@ use Rattle.channel.specs.declared.Side.the-variants.{Input, Output}
 use Rattle.channel.specs.declared.Fill.the-variants.{Empty}
 use Rattle.channel.specs.declared.Tally.{Tally}
 use Rattle.channel.specs.declared.Channel.{Channel}
-use Rattle.chip.specs.declared.Phase.the-variants.{Idle}
 use Rattle.chip.specs.declared.Port.{Port}
 use Rattle.chip.specs.declared.Enables.{Enables}
 use Rattle.chip.specs.declared.Core.{Core}
 use Rattle.chip.specs.declared.Chip.{Chip}
 use Rattle.chip.specs.declared.Levels.{Levels}
+use Rattle.chip.specs.Addresses.{portA, portB}
 
 -- Nothing counted yet.
 abbrev pub noTally : Tally
@@ -44,13 +45,16 @@ allLow = levelsBy 0 0 0
 abbrev pub allHigh : Levels
 allHigh = levelsBy 0xff 0xff 0xff
 
--- The chip as it is switched on under outside levels: all ports inputs in mode 0, which is the word 9B, those levels on their lines, and
--- nothing anywhere else.
+-- The mode word at power-up: all ports are inputs in mode 0.
+abbrev pub powerUpWord : ℕ
+powerUpWord = 0x9b
+
+-- The chip as it is switched on under outside levels: under that word, with those levels on its lines, and nothing anywhere else.
 abbrev pub powerUpWith : Levels → Chip
 powerUpWith l = record {
   phase = Idle;
   core = record {
-    word = 0x9b;
+    word = powerUpWord;
     a = freshPort (l .a);
     b = freshPort (l .b);
     c = record { latch = 0; outside = l .c };
@@ -97,7 +101,6 @@ withLatch c x = record { word = c .word; a = c .a; b = c .b; c = record { latch 
 abbrev pub withEnables : Core → Enables → Core
 withEnables c e = record { word = c .word; a = c .a; b = c .b; c = c .c; inte = e }
 
--- Ports A and B are at 0 and 1 on the bus: the port at an address becomes what a rule makes of it, and any other address has
--- none ("Events and numbers").
+-- The port at an address becomes what a rule makes of it; any other address has none ("Events and numbers").
 abbrev pub onPort : Core → ℕ → (Group → Port → Port) → Core
-onPort c x f = cond (eqb x 0) (withPort c A (f A (c .a))) (cond (eqb x 1) (withPort c B (f B (c .b))) c)
+onPort c x f = cond (eqb x portA) (withPort c A (f A (c .a))) (cond (eqb x portB) (withPort c B (f B (c .b))) c)

@@ -3,17 +3,12 @@ ghost use mathlib.Core.Path.{_≡_};
 ghost use Rattle.chip.specs.State.{freshPort, powerUpWith, powerUp};
 
 pub mod channels;
+pub mod handshakes;
 
+use bus::Phase;
 use channel::Channel;
 use channel::Fill;
 use channel::Tally;
-
-// What runs on the bus: nothing, a read of a port, or a write of a byte to an address.
-pub enum Phase {
-    Idle,
-    Reading(u8),
-    Writing(u8, u8),
-}
 
 // Port A or B: its two channels, and the levels put on its pins from outside.
 pub struct Port {
@@ -22,8 +17,8 @@ pub struct Port {
     pub outside: u8,
 }
 
-// The lines of port C: the output latch, and the levels put on them from outside.
-pub struct Lines {
+// Port C: its output latch, and the levels put on its lines from outside.
+pub struct PortC {
     pub latch: u8,
     pub outside: u8,
 }
@@ -40,7 +35,7 @@ pub struct Core {
     pub word: u8,
     pub a: Port,
     pub b: Port,
-    pub c: Lines,
+    pub c: PortC,
     pub inte: Enables,
 }
 
@@ -55,6 +50,18 @@ pub struct Levels {
     pub b: u8,
     pub c: u8,
 }
+
+// The ports A, B and C and control by their addresses on the bus. Outside levels name a port by the same number.
+pub const PORT_A: u8 = 0;
+
+pub const PORT_B: u8 = 1;
+
+pub const PORT_C: u8 = 2;
+
+pub const CONTROL: u8 = 3;
+
+// The mode word at power-up and after a reset: all ports are inputs in mode 0.
+pub const POWER_UP_WORD: u8 = 0x9b;
 
 fn fresh_port(outside: u8) -> Port
     ensures { λ r. ⌜ r ≡ freshPort outside ⌝ }
@@ -83,10 +90,10 @@ pub fn power_up_with_levels(levels: Levels) -> Chip
     ensures { λ r. ⌜ r ≡ powerUpWith levels ⌝ }
 {
     let core = Core {
-        word: 0x9b,
+        word: POWER_UP_WORD,
         a: fresh_port(levels.a),
         b: fresh_port(levels.b),
-        c: Lines {
+        c: PortC {
             latch: 0,
             outside: levels.c,
         },

@@ -2,15 +2,15 @@
 use super::random::byte;
 use super::random::far;
 use super::random::next;
+use bus::Phase;
 use channel::Channel;
 use channel::Fill;
 use channel::Tally;
 use chip::Chip;
 use chip::Core;
 use chip::Enables;
-use chip::Lines;
-use chip::Phase;
 use chip::Port;
+use chip::PortC;
 
 // In one of two so near its end that a few events bring it back to 0.
 fn tally(number: u64) -> u16 {
@@ -73,7 +73,7 @@ pub(super) fn arbitrary(seed: u64) -> Chip {
         word: byte(number >> 48),
         a: port(ports),
         b: port(far(far(ports))),
-        c: Lines {
+        c: PortC {
             latch: byte(number >> 40),
             outside: byte(number >> 32) | high,
         },

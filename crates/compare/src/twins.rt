@@ -1,9 +1,9 @@
 // The state of the proved model in the form of the second one.
 use super::apart::Machine;
+use bus::Phase;
 use channel::Channel;
 use channel::Fill;
 use chip::Chip;
-use chip::Phase;
 
 pub(super) struct Bus {
     pub(super) phase: u8,

@@ -1,12 +1,13 @@
 -- Strobed ports: in mode 0 a group is not strobed, in mode 1 one way, by the direction of its port, and there is no mode above 2; a
 -- strobed output is an output ("Mode words").
--- Rests on AsByte and on bits' Tested.
-use mathlib.Core.Path.{_≡_, refl, sym, subst}
+-- Rests on AsByte and on bits' Logic and Tested.
+use mathlib.Core.Path.{_≡_, refl}
 use mathlib.Core.Bool.{Bool, true, false, not, _&&_, _||_}
 use Prim.Native.Nat.{ℕ, _%_, _<_}
 use native.Mathlib.Omega.{arith}
-use lib.Dec.{T, eqb, ltb}
+use lib.Dec.{eqb, ltb}
 use borrow.Author.Tests.{ltb-true, ne-eqb}
+use Rattle.bits.proofs.Logic.{both}
 use Rattle.bits.proofs.Tested.{bits}
 use Rattle.control.specs.declared.Group.{Group}
 use Rattle.control.specs.declared.Group.the-variants.{A, B}
@@ -48,5 +49,4 @@ giving-is-output w g on = go (eqb (modeOf w g) 2) (eqb (modeOf w g) 1) (inputOf 
   where
     go : (two one input : Bool) → (two || (one && not input)) ≡ true → (two || not input) ≡ true
     go true one input e = refl
-    go false true input e = e
-    go false false input e = absurd (subst T (sym e) tt)
+    go false one input e = both one (not input) e .1

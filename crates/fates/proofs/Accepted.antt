@@ -1,108 +1,100 @@
 -- An event is accepted in the history's words exactly where its number is 0, and then the chip is what the step makes of it.
--- Rests on frames' KindLaws, and on the step's ByKind and Outcome.
-use mathlib.Core.Path.{_≡_, _∙_, refl, ap, sym, subst}
+-- Rests on bits' Logic, events' ByKind and the step's Outcome.
+use mathlib.Core.Path.{_≡_, _∙_, refl, ap, sym}
 use mathlib.Core.Bool.{Bool, true, false, not, cond, _&&_, _||_}
-use Prim.Native.Nat.{ℕ, suc}
+use Prim.Native.Nat.{ℕ, zero, suc}
 use native.Mathlib.Omega.{arith}
-use lib.Dec.{T, eqb, ltb}
-use lib.ListN.{List·getD-eq-default}
-use borrow.Author.Tests.{ltb-true, ltb-false, eqb-true, eqb-false, not-true, lt-ltb, le-ltb}
-use Rattle.frames.specs.Kinds.{isKind}
-use Rattle.frames.proofs.KindLaws.{above-but-four}
-use Rattle.chip.specs.declared.Phase.{Phase}
-use Rattle.chip.specs.declared.Phase.the-variants.{Idle, Reading, Writing}
+use lib.Dec.{eqb, ltb}
+use borrow.Author.Tests.{ltb-true, ltb-false, eqb-true, eqb-false}
+use Rattle.bits.proofs.Logic.{contrary}
+use Rattle.events.specs.Kinds.{isKind, noKind}
+use Rattle.events.proofs.ByKind.{by-kind}
+use Rattle.events.specs.Event.{Event, event}
+use Rattle.bus.specs.Device.{afterIn, byteIn}
+use Rattle.bus.specs.Refusals.{isBusy, numberOf}
+use Rattle.bus.specs.declared.Phase.{Phase}
+use Rattle.bus.specs.declared.Phase.the-variants.{Idle, Reading, Writing}
 use Rattle.chip.specs.declared.Chip.{Chip}
-use Rattle.step.specs.Numbers.{isBusy, noKind, numberOf}
-use Rattle.step.proofs.ByKind.{by-kind}
 use Rattle.step.specs.declared.Stepped.{Stepped}
-use Rattle.step.specs.Step.{afterOf, byteGiven, accepted, refused}
+use Rattle.step.specs.Step.{limits, device, accepted, refused, stepped}
 use Rattle.step.proofs.Outcome.{step-accepts, step-refuses}
-use Rattle.laws.specs.History.{Event, event, stepped}
-use Rattle.fates.specs.Kinds.{unknown, kinds, named, free, accepts}
+use Rattle.fates.specs.Kinds.{unknown, kindOf, free, accepts}
 
--- A number is below n where it is neither above nor n.
-below : (x n : ℕ) → ltb x n ≡ not (ltb n x || eqb x n)
-below x n = go (ltb n x) (eqb x n) refl refl
+-- An address that can be read is one that there is.
+begin-accepts : (ph : Phase) (x : ℕ)
+    → (ltb x 3 && free ph) ≡ eqb (cond (not (ltb x 4) || false) 2 (cond (not (ltb x 3)) 3 (cond (isBusy ph) 4 0))) 0
+begin-accepts ph x = go ph (ltb x 3) (ltb x 4) refl refl
   where
-    go : (above at : Bool) → ltb n x ≡ above → eqb x n ≡ at → ltb x n ≡ not (above || at)
-    go true at a e = le-ltb x n (let h = ltb-true n x a in omega (arith, h))
-    go false true a e = le-ltb x n (let h = eqb-true x n e in omega (arith, h))
-    go false false a e = lt-ltb x n (let h = ltb-false n x a in let k = eqb-false x n e in omega (arith, h, k))
+    go : (ph : Phase) (readable there : Bool) → ltb x 3 ≡ readable → ltb x 4 ≡ there
+        → (readable && free ph) ≡ eqb (cond (not there || false) 2 (cond (not readable) 3 (cond (isBusy ph) 4 0))) 0
+    go ph true false r t = absurd (let low = ltb-true x 3 r in let high = ltb-false x 4 t in omega (arith, low, high))
+    go Idle true true r t = refl
+    go (Reading p) true true r t = refl
+    go (Writing a d) true true r t = refl
+    go ph false true r t = refl
+    go ph false false r t = refl
 
--- Not above n is below n + 1.
-up-to : (x n : ℕ) → ltb x (suc n) ≡ not (ltb n x)
-up-to x n = go (ltb n x) refl
-  where
-    go : (above : Bool) → ltb n x ≡ above → ltb x (suc n) ≡ not above
-    go true a = le-ltb x (suc n) (let h = ltb-true n x a in omega (arith, h))
-    go false a = lt-ltb x (suc n) (let h = ltb-false n x a in omega (arith, h))
+write-accepts : (ph : Phase) (there : Bool) → (there && free ph) ≡ eqb (cond (not there || false) 2 (cond (isBusy ph) 4 0)) 0
+write-accepts ph false = refl
+write-accepts Idle true = refl
+write-accepts (Reading p) true = refl
+write-accepts (Writing a d) true = refl
 
-begin-accepts : (ph : Phase) (above control : Bool)
-    → (not (above || control) && free ph) ≡ eqb (cond (above || false) 2 (cond control 3 (cond (isBusy ph) 4 0))) 0
-begin-accepts ph true control = refl
-begin-accepts ph false true = refl
-begin-accepts Idle false false = refl
-begin-accepts (Reading p) false false = refl
-begin-accepts (Writing a d) false false = refl
-
-write-accepts : (ph : Phase) (above : Bool) → (not above && free ph) ≡ eqb (cond (above || false) 2 (cond (isBusy ph) 4 0)) 0
-write-accepts ph true = refl
-write-accepts Idle false = refl
-write-accepts (Reading p) false = refl
-write-accepts (Writing a d) false = refl
-
-levels-accept : (above : Bool) → not above ≡ eqb (cond above 2 0) 0
+levels-accept : (there : Bool) → there ≡ eqb (cond (not there) 2 0) 0
 levels-accept true = refl
 levels-accept false = refl
 
-end-accepts : (ph : Phase) → not (free ph) ≡ eqb (numberOf ph 2 0) 0
-unfolding numberOf
+end-accepts : (ph : Phase) → not (free ph) ≡ eqb (numberOf limits ph 2 0) 0
+unfolding numberOf isKind
 end-accepts Idle = refl
 end-accepts (Reading p) = refl
 end-accepts (Writing a d) = refl
 
 -- What is no kind is named as such.
-pub no-name : (k x d : ℕ) → noKind k ≡ true → named (event k x d) ≡ unknown
-no-name k x d none = go (eqb k 4) refl
-  where
-    go : (four : Bool) → eqb k 4 ≡ four → named (event k x d) ≡ unknown
-    go true e = rw (eqb-true k 4 e)
-    go false e = List·getD-eq-default (kinds x d) unknown (above-but-four k e (not-true (isKind k) none))
+pub no-name : (k x d : ℕ) → noKind k ≡ true → kindOf (event k x d) ≡ unknown
+unfolding isKind
+no-name zero x d none = cc
+no-name (suc zero) x d none = cc
+no-name (suc (suc zero)) x d none = cc
+no-name (suc (suc (suc zero))) x d none = cc
+no-name (suc (suc (suc (suc zero)))) x d none = refl
+no-name (suc (suc (suc (suc (suc zero))))) x d none = cc
+no-name (suc (suc (suc (suc (suc (suc k)))))) x d none = refl
 
-accepts-number : (ph : Phase) (k x d : ℕ) → accepts ph (named (event k x d)) ≡ eqb (numberOf ph k x) 0
-unfolding numberOf
+accepts-number : (ph : Phase) (k x d : ℕ) → accepts ph (kindOf (event k x d)) ≡ eqb (numberOf limits ph k x) 0
+unfolding numberOf isKind
 accepts-number ph k x d =
-    by-kind (λ k. accepts ph (named (event k x d)) ≡ eqb (numberOf ph k x) 0)
+    by-kind (λ k. accepts ph (kindOf (event k x d)) ≡ eqb (numberOf limits ph k x) 0)
     refl
-    (rw (below x 3) (begin-accepts ph (ltb 3 x) (eqb x 3)))
+    (begin-accepts ph x)
     (end-accepts ph)
-    (rw (up-to x 3) (write-accepts ph (ltb 3 x)))
-    (rw (up-to x 2) (levels-accept (ltb 2 x)))
+    (write-accepts ph (ltb x 4))
+    (levels-accept (ltb x 3))
     (λ k none. rw (no-name k x d none, none))
     k
 
 -- What is no kind is not accepted.
-pub no-kind-accepted : (ph : Phase) (k x d : ℕ) → noKind k ≡ true → accepts ph (named (event k x d)) ≡ true → ⊥
-no-kind-accepted ph k x d none ok = subst T (sym ok ∙ ap (accepts ph) (no-name k x d none)) tt
+pub no-kind-accepted : (ph : Phase) (k x d : ℕ) → noKind k ≡ true → accepts ph (kindOf (event k x d)) ≡ true → ⊥
+no-kind-accepted ph k x d none ok = contrary _ (ap (accepts ph) (no-name k x d none)) ok
 
 -- The number of an accepted event is 0.
-pub accepted-number : (ph : Phase) (k x d : ℕ) → accepts ph (named (event k x d)) ≡ true → numberOf ph k x ≡ 0
+pub accepted-number : (ph : Phase) (k x d : ℕ) → accepts ph (kindOf (event k x d)) ≡ true → numberOf limits ph k x ≡ 0
 accepted-number ph k x d ok = eqb-true _ _ (sym (accepts-number ph k x d) ∙ ok)
 
 -- What holds of the result of an accepted event, and of a refusal where the event is refused, holds of any event's.
 pub by-result : (P : Stepped → Bool → Type 0) (c : Chip) (e : Event)
-    → (accepts (c .phase) (named e) ≡ true → P (accepted (afterOf c (e .kind) (e .first) (e .second)) (byteGiven c (e .kind) (e .first))) true)
-    → ((n : ℕ) → P (refused c n) false) → P (stepped c e) (accepts (c .phase) (named e))
-by-result P c e taken left = go (accepts (c .phase) (named e)) refl
+    → (accepts (c .phase) (kindOf e) ≡ true → P (accepted (afterIn device c (e .kind) (e .first) (e .second)) (byteIn device c (e .kind) (e .first))) true)
+    → ((n : ℕ) → P (refused c n) false) → P (stepped c e) (accepts (c .phase) (kindOf e))
+by-result P c e taken left = go (accepts (c .phase) (kindOf e)) refl
   where
-    go : (b : Bool) → accepts (c .phase) (named e) ≡ b → P (stepped c e) b
+    go : (b : Bool) → accepts (c .phase) (kindOf e) ≡ b → P (stepped c e) b
     go true ok = rw (step-accepts c (e .kind) (e .first) (e .second) (accepted-number (c .phase) (e .kind) (e .first) (e .second) ok)) (taken ok)
     go false ok =
         let number = accepts-number (c .phase) (e .kind) (e .first) (e .second) in
-        rw (step-refuses c (e .kind) (e .first) (e .second) (eqb-false _ _ (sym number ∙ ok))) (left (numberOf (c .phase) (e .kind) (e .first)))
+        rw (step-refuses c (e .kind) (e .first) (e .second) (eqb-false _ _ (sym number ∙ ok))) (left (numberOf limits (c .phase) (e .kind) (e .first)))
 
 -- So it is with the chip that is left.
 pub by-outcome : (P : Chip → Bool → Type 0) (c : Chip) (e : Event)
-    → (accepts (c .phase) (named e) ≡ true → P (afterOf c (e .kind) (e .first) (e .second)) true) → P c false
-    → P (stepped c e .chip) (accepts (c .phase) (named e))
+    → (accepts (c .phase) (kindOf e) ≡ true → P (afterIn device c (e .kind) (e .first) (e .second)) true) → P c false
+    → P (stepped c e .chip) (accepts (c .phase) (kindOf e))
 by-outcome P c e taken left = by-result (λ r ok. P (r .chip) ok) c e taken (λ n. left)

@@ -1,26 +1,25 @@
 -- A channel's tallies balance after every history: from any chip in which they do, and from every power-up.
--- Rests on Demand.
-use mathlib.Core.Path.{_≡_, _∙_, refl, ap}
-use mathlib.Core.List.{List, _++_}
+-- Rests on Story and Demand.
+use mathlib.Core.Path.{_≡_, _∙_, refl, ap, sym}
+use mathlib.Core.List.{List}
 use Prim.Native.Nat.{ℕ, _+_, _*_, _/_, _%_}
 use native.Mathlib.Omega.{arith}
-use lib.ListN.{length}
 use Rattle.bits.specs.Bit.{num}
+use Rattle.events.specs.Event.{Event}
 use Rattle.control.specs.declared.Group.{Group}
 use Rattle.control.specs.declared.Group.the-variants.{A, B}
 use Rattle.channel.specs.declared.Side.{Side}
 use Rattle.channel.specs.declared.Side.the-variants.{Input, Output}
 use Rattle.channel.specs.declared.Fill.{Fill}
-use Rattle.channel.specs.declared.Fill.the-variants.{Empty, Waiting, Fetching}
 use Rattle.channel.specs.declared.Tally.{Tally}
 use Rattle.channel.specs.Channel.{isWaiting}
 use Rattle.chip.specs.declared.Chip.{Chip}
 use Rattle.chip.specs.declared.Levels.{Levels}
 use Rattle.chip.specs.State.{powerUpWith, channelOf, tallyOf}
-use Rattle.laws.specs.History.{Event}
-use Rattle.fates.specs.Deeds.{Deed, deeds}
-use Rattle.fates.specs.Bytes.{Offer, Byte, offeredAt}
-use Rattle.fates.specs.Promise.{run, tallies, aroundOf, newBytes, heldByte, Balanced, SixteenBits}
+use Rattle.fates.specs.Effects.{effects}
+use Rattle.fates.specs.Bytes.{offeredAt}
+use Rattle.fates.specs.Promise.{run, tallies, surroundingsOf, newBytes, Balanced, SixteenBits}
+use Rattle.fates.proofs.Story.{with-held}
 use Rattle.fates.proofs.Demand.{none-counted, fates-from}
 
 -- Whole rounds of 65,536 do not show in a remainder, nor do those that the parts of a sum have made.
@@ -52,21 +51,15 @@ counted-on t f f′ new handed overwritten swallowed cleared before counts =
     let sums : (t .offered + new) % 65536 ≡ (h + o + s + c + num (isWaiting f′)) % 65536 = omega (arith, before, counts) in
     sums ∙ parts h o s c (num (isWaiting f′))
 
--- The bytes of a channel are those offered since the start, and the one that may have waited there.
-with-held : (f : Fill) (h : Offer) (n : ℕ) (later : List Deed) (new : List Byte) → num (isWaiting f) + length new ≡ length (heldByte f h n later ++ new)
-with-held Empty h n later new = omega arith
-with-held Waiting h n later new = omega arith
-with-held Fetching h n later new = omega arith
-
 -- From any chip whose tallies have sixteen bits and balance: no event, and so no history, puts them out of balance.
 pub stays-balanced : (g : Group) (s : Side) (c : Chip) → SixteenBits (tallyOf c g s) → Balanced (tallyOf c g s) (channelOf (c .core) g s .fill)
     → (es : List Event) → Balanced (tallies g s c es) (channelOf (run c es .core) g s .fill)
 stays-balanced g s c small before es =
     let k = fates-from g s c small es in
     let ch = channelOf (c .core) g s in
-    let held = with-held (ch .fill) (offeredAt 0 (ch .latch)) 1 (deeds g s (aroundOf c) es) (newBytes g s c es) in
+    let held = with-held (ch .fill) (offeredAt 0 (ch .latch)) 1 (effects g s (surroundingsOf c) es) (newBytes g s c es) in
     rw (k .tallyOffered, k .tallyHanded, k .tallyOverwritten, k .tallySwallowed, k .tallyCleared)
-    (counted-on (ch .tally) (ch .fill) (channelOf (run c es .core) g s .fill) _ _ _ _ _ before (rw (← k .waitsInTheChip) (held ∙ k .oneFateEach)))
+    (counted-on (ch .tally) (ch .fill) (channelOf (run c es .core) g s .fill) _ _ _ _ _ before (rw (← k .waitsInTheChip) (sym held ∙ k .oneFateEach)))
 
 -- From power-up, whatever the levels.
 pub balanced : (g : Group) (s : Side) (l : Levels) (es : List Event)

@@ -6,6 +6,7 @@ use mathlib.Core.List.{List, _++_}
 use Prim.Native.Nat.{ℕ, _≤_}
 use native.Mathlib.Omega.{arith}
 use Rattle.bits.specs.Bit.{num}
+use Rattle.events.specs.Event.{Event}
 use Rattle.control.specs.declared.Group.{Group}
 use Rattle.control.specs.declared.Group.the-variants.{A, B}
 use Rattle.channel.specs.declared.Side.{Side}
@@ -14,11 +15,10 @@ use Rattle.channel.specs.Channel.{isWaiting}
 use Rattle.chip.specs.declared.Chip.{Chip}
 use Rattle.chip.specs.declared.Levels.{Levels}
 use Rattle.chip.specs.State.{noTally, powerUpWith, channelOf, tallyOf}
-use Rattle.laws.specs.History.{Event}
-use Rattle.fates.specs.Around.{atPowerUp}
-use Rattle.fates.specs.Deeds.{strobes, deeds}
+use Rattle.fates.specs.Surroundings.{atPowerUp}
+use Rattle.fates.specs.Effects.{strobes, effects}
 use Rattle.fates.specs.Bytes.{handedOver, overwritten, swallowed, cleared, offeredAt, bytesOf}
-use Rattle.fates.specs.Promise.{run, aroundOf, newBytes, oldByte, Fates, SixteenBits}
+use Rattle.fates.specs.Promise.{run, surroundingsOf, newBytes, oldByte, Fates, SixteenBits}
 use Rattle.fates.specs.Discipline.{HasFound, Disciplined, NoneLost}
 use Rattle.fates.proofs.Ordered.{story-in-order}
 use Rattle.fates.proofs.Counted.{one-fate-each, tally-counts, offered-counts, waits-there}
@@ -44,7 +44,7 @@ fates-from g s c small es =
       waitsInTheChip = waits;
       heldInTheLatch = new-held g s c es;
       asOffered = as-offered g s c es;
-      inOrder = story-in-order (channelOf (c .core) g s .fill) h 1 (deeds g s (aroundOf c) es) (omega arith);
+      inOrder = story-in-order (channelOf (c .core) g s .fill) h 1 (effects g s (surroundingsOf c) es) (omega arith);
       tallyOffered = offered-counts g s c 1 es (small .offered);
       tallyHanded = tally-counts g s handedOver refl c h 1 es (small .handed);
       tallyOverwritten = tally-counts g s overwritten refl c h 1 es (small .overwritten);

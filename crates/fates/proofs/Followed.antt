@@ -1,24 +1,26 @@
 -- One event, followed: the channel's condition, tallies and latch after it, by what the event is to the channel; and the bytes of the
 -- channel from there on.
--- Rests on Story, Moved, Surroundings and Projection.
+-- Rests on Shapes, Story, Moved, SurroundingsKept and Projection.
 use mathlib.Core.Path.{_≡_, _∙_, ap}
 use mathlib.Core.Bool.{true, false}
 use mathlib.Core.List.{List, _∷_, _++_}
 use Prim.Native.Nat.{ℕ, suc}
+use Rattle.events.specs.Event.{Event}
 use Rattle.control.specs.declared.Group.{Group}
 use Rattle.channel.specs.declared.Side.{Side}
 use Rattle.channel.specs.declared.Fill.{Fill}
 use Rattle.channel.specs.Channel.{next}
 use Rattle.chip.specs.declared.Chip.{Chip}
 use Rattle.chip.specs.State.{channelOf, tallyOf}
-use Rattle.laws.specs.History.{Event, stepped}
-use Rattle.fates.specs.Around.{aroundNext}
-use Rattle.fates.specs.Deeds.{Deed, deed, deeds}
+use Rattle.step.specs.Step.{stepped}
+use Rattle.fates.specs.Surroundings.{surroundingsNext}
+use Rattle.fates.specs.Effects.{Effect, effect, effects}
 use Rattle.fates.specs.Bytes.{Fate, waiting, Offer, Byte, same}
-use Rattle.fates.specs.Promise.{aroundOf, handshakeAlone}
-use Rattle.fates.proofs.Story.{fillAfter, heldAfter, story, decided, story-step}
-use Rattle.fates.proofs.Moved.{moved-fill, latchAfter, moved-latch, tallyFor, gives, moved-tallies, offers, moved-offered}
-use Rattle.fates.proofs.Surroundings.{around-next}
+use Rattle.fates.specs.Promise.{surroundingsOf, handshakeAlone}
+use Rattle.fates.proofs.Shapes.{Shape, shapeOf, fillAfter, latchAfter, isOffer, gives, heldAfter}
+use Rattle.fates.proofs.Story.{story, decided, story-step}
+use Rattle.fates.proofs.Moved.{tallyAfter, moved-so, tallyFor, tally-gives}
+use Rattle.fates.proofs.SurroundingsKept.{surroundings-next}
 use Rattle.fates.proofs.Projection.{follows}
 
 -- The chip that an event leaves.
@@ -34,34 +36,41 @@ module _ (g : Group) (s : Side) where
   latch c = channelOf (c .core) g s .latch
 
   -- What an event that meets a chip is to the channel.
-  abbrev pub deedIn : Chip → Event → Deed
-  deedIn c e = deed g s (aroundOf c) e
+  abbrev pub effectIn : Chip → Event → Effect
+  effectIn c e = effect g s (surroundingsOf c) e
+
+  -- The shape of that.
+  abbrev pub shapeIn : Chip → Event → Shape
+  shapeIn c e = shapeOf (effectIn c e)
 
   -- The bytes of the channel from the chip c on, where the first event is at place n and h is the byte that the channel may hold.
   abbrev pub storyOf : Chip → Offer → ℕ → List Event → List Byte
-  storyOf c h n es = story (fill c) h n (deeds g s (aroundOf c) es)
+  storyOf c h n es = story (fill c) h n (effects g s (surroundingsOf c) es)
 
   module _ (c : Chip) (e : Event) where
-    pub next-fill : fill (after c e) ≡ fillAfter s (fill c) (deedIn c e)
-    next-fill = follows c g s e .fill ∙ moved-fill s (channelOf (c .core) g s) (deedIn c e)
+    pub next-fill : fill (after c e) ≡ fillAfter s (fill c) (shapeIn c e)
+    next-fill = follows c g s e .fill ∙ ap (λ ch. ch .fill) (moved-so s (channelOf (c .core) g s) (effectIn c e))
+
+    next-tallies : tallyOf (after c e) g s ≡ tallyAfter (fill c) (shapeIn c e) (tallyOf c g s)
+    next-tallies = follows c g s e .tally ∙ ap (λ ch. ch .tally) (moved-so s (channelOf (c .core) g s) (effectIn c e))
 
     pub next-tally : (f : Fate) → same f waiting ≡ false
-        → tallyFor f (tallyOf (after c e) g s) ≡ next (gives f (fill c) (deedIn c e)) (tallyFor f (tallyOf c g s))
-    next-tally f tallied = ap (tallyFor f) (follows c g s e .tally) ∙ moved-tallies s (channelOf (c .core) g s) (deedIn c e) f tallied
+        → tallyFor f (tallyOf (after c e) g s) ≡ next (gives f (fill c) (shapeIn c e)) (tallyFor f (tallyOf c g s))
+    next-tally f tallied = ap (tallyFor f) next-tallies ∙ tally-gives f tallied (fill c) (shapeIn c e) (tallyOf c g s)
 
-    pub next-offered : tallyOf (after c e) g s .offered ≡ next (offers (deedIn c e)) (tallyOf c g s .offered)
-    next-offered = ap (λ t. t .offered) (follows c g s e .tally) ∙ moved-offered s (channelOf (c .core) g s) (deedIn c e)
+    pub next-offered : tallyOf (after c e) g s .offered ≡ next (isOffer (shapeIn c e)) (tallyOf c g s .offered)
+    next-offered = ap (λ t. t .offered) next-tallies
 
-    pub next-latch : handshakeAlone (c .core .word) g s ≡ true → latch (after c e) ≡ latchAfter (latch c) (deedIn c e)
-    next-latch alone = follows c g s e .latch alone ∙ moved-latch s (channelOf (c .core) g s) (deedIn c e)
+    pub next-latch : handshakeAlone (c .core .word) g s ≡ true → latch (after c e) ≡ latchAfter (latch c) (shapeIn c e)
+    next-latch alone = follows c g s e .latch alone ∙ ap (λ ch. ch .latch) (moved-so s (channelOf (c .core) g s) (effectIn c e))
 
     -- What the event decides, and then the bytes from the chip that it leaves, of a story that begins in any condition;
     pub story-on : (f : Fill) (h : Offer) (n : ℕ) (es : List Event)
-        → story f h n (deeds g s (aroundOf c) (e ∷ es))
-        ≡ decided f h n (deedIn c e) ++ story (fillAfter s f (deedIn c e)) (heldAfter h n (deedIn c e)) (suc n) (deeds g s (aroundOf (after c e)) es)
-    story-on f h n es = rw (around-next c e) (story-step s f h n (deedIn c e) (deeds g s (aroundNext (aroundOf c) e) es))
+        → story f h n (effects g s (surroundingsOf c) (e ∷ es))
+        ≡ decided f h n (shapeIn c e) ++ story (fillAfter s f (shapeIn c e)) (heldAfter h n (shapeIn c e)) (suc n) (effects g s (surroundingsOf (after c e)) es)
+    story-on f h n es = rw (surroundings-next c e) (story-step s f h n (effectIn c e) (effects g s (surroundingsNext (surroundingsOf c) e) es))
 
     -- and of the one that begins in the chip's.
     pub story-next : (h : Offer) (n : ℕ) (es : List Event)
-        → storyOf c h n (e ∷ es) ≡ decided (fill c) h n (deedIn c e) ++ storyOf (after c e) (heldAfter h n (deedIn c e)) (suc n) es
+        → storyOf c h n (e ∷ es) ≡ decided (fill c) h n (shapeIn c e) ++ storyOf (after c e) (heldAfter h n (shapeIn c e)) (suc n) es
     story-next h n es = rw (next-fill) (story-on (fill c) h n es)

@@ -1,6 +1,7 @@
 pub mod Tables
 pub mod Accepted
-pub mod Surroundings
+pub mod SurroundingsKept
+pub mod Shapes
 pub mod Story
 pub mod Moved
 pub mod Moving

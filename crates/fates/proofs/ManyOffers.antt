@@ -5,23 +5,23 @@ use Prim.Native.Nat.{ℕ, zero, suc, _%_}
 use native.Mathlib.Nat.{zero-add}
 use lib.ListN.{length}
 use Rattle.bits.specs.Bit.{bitOf}
+use Rattle.events.specs.Histories.{strobe}
+use Rattle.bus.specs.declared.Phase.the-variants.{Idle}
 use Rattle.control.specs.declared.Group.the-variants.{A}
 use Rattle.channel.specs.declared.Side.the-variants.{Input}
-use Rattle.chip.specs.declared.Phase.the-variants.{Idle}
 use Rattle.chip.specs.State.{allHigh, powerUpWith, tallyOf}
-use Rattle.laws.specs.History.{strobe}
-use Rattle.fates.specs.Around.{Around}
-use Rattle.fates.specs.Deeds.{deeds}
+use Rattle.fates.specs.Surroundings.{Surroundings}
+use Rattle.fates.specs.Effects.{effects}
 use Rattle.fates.specs.Bytes.{bytes}
 use Rattle.fates.specs.Promise.{run}
 use Rattle.fates.specs.Examples.{times, strobedTimes}
 use Rattle.fates.proofs.Demand.{fates}
 
 -- Port A in mode 1, an input, with the levels x on its lines and every line of port C high.
-abbrev strobing : ℕ → Around
+abbrev strobing : ℕ → Surroundings
 strobing x = record { phase = Idle; word = 0xb0; levelsA = x; levelsB = 0xff; levelsC = 0xff }
 
-offers-of : (n v k x : ℕ) → length (bytes k (deeds A Input (strobing x) (times n (strobe v)))) ≡ n
+offers-of : (n v k x : ℕ) → length (bytes k (effects A Input (strobing x) (times n (strobe v)))) ≡ n
 unfolding bitOf
 offers-of zero v k x = refl
 offers-of (suc n) v k x = ap suc (offers-of n v (suc (suc (suc k))) v)

@@ -1,14 +1,14 @@
--- A channel that moves as a deed says: the shapes in which the step's rules say it, beside the deeds of the history.
--- Rests on Moved.
-use mathlib.Core.Path.{_≡_, refl, ap, sym, subst}
+-- A channel that moves as an effect says: the shapes in which the step's rules say it, beside the effects of the history.
+-- Rests on Moved and on bits' Logic.
+use mathlib.Core.Path.{_≡_, refl, ap}
 use mathlib.Core.Bool.{Bool, true, false, cond, _&&_, and-false}
 use Prim.Native.Nat.{ℕ}
-use lib.Dec.{T}
+use Rattle.bits.proofs.Logic.{contrary}
 use Rattle.channel.specs.declared.Side.{Side}
 use Rattle.channel.specs.declared.Side.the-variants.{Output}
 use Rattle.channel.specs.declared.Channel.{Channel}
 use Rattle.writes.specs.Write.{storedIn}
-use Rattle.fates.specs.Deeds.{Deed, offered, nothing, when}
+use Rattle.fates.specs.Effects.{Effect, offered, nothing, when}
 use Rattle.fates.proofs.Moved.{moved}
 
 -- The channel ch′ is as ch says, and its latch too where the handshake alone fills it: a port that is a plain output has its latch written
@@ -26,17 +26,17 @@ pub at-rest : (s : Side) (ch : Channel) (on : Bool) → ch ≡ moved s ch (when 
 at-rest s ch true = refl
 at-rest s ch false = refl
 
--- A move under a condition is a deed under it, and so is one under two.
-gated : (s : Side) (ch : Channel) (d : Deed) (own : Bool) → cond own (moved s ch d) ch ≡ moved s ch (when own d)
+-- A move under a condition is an effect under it, and so is one under two.
+gated : (s : Side) (ch : Channel) (d : Effect) (own : Bool) → cond own (moved s ch d) ch ≡ moved s ch (when own d)
 gated s ch d true = refl
 gated s ch d false = refl
 
-pub moves : (s : Side) (ch : Channel) (d : Deed) (on own : Bool) → cond (on && own) (moved s ch d) ch ≡ moved s ch (when on (when own d))
+pub moves : (s : Side) (ch : Channel) (d : Effect) (on own : Bool) → cond (on && own) (moved s ch d) ch ≡ moved s ch (when on (when own d))
 moves s ch d true own = gated s ch d own
 moves s ch d false own = refl
 
 -- So is the fall of a line, which port C alone has, or else levels on the port's own lines while that line is low.
-pub levelling : (s : Side) (ch : Channel) (d e : Deed) (lines on fell own low : Bool)
+pub levelling : (s : Side) (ch : Channel) (d e : Effect) (lines on fell own low : Bool)
     → cond (lines && (on && fell)) (moved s ch d) (cond (own && (on && low)) (moved s ch e) ch)
     ≡ moved s ch (when on (cond (lines && fell) d (when (own && low) e)))
 levelling s ch d e lines false fell own low = rw (and-false lines, and-false own)
@@ -49,8 +49,8 @@ pub writing : (ch : Channel) (d : ℕ) (out on own : Bool) → (on ≡ true → 
     → Goes on (cond own (cond out (storedIn ch on d) ch) ch) (moved Output ch (when on (when own (offered d))))
 writing ch d true true true sure = goes refl
 writing ch d true true false sure = goes refl
-writing ch d true false true sure = record { fill = refl; tally = refl; latch = λ on. absurd (subst T (sym on) tt) }
+writing ch d true false true sure = record { fill = refl; tally = refl; latch = λ on. absurd (contrary false refl on) }
 writing ch d true false false sure = goes refl
-writing ch d false true own sure = absurd (subst T (sym (sure refl)) tt)
+writing ch d false true own sure = absurd (contrary false refl (sure refl))
 writing ch d false false true sure = goes refl
 writing ch d false false false sure = goes refl

@@ -1,48 +1,40 @@
 -- The bytes of a channel come one after the other: none is decided before it is offered, or after the next one is.
--- Rests on nothing.
+-- Rests on Shapes and Story.
+use mathlib.Core.Bool.{Bool, true, false, cond}
 use mathlib.Core.List.{List, [], _∷_, _++_}
 use Prim.Native.Nat.{ℕ, suc, _<_, _≤_}
 use native.Mathlib.Omega.{arith}
+use Rattle.channel.specs.declared.Side.the-variants.{Input}
 use Rattle.channel.specs.declared.Fill.{Fill}
 use Rattle.channel.specs.declared.Fill.the-variants.{Empty, Waiting, Fetching}
-use Rattle.fates.specs.Deeds.{Deed, offered, followed, taken, ended, clearedAway, nothing}
-use Rattle.fates.specs.Bytes.{Offer, outcomeOf, bytes}
-use Rattle.fates.specs.Promise.{heldByte, InOrder}
+use Rattle.fates.specs.Effects.{Effect}
+use Rattle.fates.specs.Bytes.{waiting, Offer, Byte, same}
+use Rattle.fates.specs.Promise.{InOrder}
+use Rattle.fates.proofs.Shapes.{Shape, shapeOf, fateBy, fillAfter, heldAfter}
+use Rattle.fates.proofs.Story.{story, fated, decided, by-decided, story-step}
 
--- What decides a byte is among the deeds that follow it, or after them all.
-decided-later : (n : ℕ) (later : List Deed) → n ≤ outcomeOf n later .place
-decided-later n [] = omega arith
-decided-later n (offered v ∷ later) = omega arith
-decided-later n (followed v ∷ later) = let h = decided-later (suc n) later in omega (arith, h)
-decided-later n (taken ∷ later) = omega arith
-decided-later n (ended ∷ later) = omega arith
-decided-later n (clearedAway ∷ later) = omega arith
-decided-later n (nothing ∷ later) = let h = decided-later (suc n) later in omega (arith, h)
+-- The byte that is held after an effect at place n came there or before, and no earlier than the one that was held.
+held-between : (goes-on : Bool) (m p n : ℕ) → m ≤ p → p < n → (m ≤ cond goes-on p n) × (cond goes-on p n < suc n)
+held-between true m p n low high = omega arith
+held-between false m p n low high = omega arith
 
-mutual
-  in-order : (m n : ℕ) (later : List Deed) → m ≤ n → InOrder m (bytes n later)
-  in-order m n [] h = tt
-  in-order m n (offered v ∷ later) h = (h, decided-later (suc n) later, next-in-order (suc n) later)
-  in-order m n (followed v ∷ later) h = in-order m (suc n) later (omega (arith, h))
-  in-order m n (taken ∷ later) h = in-order m (suc n) later (omega (arith, h))
-  in-order m n (ended ∷ later) h = in-order m (suc n) later (omega (arith, h))
-  in-order m n (clearedAway ∷ later) h = in-order m (suc n) later (omega (arith, h))
-  in-order m n (nothing ∷ later) h = in-order m (suc n) later (omega (arith, h))
+decided-in-order : (m : ℕ) (f : Fill) (h : Offer) (n : ℕ) (d : Shape) (bs : List Byte) → m ≤ h .place → h .place < n
+    → ((k : ℕ) → k ≤ heldAfter h n d .place → InOrder k bs) → InOrder m (decided f h n d ++ bs)
+unfolding fated
+decided-in-order m f h n d bs low high rest =
+    by-decided (λ f d l. ((k : ℕ) → k ≤ heldAfter h n d .place → InOrder k bs) → InOrder m (l ++ bs)) h n
+    (λ f d none rest. rest m (held-between (same waiting (fateBy d)) m (h .place) n low high .0))
+    (λ d decisive rest. (low, high, rest n (rw (decisive) (omega arith)))) f d rest
 
-  -- The bytes after the one that these deeds decide.
-  next-in-order : (n : ℕ) (later : List Deed) → InOrder (outcomeOf n later .place) (bytes n later)
-  next-in-order n [] = tt
-  next-in-order n (offered v ∷ later) = (omega arith, decided-later (suc n) later, next-in-order (suc n) later)
-  next-in-order n (followed v ∷ later) = next-in-order (suc n) later
-  next-in-order n (taken ∷ later) = in-order n (suc n) later (omega arith)
-  next-in-order n (ended ∷ later) = in-order n (suc n) later (omega arith)
-  next-in-order n (clearedAway ∷ later) = in-order n (suc n) later (omega arith)
-  next-in-order n (nothing ∷ later) = next-in-order (suc n) later
+in-order : (m : ℕ) (f : Fill) (h : Offer) (n : ℕ) (later : List Effect) → m ≤ h .place → h .place < n → InOrder m (story f h n later)
+in-order m f h n [] low high = elim f [ Empty ↦ tt | Waiting ↦ (low, high, tt) | Fetching ↦ tt ]
+in-order m f h n (d ∷ later) low high =
+    let held = heldAfter h n (shapeOf d) in
+    rw (story-step Input f h n d later)
+    (decided-in-order m f h n (shapeOf d) (story (fillAfter Input f (shapeOf d)) held (suc n) later) low high
+    (λ k after. in-order k (fillAfter Input f (shapeOf d)) held (suc n) later after
+    (held-between (same waiting (fateBy (shapeOf d))) m (h .place) n low high .1)))
 
 -- With the byte that waits at the start, offered before place n.
-pub story-in-order : (f : Fill) (h : Offer) (n : ℕ) (later : List Deed) → h .place < n → InOrder 0 (heldByte f h n later ++ bytes n later)
-story-in-order Empty h n later before = in-order 0 n later (omega arith)
-story-in-order Waiting h n later before =
-    let d = decided-later n later in
-    (omega arith, omega (arith, before, d), next-in-order n later)
-story-in-order Fetching h n later before = in-order 0 n later (omega arith)
+pub story-in-order : (f : Fill) (h : Offer) (n : ℕ) (later : List Effect) → h .place < n → InOrder 0 (story f h n later)
+story-in-order f h n later before = in-order 0 f h n later (omega arith) before

@@ -1,22 +1,23 @@
--- Reads of a strobed port run from the deed that takes a byte to the one that ends the read: from the history alone.
--- Rests on nothing.
-use mathlib.Core.Path.{_≡_, _∙_, refl, sym, subst}
+-- Reads of a strobed port run from the effect that takes a byte to the one that ends the read: from the history alone.
+-- Rests on bits' Logic.
+use mathlib.Core.Path.{_≡_, refl}
 use mathlib.Core.Bool.{Bool, true, false, cond, _&&_, and-false}
 use Prim.Native.Nat.{ℕ}
-use lib.Dec.{T, ltb, eqb}
+use lib.Dec.{ltb, eqb}
+use Rattle.bits.proofs.Logic.{contrary}
+use Rattle.events.specs.Event.{Event}
+use Rattle.bus.specs.declared.Phase.{Phase}
+use Rattle.bus.specs.declared.Phase.the-variants.{Idle, Reading, Writing}
 use Rattle.control.specs.declared.Group.{Group}
 use Rattle.channel.specs.declared.Side.the-variants.{Input}
-use Rattle.chip.specs.declared.Phase.{Phase}
-use Rattle.chip.specs.declared.Phase.the-variants.{Idle, Reading, Writing}
-use Rattle.laws.specs.History.{Event}
-use Rattle.fates.specs.Kinds.{Named, reset, readBegun, cycleEnded, writeBegun, newLevels, unknown, named, accepts}
-use Rattle.fates.specs.Around.{Around, ofModeWord, aroundAfter, aroundNext}
-use Rattle.fates.specs.Deeds.{Deed, offered, followed, taken, ended, clearedAway, nothing, portNumber, levelsOn, strobes, readRuns, falls, underLow, when, deedOf, deed}
+use Rattle.fates.specs.Kinds.{Kind, reset, readBegun, cycleEnded, writeBegun, newLevels, unknown, kindOf, accepts}
+use Rattle.fates.specs.Surroundings.{Surroundings, ofModeWord, surroundingsAfter, surroundingsNext}
+use Rattle.fates.specs.Effects.{Effect, offered, followed, taken, ended, clearedAway, nothing, portNumber, levelsOn, strobes, readRuns, falls, underLow, when, effectOf, effect}
 use Rattle.fates.specs.Discipline.{strobedReadRuns}
 
--- What a deed tells of a read of the strobed port before it (r) and after it (r′), where `on` is whether the port is strobed: only a
+-- What an effect tells of a read of the strobed port before it (r) and after it (r′), where `on` is whether the port is strobed: only a
 -- byte taken begins such a read, and nothing ends it but its end, a mode word and a reset.
-abbrev pub Reads : Bool → Bool → Bool → Deed → Type 0
+abbrev pub Reads : Bool → Bool → Bool → Effect → Type 0
 Reads on r r′ (offered v) = (on ≡ true) × (r′ ≡ r)
 Reads on r r′ (followed v) = r′ ≡ r
 Reads on r r′ taken = on ≡ true
@@ -50,40 +51,40 @@ write-ends false true on′ = and-false on′
 write-ends false false on′ = and-false on′
 
 -- Surroundings put together.
-abbrev around : Phase → ℕ → ℕ → ℕ → ℕ → Around
-around ph w x y z = record { phase = ph; word = w; levelsA = x; levelsB = y; levelsC = z }
+abbrev surroundings : Phase → ℕ → ℕ → ℕ → ℕ → Surroundings
+surroundings ph w x y z = record { phase = ph; word = w; levelsA = x; levelsB = y; levelsC = z }
 
 -- The bus is free where a cycle begins.
 pub refused : (b : Bool) → (b && false) ≡ true → ⊥
-refused b h = subst T (sym h ∙ and-false b) tt
+refused b h = contrary _ (and-false b) h
 
 module _ (g : Group) (w x y z : ℕ) where
   -- The word strobes the port's input.
   abbrev on : Bool
   on = strobes w g Input
 
-  reads-on : (ph : Phase) (e : Named) → accepts ph e ≡ true
-      → Reads on (strobedReadRuns g (around ph w x y z)) (strobedReadRuns g (aroundAfter (around ph w x y z) e)) (deedOf g Input (around ph w x y z) e)
+  reads-on : (ph : Phase) (e : Kind) → accepts ph e ≡ true
+      → Reads on (strobedReadRuns g (surroundings ph w x y z)) (strobedReadRuns g (surroundingsAfter (surroundings ph w x y z) e)) (effectOf g Input (surroundings ph w x y z) e)
   reads-on ph reset ok = and-false (strobes 0x9b g Input)
   reads-on Idle (readBegun p) ok = begins on (eqb p (portNumber g))
   reads-on (Reading q) (readBegun p) ok = absurd (refused (ltb p 3) ok)
   reads-on (Writing q d) (readBegun p) ok = absurd (refused (ltb p 3) ok)
-  reads-on Idle cycleEnded ok = absurd (subst T (sym ok) tt)
+  reads-on Idle cycleEnded ok = absurd (contrary false refl ok)
   reads-on (Reading q) cycleEnded ok = ends on (eqb q (portNumber g))
   reads-on (Writing q d) cycleEnded ok = write-ends (ofModeWord (Writing q d)) on (strobes (cond (ofModeWord (Writing q d)) d w) g Input)
   reads-on Idle (writeBegun p u) ok = rests on
   reads-on (Reading q) (writeBegun p u) ok = absurd (refused (ltb p 4) ok)
   reads-on (Writing q d) (writeBegun p u) ok = absurd (refused (ltb p 4) ok)
   reads-on ph (newLevels p u) ok =
-      let a = around ph w x y z in
+      let a = surroundings ph w x y z in
       levels-come on (on && readRuns g ph) (falls g Input a p u) (underLow g a p) (levelsOn g a) u
-  reads-on ph unknown ok = absurd (subst T (sym ok) tt)
+  reads-on ph unknown ok = absurd (contrary false refl ok)
 
 -- The same of every event, accepted or refused.
-pub reads-next : (g : Group) (a : Around) (e : Event) → Reads (strobes (a .word) g Input) (strobedReadRuns g a) (strobedReadRuns g (aroundNext a e)) (deed g Input a e)
-reads-next g a e = go (accepts (a .phase) (named e)) refl
+pub reads-next : (g : Group) (a : Surroundings) (e : Event) → Reads (strobes (a .word) g Input) (strobedReadRuns g a) (strobedReadRuns g (surroundingsNext a e)) (effect g Input a e)
+reads-next g a e = go (accepts (a .phase) (kindOf e)) refl
   where
-    go : (ok : Bool) → accepts (a .phase) (named e) ≡ ok
-        → Reads (strobes (a .word) g Input) (strobedReadRuns g a) (strobedReadRuns g (cond ok (aroundAfter a (named e)) a)) (when ok (deedOf g Input a (named e)))
-    go true ok = reads-on g (a .word) (a .levelsA) (a .levelsB) (a .levelsC) (a .phase) (named e) ok
+    go : (ok : Bool) → accepts (a .phase) (kindOf e) ≡ ok
+        → Reads (strobes (a .word) g Input) (strobedReadRuns g a) (strobedReadRuns g (cond ok (surroundingsAfter a (kindOf e)) a)) (when ok (effectOf g Input a (kindOf e)))
+    go true ok = reads-on g (a .word) (a .levelsA) (a .levelsB) (a .levelsC) (a .phase) (kindOf e) ok
     go false ok = refl

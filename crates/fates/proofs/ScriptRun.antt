@@ -4,23 +4,25 @@ use mathlib.Core.Path.{_≡_, refl, ap, sym}
 use mathlib.Core.List.{List, [], _∷_, _++_, map}
 use Prim.Native.Nat.{ℕ}
 use native.Mathlib.Omega.{arith}
+use Rattle.events.specs.Kinds.{isKind}
+use Rattle.bus.specs.Refusals.{numberOf}
 use Rattle.chip.specs.declared.Chip.{Chip}
 use Rattle.chip.specs.State.{allHigh, powerUpWith}
-use Rattle.step.specs.Numbers.{numberOf}
 use Rattle.step.proofs.Outcome.{step-refuses}
-use Rattle.frames.specs.declared.Frame.{Frame}
-use Rattle.frames.specs.declared.Frame.the-variants.{Event as Frame·Event, NoFrame}
-use Rattle.script.specs.Lines.{Line, linesOf}
-use Rattle.script.specs.Answers.{frameIn, acted, shownAfter, lineText, answersFrom}
+use Rattle.step.specs.Step.{stepped}
+use Rattle.text.specs.declared.Frame.{Frame}
+use Rattle.text.specs.declared.Frame.the-variants.{Event as Frame·Event, NoFrame}
+use Rattle.text.specs.Lines.{Line, linesOf}
+use Rattle.text.specs.Frames.{frameIn}
+use Rattle.script.specs.Answers.{acted, shownAfter, lineText, answersFrom}
 use Rattle.script.specs.Left.{chipAfter}
-use Rattle.laws.specs.History.{stepped}
 use Rattle.fates.specs.Promise.{run}
 use Rattle.fates.specs.ScriptRun.{eventOf, historyOf, answersTo, RunKept}
 use Rattle.fates.proofs.Demand.{fates, disciplined}
 
 -- What is no frame has the number of an event of no kind, and leaves as much.
 acted-is : (c : Chip) (f : Frame) → acted c f ≡ stepped c (eventOf f)
-unfolding acted numberOf
+unfolding acted numberOf isKind
 acted-is c (Frame·Event k x d) = refl
 acted-is c NoFrame = sym (step-refuses c 0xff 0 0 (λ e. absurd (omega (arith, e))))
 

@@ -1,104 +1,87 @@
--- A channel's condition and the byte that it holds, followed from deed to deed, beside the fates, which look ahead in the list.
--- Rests on the channel's Left, for what handing over leaves.
-use mathlib.Core.Path.{_≡_, refl}
-use mathlib.Core.Bool.{false}
+-- A channel's condition and the byte that it holds, followed from effect to effect, beside the fates, which look ahead in the list.
+-- Rests on Shapes.
+use mathlib.Core.Path.{_≡_, _∙_, refl, ap}
+use mathlib.Core.Bool.{false, and-false}
 use mathlib.Core.List.{List, [], _∷_, _++_}
-use Prim.Native.Nat.{ℕ, suc}
+use Prim.Native.Nat.{ℕ, suc, _+_}
+use native.Mathlib.Omega.{arith}
+use lib.ListN.{length}
+use Rattle.bits.specs.Bit.{num}
 use Rattle.channel.specs.declared.Side.{Side}
 use Rattle.channel.specs.declared.Side.the-variants.{Input, Output}
 use Rattle.channel.specs.declared.Fill.{Fill}
 use Rattle.channel.specs.declared.Fill.the-variants.{Empty, Waiting, Fetching}
-use Rattle.channel.proofs.Left.{leaves}
-use Rattle.fates.specs.Deeds.{Deed, offered, followed, taken, ended, clearedAway, nothing}
-use Rattle.fates.specs.Bytes.{Fate, handedOver, overwritten, swallowed, cleared, waiting, Offer, Byte, offeredAt, decidedAt, bytes, same}
+use Rattle.channel.specs.Channel.{isWaiting}
+use Rattle.fates.specs.Effects.{Effect, offered, followed, taken, ended, clearedAway, nothing}
+use Rattle.fates.specs.Bytes.{Fate, overwritten, waiting, Offer, Byte, offeredAt, decidedAt, bytes, same}
 use Rattle.fates.specs.Promise.{heldByte, Each}
-
--- What a channel is left in when its byte is taken.
-abbrev pub emptied : Side → Fill
-emptied Input = Fetching
-emptied Output = Empty
-
--- The condition after a deed.
-abbrev pub fillAfter : Side → Fill → Deed → Fill
-fillAfter s f (offered v) = Waiting
-fillAfter s f (followed v) = f
-fillAfter s f taken = leaves f (emptied s)
-fillAfter s f ended = Empty
-fillAfter s f clearedAway = Empty
-fillAfter s f nothing = f
-
--- The byte last offered, where the deed is at place n; levels that follow change its value.
-abbrev pub heldAfter : Offer → ℕ → Deed → Offer
-heldAfter h n (offered v) = offeredAt n v
-heldAfter h n (followed v) = offeredAt (h .place) v
-heldAfter h n taken = h
-heldAfter h n ended = h
-heldAfter h n clearedAway = h
-heldAfter h n nothing = h
+use Rattle.fates.proofs.Shapes.{Shape, passes, offers, decides, shapeOf, fateBy, fillAfter, heldAfter, isOffer, gives, gone-waits}
 
 -- The bytes of a channel in the condition f, which holds h where it waits.
-abbrev pub story : Fill → Offer → ℕ → List Deed → List Byte
+abbrev pub story : Fill → Offer → ℕ → List Effect → List Byte
 story f h n later = heldByte f h n later ++ bytes n later
-
--- What a deed makes of a byte that waits.
-abbrev pub fateBy : Deed → Fate
-fateBy (offered v) = overwritten
-fateBy (followed v) = waiting
-fateBy taken = handedOver
-fateBy ended = swallowed
-fateBy clearedAway = cleared
-fateBy nothing = waiting
 
 -- One byte, with its fate.
 unfoldable pub fated : Offer → ℕ → Fate → List Byte
 fated h n f = record { offer = h; outcome = decidedAt n f } ∷ []
 
--- The byte, if any, that the deed at place n decides.
-unfoldable pub decided : Fill → Offer → ℕ → Deed → List Byte
+-- The byte, if any, that an effect at place n decides.
+unfoldable pub decided : Fill → Offer → ℕ → Shape → List Byte
 decided Empty h n d = []
-decided Waiting h n (offered v) = fated h n (fateBy (offered v))
-decided Waiting h n (followed v) = []
-decided Waiting h n taken = fated h n (fateBy taken)
-decided Waiting h n ended = fated h n (fateBy ended)
-decided Waiting h n clearedAway = fated h n (fateBy clearedAway)
-decided Waiting h n nothing = []
+decided Waiting h n (passes to) = []
+decided Waiting h n (offers v) = fated h n overwritten
+decided Waiting h n (decides x) = fated h n (x .fate)
 decided Fetching h n d = []
 
--- What holds of the byte, if any, that a deed decides, and of each that comes after it, holds of them all.
-pub decided-each : (P : Byte → Type 0) (f : Fill) (h : Offer) (n : ℕ) (d : Deed) (bs : List Byte)
-    → (f ≡ Waiting → same (fateBy d) waiting ≡ false → P (record { offer = h; outcome = decidedAt n (fateBy d) })) → Each P bs
-    → Each P (decided f h n d ++ bs)
+-- The step on which all theorems go: what an effect decides stands first, and the rest is the story from there. Here alone the words of
+-- Bytes, which look ahead, are held to the table.
+pub story-step : (s : Side) (f : Fill) (h : Offer) (n : ℕ) (d : Effect) (later : List Effect)
+    → story f h n (d ∷ later) ≡ decided f h n (shapeOf d) ++ story (fillAfter s f (shapeOf d)) (heldAfter h n (shapeOf d)) (suc n) later
 unfolding decided fated
-decided-each P Empty h n d bs here rest = rest
-decided-each P Fetching h n d bs here rest = rest
-decided-each P Waiting h n (offered v) bs here rest = (here refl refl, rest)
-decided-each P Waiting h n (followed v) bs here rest = rest
-decided-each P Waiting h n taken bs here rest = (here refl refl, rest)
-decided-each P Waiting h n ended bs here rest = (here refl refl, rest)
-decided-each P Waiting h n clearedAway bs here rest = (here refl refl, rest)
-decided-each P Waiting h n nothing bs here rest = rest
+story-step s f h n (offered v) later = elim f [ Empty ↦ refl | Waiting ↦ refl | Fetching ↦ refl ]
+story-step s f h n (followed v) later = elim f [ Empty ↦ refl | Waiting ↦ refl | Fetching ↦ refl ]
+story-step Input f h n taken later = elim f [ Empty ↦ refl | Waiting ↦ refl | Fetching ↦ refl ]
+story-step Output f h n taken later = elim f [ Empty ↦ refl | Waiting ↦ refl | Fetching ↦ refl ]
+story-step s f h n ended later = elim f [ Empty ↦ refl | Waiting ↦ refl | Fetching ↦ refl ]
+story-step s f h n clearedAway later = elim f [ Empty ↦ refl | Waiting ↦ refl | Fetching ↦ refl ]
+story-step s f h n nothing later = elim f [ Empty ↦ refl | Waiting ↦ refl | Fetching ↦ refl ]
 
--- The step on which the theorems on tallies, values and the discipline go: what a deed decides stands first, and the rest is the story from
--- there.
-pub story-step : (s : Side) (f : Fill) (h : Offer) (n : ℕ) (d : Deed) (later : List Deed)
-    → story f h n (d ∷ later) ≡ decided f h n d ++ story (fillAfter s f d) (heldAfter h n d) (suc n) later
-unfolding decided fated
-story-step s Empty h n (offered v) later = refl
-story-step s Empty h n (followed v) later = refl
-story-step s Empty h n taken later = refl
-story-step s Empty h n ended later = refl
-story-step s Empty h n clearedAway later = refl
-story-step s Empty h n nothing later = refl
-story-step s Fetching h n (offered v) later = refl
-story-step s Fetching h n (followed v) later = refl
-story-step s Fetching h n taken later = refl
-story-step s Fetching h n ended later = refl
-story-step s Fetching h n clearedAway later = refl
-story-step s Fetching h n nothing later = refl
-story-step s Waiting h n (offered v) later = refl
-story-step s Waiting h n (followed v) later = refl
-story-step Input Waiting h n taken later = refl
-story-step Output Waiting h n taken later = refl
-story-step s Waiting h n ended later = refl
-story-step s Waiting h n clearedAway later = refl
-story-step s Waiting h n nothing later = refl
+-- An effect decides no byte, and then it gives none of the fates that have a tally; or it decides the one that waits.
+pub by-decided : (P : Fill → Shape → List Byte → Type 0) (h : Offer) (n : ℕ)
+    → ((f : Fill) (d : Shape) → ((x : Fate) → same x waiting ≡ false → gives x f d ≡ false) → P f d [])
+    → ((d : Shape) → same waiting (fateBy d) ≡ false → P Waiting d (fated h n (fateBy d)))
+    → (f : Fill) (d : Shape) → P f d (decided f h n d)
+unfolding decided
+by-decided P h n none one Empty d = none Empty d (λ x tallied. and-false (same x (fateBy d)))
+by-decided P h n none one Waiting (passes to) = none Waiting (passes to) (λ x tallied. rw (tallied))
+by-decided P h n none one Waiting (offers v) = one (offers v) refl
+by-decided P h n none one Waiting (decides x) = one (decides x) (x .decisive)
+by-decided P h n none one Fetching d = none Fetching d (λ x tallied. and-false (same x (fateBy d)))
+
+-- What holds of the byte, if any, that an effect decides, and of each that comes after it, holds of them all.
+pub decided-each : (P : Byte → Type 0) (f : Fill) (h : Offer) (n : ℕ) (d : Shape) (bs : List Byte)
+    → (f ≡ Waiting → same waiting (fateBy d) ≡ false → P (record { offer = h; outcome = decidedAt n (fateBy d) })) → Each P bs
+    → Each P (decided f h n d ++ bs)
+unfolding fated
+decided-each P f h n d bs here rest =
+    by-decided (λ f d l. (f ≡ Waiting → same waiting (fateBy d) ≡ false → P (record { offer = h; outcome = decidedAt n (fateBy d) })) → Each P (l ++ bs)) h n
+    (λ f d none here. rest) (λ d decisive here. (here refl decisive, rest)) f d here
+
+-- The bytes of a channel are those offered from here on, and the one that may wait.
+pub with-held : (f : Fill) (h : Offer) (n : ℕ) (later : List Effect) (new : List Byte) → length (heldByte f h n later ++ new) ≡ num (isWaiting f) + length new
+with-held Empty h n later new = omega arith
+with-held Waiting h n later new = omega arith
+with-held Fetching h n later new = omega arith
+
+-- An empty channel waits after an effect that offers a byte, and after no other.
+waits-when-offered : (d : Shape) → isWaiting (fillAfter Input Empty d) ≡ isOffer d
+waits-when-offered (passes to) = refl
+waits-when-offered (offers v) = refl
+waits-when-offered (decides x) = gone-waits Input Empty (x .left Input Empty) (x .gone Input Empty)
+
+pub offers-counted : (d : Effect) (n : ℕ) (later : List Effect) → length (bytes n (d ∷ later)) ≡ num (isOffer (shapeOf d)) + length (bytes (suc n) later)
+unfolding decided
+offers-counted d n later =
+    ap length (story-step Input Empty (offeredAt 0 0) n d later)
+    ∙ with-held (fillAfter Input Empty (shapeOf d)) (heldAfter (offeredAt 0 0) n (shapeOf d)) (suc n) later (bytes (suc n) later)
+    ∙ rw (waits-when-offered (shapeOf d))

@@ -8,14 +8,14 @@ use Rattle.control.specs.declared.Group.the-variants.{A, B}
 use Rattle.control.proofs.ByBits.{a-takes, a-gives, b-takes, b-gives}
 use Rattle.channel.specs.declared.Side.{Side}
 use Rattle.channel.specs.declared.Side.the-variants.{Input, Output}
-use Rattle.chip.specs.Handshakes.{ownAddress, strobed, lineOf}
-use Rattle.fates.specs.Deeds.{portNumber, strobePin, strobes}
+use Rattle.chip.specs.Handshakes.{ownAddress, strobed, linePin}
+use Rattle.fates.specs.Effects.{portNumber, strobePin, strobes}
 
 pub own-same : (x : ℕ) (g : Group) → eqb x (portNumber g) ≡ ownAddress x g
 own-same x A = refl
 own-same x B = refl
 
-pub line-same : (g : Group) (s : Side) → strobePin g s ≡ lineOf g s
+pub line-same : (g : Group) (s : Side) → strobePin g s ≡ linePin g s
 line-same A Input = refl
 line-same A Output = refl
 line-same B Input = refl

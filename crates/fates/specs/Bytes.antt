@@ -1,16 +1,16 @@
 -- The bytes of a channel and the fate of each, by what the events were to the channel ("Handshake"). Events are counted from 1, refused
--- ones too. Nothing here, nor in Kinds, Around and Deeds, asks a chip.
+-- ones too. Nothing here, nor in Kinds, Surroundings and Effects, asks a chip.
 use mathlib.Core.Bool.{Bool}
 use mathlib.Core.List.{List, [], _∷_}
 use Prim.Native.Nat.{ℕ, suc, _+_}
 use lib.Dec.{eqb}
 use Rattle.bits.specs.Bit.{num}
+use Rattle.events.specs.Event.{Event}
 use Rattle.control.specs.declared.Group.{Group}
 use Rattle.channel.specs.declared.Side.{Side}
 use Rattle.chip.specs.declared.Levels.{Levels}
-use Rattle.laws.specs.History.{Event}
-use Rattle.fates.specs.Around.{atPowerUp}
-use Rattle.fates.specs.Deeds.{Deed, offered, followed, taken, ended, clearedAway, nothing, deeds}
+use Rattle.fates.specs.Surroundings.{atPowerUp}
+use Rattle.fates.specs.Effects.{Effect, offered, followed, taken, ended, clearedAway, nothing, effects}
 
 -- What becomes of a byte.
 pub data Fate : Type 0 where
@@ -39,9 +39,9 @@ offeredAt n v = record { place = n; value = v }
 abbrev pub decidedAt : ℕ → Fate → Outcome
 decidedAt n f = record { fate = f; place = n }
 
--- What becomes of a byte that waits before these deeds, the first of which is at place n: the first that is neither `nothing` nor
+-- What becomes of a byte that waits before these effects, the first of which is at place n: the first that is neither `nothing` nor
 -- `followed` decides. Where there is none the byte goes on waiting, and the place is the one after the last event.
-abbrev pub outcomeOf : ℕ → List Deed → Outcome
+abbrev pub outcomeOf : ℕ → List Effect → Outcome
 outcomeOf n [] = decidedAt n waiting
 outcomeOf n (offered v ∷ later) = decidedAt n overwritten
 outcomeOf n (followed v ∷ later) = outcomeOf (suc n) later
@@ -52,7 +52,7 @@ outcomeOf n (nothing ∷ later) = outcomeOf (suc n) later
 
 -- The value that a byte of value v has in the end: the levels that last came while it waited and STB was low, where any did. Levels that
 -- come once its fate is decided are not its own.
-abbrev pub settled : ℕ → List Deed → ℕ
+abbrev pub settled : ℕ → List Effect → ℕ
 settled v [] = v
 settled v (offered u ∷ later) = v
 settled v (followed u ∷ later) = settled u later
@@ -61,14 +61,14 @@ settled v (ended ∷ later) = v
 settled v (clearedAway ∷ later) = v
 settled v (nothing ∷ later) = settled v later
 
--- A byte that waits before the deeds that begin at place n.
-abbrev pub byteOf : Offer → ℕ → List Deed → Byte
-byteOf o n later = record { offer = offeredAt (o .place) (settled (o .value) later); outcome = outcomeOf n later }
+-- A byte that waits before the effects that begin at place n.
+abbrev pub withFate : Offer → ℕ → List Effect → Byte
+withFate o n later = record { offer = offeredAt (o .place) (settled (o .value) later); outcome = outcomeOf n later }
 
--- The bytes that the deeds from place n on offer, in their order.
-abbrev pub bytes : ℕ → List Deed → List Byte
+-- The bytes that the effects from place n on offer, in their order.
+abbrev pub bytes : ℕ → List Effect → List Byte
 bytes n [] = []
-bytes n (offered v ∷ later) = byteOf (offeredAt n v) (suc n) later ∷ bytes (suc n) later
+bytes n (offered v ∷ later) = withFate (offeredAt n v) (suc n) later ∷ bytes (suc n) later
 bytes n (followed v ∷ later) = bytes (suc n) later
 bytes n (taken ∷ later) = bytes (suc n) later
 bytes n (ended ∷ later) = bytes (suc n) later
@@ -77,7 +77,7 @@ bytes n (nothing ∷ later) = bytes (suc n) later
 
 -- The bytes offered to a channel in a history from a power-up under these levels.
 abbrev pub bytesOf : Group → Side → Levels → List Event → List Byte
-bytesOf g s l es = bytes 1 (deeds g s (atPowerUp l) es)
+bytesOf g s l es = bytes 1 (effects g s (atPowerUp l) es)
 
 -- Fates are told apart by their order above.
 abbrev pub rank : Fate → ℕ

@@ -3,16 +3,17 @@
 use mathlib.Core.Path.{_≡_}
 use mathlib.Core.Bool.{Bool, true, false, _&&_}
 use mathlib.Core.List.{List, [], _∷_}
+use Rattle.events.specs.Event.{Event}
 use Rattle.control.specs.declared.Group.{Group}
 use Rattle.channel.specs.declared.Side.the-variants.{Input}
 use Rattle.channel.specs.declared.Fill.the-variants.{Fetching}
 use Rattle.chip.specs.declared.Chip.{Chip}
 use Rattle.chip.specs.State.{channelOf}
+use Rattle.step.specs.Step.{stepped}
 use Rattle.laws.specs.Seen.{pin, flagPin}
-use Rattle.laws.specs.History.{Event, stepped}
-use Rattle.fates.specs.Around.{Around, aroundNext}
-use Rattle.fates.specs.Deeds.{Deed, offered, followed, taken, ended, clearedAway, nothing, strobes, readRuns, deed}
-use Rattle.fates.specs.Promise.{aroundOf}
+use Rattle.fates.specs.Surroundings.{Surroundings, surroundingsNext}
+use Rattle.fates.specs.Effects.{Effect, offered, followed, taken, ended, clearedAway, nothing, strobes, readRuns, effect}
+use Rattle.fates.specs.Promise.{surroundingsOf}
 use Rattle.fates.specs.Bytes.{Byte, overwritten, swallowed, count}
 
 -- IBF as the pin view shows it.
@@ -20,16 +21,16 @@ abbrev pub ibf : Chip → Group → Bool
 ibf c g = pin c (flagPin g Input)
 
 -- A read of the port runs while STB brings bytes into it.
-abbrev pub strobedReadRuns : Group → Around → Bool
+abbrev pub strobedReadRuns : Group → Surroundings → Bool
 strobedReadRuns g a = strobes (a .word) g Input && readRuns g (a .phase)
 
 -- The condition at the start: such a read, if one runs, has found a byte. At power-up none runs.
 abbrev pub HasFound : Group → Chip → Type 0
-HasFound g c = strobedReadRuns g (aroundOf c) ≡ true → channelOf (c .core) g Input .fill ≡ Fetching
+HasFound g c = strobedReadRuns g (surroundingsOf c) ≡ true → channelOf (c .core) g Input .fill ≡ Fetching
 
 -- What the level of IBF before an event allows it to be. A read of the port while it is no strobed input, in mode 0 or as an output, is
 -- `nothing` to the channel, and so is free.
-abbrev pub Minds : Bool → Deed → Type 0
+abbrev pub Minds : Bool → Effect → Type 0
 Minds level (offered v) = level ≡ false
 Minds level (followed v) = Unit {0}
 Minds level taken = level ≡ true
@@ -38,9 +39,9 @@ Minds level clearedAway = Unit {0}
 Minds level nothing = Unit {0}
 
 -- Device and program keep to it throughout a history.
-abbrev pub Disciplined : Group → Around → Chip → List Event → Type 0
+abbrev pub Disciplined : Group → Surroundings → Chip → List Event → Type 0
 Disciplined g a c [] = Unit {0}
-Disciplined g a c (e ∷ es) = Minds (ibf c g) (deed g Input a e) × Disciplined g (aroundNext a e) (stepped c e .chip) es
+Disciplined g a c (e ∷ es) = Minds (ibf c g) (effect g Input a e) × Disciplined g (surroundingsNext a e) (stepped c e .chip) es
 
 -- No byte was overwritten or swallowed.
 pub record NoneLost (bs : List Byte) : Type 0 where

@@ -1,6 +1,8 @@
 -- Histories that show the fates, with what becomes of each byte; events are counted from 1.
 use mathlib.Core.List.{List, [], _∷_, _++_}
 use Prim.Native.Nat.{ℕ, zero, suc}
+use Rattle.events.specs.Event.{Event, event}
+use Rattle.events.specs.Histories.{write, levels, readFrom, cycleEnd, strobe}
 use Rattle.control.specs.declared.Group.{Group}
 use Rattle.control.specs.declared.Group.the-variants.{A, B}
 use Rattle.channel.specs.declared.Side.{Side}
@@ -9,7 +11,6 @@ use Rattle.channel.specs.declared.Tally.{Tally}
 use Rattle.chip.specs.declared.Levels.{Levels}
 use Rattle.chip.specs.State.{allLow, allHigh}
 use Rattle.ports.specs.declared.Pins.{Pins}
-use Rattle.laws.specs.History.{Event, event, write, levels, beginRead, endCycle, strobe}
 use Rattle.laws.specs.Marked.{P13}
 use Rattle.fates.specs.Bytes.{Fate, handedOver, overwritten, swallowed, cleared, waiting, Byte, offeredAt, decidedAt, bytesOf}
 
@@ -36,15 +37,15 @@ v at n is f at m = record { offer = offeredAt n v; outcome = decidedAt m f }
 
 -- Last season's bale: a digit is strobed in and its read begins; the next digit comes before the read has ended, and is lost.
 abbrev pub lostBale : List Event
-lostBale = write 3 0xb0 ++ strobe 0x41 ++ beginRead 0 ++ strobe 0x42 ++ endCycle
+lostBale = write 3 0xb0 ++ strobe 0x41 ++ readFrom 0 ++ strobe 0x42 ++ cycleEnd
 
 -- A scale and a program that mind IBF: each digit is read, to the end of the read, before the next one comes.
 abbrev pub twoDigits : List Event
-twoDigits = write 3 0xb0 ++ strobe 0x41 ++ beginRead 0 ++ endCycle ++ strobe 0x42 ++ beginRead 0 ++ endCycle
+twoDigits = write 3 0xb0 ++ strobe 0x41 ++ readFrom 0 ++ cycleEnd ++ strobe 0x42 ++ readFrom 0 ++ cycleEnd
 
 -- Port A in mode 2: a byte in by STB and read, then a byte written, which ACK takes out.
 abbrev pub inAndWritten : List Event
-inAndWritten = write 3 0xc0 ++ strobe 0x41 ++ beginRead 0 ++ endCycle ++ write 0 0x55
+inAndWritten = write 3 0xc0 ++ strobe 0x41 ++ readFrom 0 ++ cycleEnd ++ write 0 0x55
 
 abbrev pub bothWays : List Event
 bothWays = inAndWritten ++ levels 2 0xbf
@@ -60,23 +61,23 @@ printer = write 3 0x94 ++ write 1 0x33 ++ write 1 0x34 ++ levels 2 0xfb ++ write
 
 -- Port A in mode 0, where pin 4 of port C is no STB: levels, a fall and a read.
 abbrev pub plain : List Event
-plain = write 3 0x9b ++ strobe 0x41 ++ beginRead 0 ++ endCycle
+plain = write 3 0x9b ++ strobe 0x41 ++ readFrom 0 ++ cycleEnd
 
 -- A byte waits on port B, and nothing that follows is for it: a read of port A; another begun meanwhile, which is refused; a write to
 -- port B, which is an input and keeps nothing; and a read of control and two numbers that are no kinds, all refused.
 abbrev pub notForIt : List Event
 notForIt =
-    write 3 0x96 ++ levels 1 0x41 ++ levels 2 0xfb ++ beginRead 0 ++ beginRead 1 ++ endCycle ++ write 1 0x42 ++ beginRead 3
+    write 3 0x96 ++ levels 1 0x41 ++ levels 2 0xfb ++ readFrom 0 ++ readFrom 1 ++ cycleEnd ++ write 1 0x42 ++ readFrom 3
     ++ (event 4 1 0 ∷ event 9 1 0 ∷ [])
 
 -- A scale on a backplane that pulls its lines down: STB is low from the start, and stays so at the fourth event. The digit comes in when
 -- STB, once raised, falls.
 abbrev pub raisedFirst : List Event
-raisedFirst = write 3 0xb0 ++ levels 0 0x41 ++ levels 2 0xef ++ levels 2 0xff ++ levels 2 0xef ++ beginRead 0
+raisedFirst = write 3 0xb0 ++ levels 0 0x41 ++ levels 2 0xef ++ levels 2 0xff ++ levels 2 0xef ++ readFrom 0
 
 -- A scale that lowers STB before its digit has settled: 40 passes by, 41 is there as STB rises, and 42 comes too late.
 abbrev pub settling : List Event
-settling = write 3 0xb0 ++ levels 2 0xef ++ levels 0 0x40 ++ levels 0 0x41 ++ levels 2 0xff ++ levels 0 0x42 ++ beginRead 0
+settling = write 3 0xb0 ++ levels 2 0xef ++ levels 0 0x40 ++ levels 0 0x41 ++ levels 2 0xff ++ levels 0 0x42 ++ readFrom 0
 
 -- The same scale, and nobody reads: 41 has settled before it is overwritten, and of the next digit 43 is what stands there so far.
 abbrev pub settlingTwice : List Event
@@ -84,7 +85,7 @@ settlingTwice = write 3 0xb0 ++ levels 2 0xef ++ levels 0 0x41 ++ levels 2 0xff 
 
 -- Levels that come while STB is still low, but once the read has begun, are no byte's.
 abbrev pub tooLate : List Event
-tooLate = write 3 0xb0 ++ levels 0 0x41 ++ levels 2 0xef ++ beginRead 0 ++ levels 0 0x42 ++ endCycle ++ levels 0 0x43
+tooLate = write 3 0xb0 ++ levels 0 0x41 ++ levels 2 0xef ++ readFrom 0 ++ levels 0 0x42 ++ cycleEnd ++ levels 0 0x43
 
 -- Each of the five fates, each side, both groups, mode 2, a port without a handshake, which has no bytes, lines that start low, and levels
 -- that come while STB is low.
@@ -93,7 +94,7 @@ examples =
     example allHigh lostBale A Input (0x41 at 4 is handedOver at 6 ∷ 0x42 at 8 is swallowed at 10 ∷ [])
     ∷ example allHigh twoDigits A Input (0x41 at 4 is handedOver at 6 ∷ 0x42 at 9 is handedOver at 11 ∷ [])
     ∷ example allHigh P13 A Input (0x41 at 4 is overwritten at 7 ∷ 0x42 at 7 is waiting at 9 ∷ [])
-    ∷ example allHigh (P13 ++ beginRead 0) A Input (0x41 at 4 is overwritten at 7 ∷ 0x42 at 7 is handedOver at 9 ∷ [])
+    ∷ example allHigh (P13 ++ readFrom 0) A Input (0x41 at 4 is overwritten at 7 ∷ 0x42 at 7 is handedOver at 9 ∷ [])
     ∷ example allHigh bothWays A Input (0x41 at 4 is handedOver at 6 ∷ [])
     ∷ example allHigh bothWays A Output (0x55 at 9 is handedOver at 10 ∷ [])
     ∷ example allHigh sameWordAgain A Input (0x41 at 4 is cleared at 7 ∷ [])

@@ -5,23 +5,23 @@ use mathlib.Core.List.{List, [], _∷_}
 use Prim.Native.Nat.{ℕ}
 use lib.Dec.{ltb}
 use lib.ListN.{getD}
-use Rattle.chip.specs.declared.Phase.{Phase}
-use Rattle.chip.specs.declared.Phase.the-variants.{Idle, Reading, Writing}
-use Rattle.laws.specs.History.{Event}
+use Rattle.events.specs.Event.{Event}
+use Rattle.bus.specs.declared.Phase.{Phase}
+use Rattle.bus.specs.declared.Phase.the-variants.{Idle, Reading, Writing}
 
 -- The five kinds, each with the operands that it has, and what is none of them.
-pub data Named : Type 0 where
-  reset cycleEnded unknown : Named
-  readBegun : ℕ → Named
-  writeBegun newLevels : ℕ → ℕ → Named
+pub data Kind : Type 0 where
+  reset cycleEnded unknown : Kind
+  readBegun : ℕ → Kind
+  writeBegun newLevels : ℕ → ℕ → Kind
 
 -- What the numbers 00 to 05 name, in their order, with the operands x and d; 04 names no kind.
-abbrev pub kinds : ℕ → ℕ → List Named
+abbrev pub kinds : ℕ → ℕ → List Kind
 kinds x d = reset ∷ readBegun x ∷ cycleEnded ∷ writeBegun x d ∷ unknown ∷ newLevels x d ∷ []
 
 -- An event by name.
-abbrev pub named : Event → Named
-named e = getD (kinds (e .first) (e .second)) (e .kind) unknown
+abbrev pub kindOf : Event → Kind
+kindOf e = getD (kinds (e .first) (e .second)) (e .kind) unknown
 
 -- Nothing runs on the bus.
 abbrev pub free : Phase → Bool
@@ -31,7 +31,7 @@ free (Writing a d) = false
 
 -- A reset is always accepted, and levels on any of the three ports. A cycle begins on a free bus, a read at one of the three ports and
 -- a write there or at control; either ends by the one end, which is accepted whenever one runs.
-abbrev pub accepts : Phase → Named → Bool
+abbrev pub accepts : Phase → Kind → Bool
 accepts ph reset = true
 accepts ph (readBegun x) = ltb x 3 && free ph
 accepts ph cycleEnded = not (free ph)

@@ -1,6 +1,6 @@
 pub mod Kinds
-pub mod Around
-pub mod Deeds
+pub mod Surroundings
+pub mod Effects
 pub mod Bytes
 pub mod Raised
 pub mod Promise

@@ -5,6 +5,7 @@ use mathlib.Core.List.{List, [], _∷_}
 use Prim.Native.Nat.{ℕ, zero, suc, _+_, _%_, _<_, _≤_}
 use lib.ListN.{length}
 use Rattle.bits.specs.Bit.{num}
+use Rattle.events.specs.Event.{Event}
 use Rattle.control.specs.declared.Group.{Group}
 use Rattle.channel.specs.declared.Side.{Side}
 use Rattle.channel.specs.declared.Side.the-variants.{Input, Output}
@@ -15,10 +16,10 @@ use Rattle.channel.specs.Channel.{isWaiting}
 use Rattle.chip.specs.declared.Chip.{Chip}
 use Rattle.chip.specs.State.{channelOf, tallyOf}
 use Rattle.ports.specs.Pins.{pinsOf}
-use Rattle.laws.specs.History.{Event, stepped}
-use Rattle.fates.specs.Around.{Around}
-use Rattle.fates.specs.Deeds.{Deed, portNumber, strobes, deeds}
-use Rattle.fates.specs.Bytes.{handedOver, overwritten, swallowed, cleared, waiting, Byte, Offer, offeredAt, byteOf, bytes, count}
+use Rattle.step.specs.Step.{stepped}
+use Rattle.fates.specs.Surroundings.{Surroundings}
+use Rattle.fates.specs.Effects.{Effect, portNumber, strobes, effects}
+use Rattle.fates.specs.Bytes.{handedOver, overwritten, swallowed, cleared, waiting, Byte, Offer, offeredAt, withFate, bytes, count}
 
 -- The chip after a history: each event meets the chip that the one before it left.
 abbrev pub run : Chip → List Event → Chip
@@ -30,8 +31,8 @@ abbrev pub tallies : Group → Side → Chip → List Event → Tally
 tallies g s c es = tallyOf (run c es) g s
 
 -- A chip's bus phase, mode word and outside levels, where a history begins from that chip.
-abbrev pub aroundOf : Chip → Around
-aroundOf c = record {
+abbrev pub surroundingsOf : Chip → Surroundings
+surroundingsOf c = record {
   phase = c .phase;
   word = c .core .word;
   levelsA = c .core .a .outside;
@@ -41,18 +42,18 @@ aroundOf c = record {
 
 -- The bytes offered since then, their first event at place 1.
 abbrev pub newBytes : Group → Side → Chip → List Event → List Byte
-newBytes g s c es = bytes 1 (deeds g s (aroundOf c) es)
+newBytes g s c es = bytes 1 (effects g s (surroundingsOf c) es)
 
--- The byte, if any, that waits where the deeds begin.
-abbrev pub heldByte : Fill → Offer → ℕ → List Deed → List Byte
+-- The byte, if any, that waits where the effects begin.
+abbrev pub heldByte : Fill → Offer → ℕ → List Effect → List Byte
 heldByte Empty o n later = []
-heldByte Waiting o n later = byteOf o n later ∷ []
+heldByte Waiting o n later = withFate o n later ∷ []
 heldByte Fetching o n later = []
 
 -- A byte that waits at the start of a history counts as offered at place 0, with the latch's value, which later levels may change.
 abbrev pub oldByte : Group → Side → Chip → List Event → List Byte
 oldByte g s c es =
-    heldByte (channelOf (c .core) g s .fill) (offeredAt 0 (channelOf (c .core) g s .latch)) 1 (deeds g s (aroundOf c) es)
+    heldByte (channelOf (c .core) g s .fill) (offeredAt 0 (channelOf (c .core) g s .latch)) 1 (effects g s (surroundingsOf c) es)
 
 -- Something that holds of each byte.
 abbrev pub Each : (Byte → Type 0) → List Byte → Type 0

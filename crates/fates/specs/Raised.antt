@@ -5,11 +5,11 @@ use mathlib.Core.List.{List, [], _∷_}
 use Prim.Native.Nat.{ℕ}
 use lib.Dec.{eqb}
 use Rattle.bits.specs.Bit.{bitOf}
-use Rattle.laws.specs.History.{Event}
-use Rattle.fates.specs.Kinds.{Named, reset, cycleEnded, unknown, readBegun, writeBegun, newLevels, named}
+use Rattle.events.specs.Event.{Event}
+use Rattle.fates.specs.Kinds.{Kind, reset, cycleEnded, unknown, readBegun, writeBegun, newLevels, kindOf}
 
 -- An event puts pin n of port C high: levels on that port do, where they have that bit.
-abbrev pub raises : ℕ → Named → Bool
+abbrev pub raises : ℕ → Kind → Bool
 raises n reset = false
 raises n (readBegun x) = false
 raises n cycleEnded = false
@@ -20,4 +20,4 @@ raises n unknown = false
 -- No event of the history does.
 abbrev pub NeverRaised : ℕ → List Event → Type 0
 NeverRaised n [] = Unit {0}
-NeverRaised n (e ∷ es) = (raises n (named e) ≡ false) × NeverRaised n es
+NeverRaised n (e ∷ es) = (raises n (kindOf e) ≡ false) × NeverRaised n es

@@ -2,18 +2,20 @@
 use mathlib.Core.Path.{_≡_}
 use mathlib.Core.List.{List, [], _∷_, _++_, map}
 use Prim.Native.Nat.{ℕ}
+use Rattle.events.specs.Event.{Event, event}
 use Rattle.control.specs.declared.Group.{Group}
 use Rattle.channel.specs.declared.Side.{Side}
 use Rattle.channel.specs.declared.Side.the-variants.{Input}
 use Rattle.chip.specs.declared.Chip.{Chip}
 use Rattle.chip.specs.State.{noTally, allHigh, powerUpWith}
-use Rattle.frames.specs.declared.Frame.{Frame}
-use Rattle.frames.specs.declared.Frame.the-variants.{Event as Frame·Event, NoFrame}
-use Rattle.script.specs.Lines.{Line, linesOf}
-use Rattle.script.specs.Answers.{frameIn, shownAfter, lineText, answersOf}
+use Rattle.step.specs.Step.{stepped}
+use Rattle.text.specs.declared.Frame.{Frame}
+use Rattle.text.specs.declared.Frame.the-variants.{Event as Frame·Event, NoFrame}
+use Rattle.text.specs.Lines.{Line, linesOf}
+use Rattle.text.specs.Frames.{frameIn}
+use Rattle.script.specs.Answers.{shownAfter, lineText, answersOf}
 use Rattle.script.specs.Left.{chipLeft}
-use Rattle.laws.specs.History.{Event, event, stepped}
-use Rattle.fates.specs.Around.{atPowerUp}
+use Rattle.fates.specs.Surroundings.{atPowerUp}
 use Rattle.fates.specs.Bytes.{bytesOf}
 use Rattle.fates.specs.Promise.{Fates, run}
 use Rattle.fates.specs.Discipline.{Disciplined, NoneLost}

@@ -5,15 +5,15 @@ use mathlib.Core.Bool.{Bool, true, false}
 use Prim.Native.Nat.{ℕ, _+_, _*_, _/_, _%_}
 use native.Mathlib.Omega.{arith}
 use Rattle.bits.specs.Bit.{bitOf, valueOf}
+use Rattle.bus.specs.declared.Phase.{Phase}
+use Rattle.bus.specs.declared.Phase.the-variants.{Idle, Reading, Writing}
 use Rattle.channel.specs.declared.Fill.{Fill}
 use Rattle.channel.specs.declared.Fill.the-variants.{Empty, Waiting, Fetching}
 use Rattle.channel.specs.declared.Channel.{Channel}
-use Rattle.chip.specs.declared.Phase.{Phase}
-use Rattle.chip.specs.declared.Phase.the-variants.{Idle, Reading, Writing}
 use Rattle.chip.specs.declared.Enables.{Enables}
 use Rattle.chip.specs.declared.Chip.{Chip}
-use Rattle.image.specs.Layout.{fillByte, enablesByte, busByte, placeByte, writtenByte, imageOf}
-use Rattle.image.specs.Restored.{fillAs, enablesAs, phaseAs, stateOf}
+use Rattle.image.specs.Layout.{fillByte, enablesByte, busByte, addressByte, writtenByte, imageOf}
+use Rattle.image.specs.Loaded.{fillAs, enablesAs, phaseAs, stateOf}
 
 -- A tally from its two bytes.
 two-bytes : (n : ℕ) → n % 256 + 256 * (n / 256) ≡ n
@@ -24,7 +24,7 @@ fill-back Empty = refl
 fill-back Waiting = refl
 fill-back Fetching = refl
 
-pub phase-back : (ph : Phase) → phaseAs (busByte ph) (placeByte ph) (writtenByte ph) ≡ ph
+pub phase-back : (ph : Phase) → phaseAs (busByte ph) (addressByte ph) (writtenByte ph) ≡ ph
 phase-back Idle = refl
 phase-back (Reading p) = refl
 phase-back (Writing a d) = refl

@@ -5,26 +5,26 @@ use mathlib.Core.Bool.{Bool, true, false, _&&_, and-true}
 use lib.Dec.{ltb}
 use borrow.Author.Tests.{eq-eqb}
 use Rattle.bits.specs.Bit.{bitOf}
+use Rattle.bus.specs.declared.Phase.{Phase}
+use Rattle.bus.specs.declared.Phase.the-variants.{Idle, Reading, Writing}
 use Rattle.control.specs.declared.Group.the-variants.{A, B}
 use Rattle.channel.specs.declared.Side.{Side}
 use Rattle.channel.specs.declared.Side.the-variants.{Input, Output}
 use Rattle.channel.specs.declared.Fill.{Fill}
 use Rattle.channel.specs.declared.Fill.the-variants.{Empty, Waiting, Fetching}
-use Rattle.chip.specs.declared.Phase.{Phase}
-use Rattle.chip.specs.declared.Phase.the-variants.{Idle, Reading, Writing}
 use Rattle.chip.specs.declared.Enables.{Enables}
 use Rattle.chip.specs.declared.Chip.{Chip}
 use Rattle.chip.specs.Handshakes.{strobed}
-use Rattle.image.specs.Layout.{fillByte, enablesByte, busByte, placeByte, writtenByte, imageOf}
-use Rattle.image.specs.Good.{named, kept, hasImage, cycleFits, enablesFit, fillFits, isImage}
+use Rattle.image.specs.Layout.{fillByte, enablesByte, busByte, addressByte, writtenByte, imageOf}
+use Rattle.image.specs.Good.{namesItsPlace, allowed, hasImage, cycleFits, enablesFit, fillFits, isImage}
 use Rattle.image.proofs.ComesBack.{enables-back}
 
-cycle-fits : (ph : Phase) → cycleFits (busByte ph) (placeByte ph) (writtenByte ph) ≡ named ph
+cycle-fits : (ph : Phase) → cycleFits (busByte ph) (addressByte ph) (writtenByte ph) ≡ namesItsPlace ph
 cycle-fits Idle = refl
 cycle-fits (Reading p) = and-true (ltb p 3)
 cycle-fits (Writing a d) = refl
 
-fill-fits : (on : Bool) (s : Side) (f : Fill) → fillFits on s (fillByte f) ≡ kept on s f
+fill-fits : (on : Bool) (s : Side) (f : Fill) → fillFits on s (fillByte f) ≡ allowed on s f
 fill-fits true Input Empty = refl
 fill-fits false Input Empty = refl
 fill-fits true Output Empty = refl

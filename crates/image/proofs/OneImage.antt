@@ -1,13 +1,13 @@
 -- A state that meets the conditions has exactly one image, and comes back from it; any other has none; and all other bytes are refused.
--- Rests on ComesBack, Fitting and SameBytes.
-use mathlib.Core.Path.{_≡_, _∙_, refl, ap, sym, subst}
+-- Rests on ComesBack, Fitting and SameBytes, and on bits' Logic.
+use mathlib.Core.Path.{_≡_, _∙_, refl, ap, sym}
 use mathlib.Core.Bool.{Bool, true, false}
 use mathlib.Core.List.{List}
 use Prim.Native.Nat.{ℕ}
-use lib.Dec.{T}
+use Rattle.bits.proofs.Logic.{contrary}
 use Rattle.chip.specs.declared.Chip.{Chip}
 use Rattle.image.specs.Layout.{imageOf}
-use Rattle.image.specs.Restored.{stateOf}
+use Rattle.image.specs.Loaded.{stateOf}
 use Rattle.image.specs.Good.{hasImage, isImage, Bytes}
 use Rattle.image.proofs.Fitting.{image-where}
 use Rattle.image.proofs.SameBytes.{same-bytes}
@@ -24,12 +24,9 @@ tells-such l bytes good = sym (image-where (stateOf l)) ∙ ap isImage (same-byt
 pub one-image : (l m : List ℕ) → Bytes l → Bytes m → isImage l ≡ true → isImage m ≡ true → stateOf l ≡ stateOf m → l ≡ m
 one-image l m bl bm gl gm same = sym (same-bytes l bl gl) ∙ ap imageOf same ∙ same-bytes m bm gm
 
-differ : (b : Bool) → b ≡ true → b ≡ false → ⊥
-differ b is isNot = subst T (sym is ∙ isNot) tt
-
 -- A state without an image is told by none.
 pub none-other : (c : Chip) → hasImage c ≡ false → (l : List ℕ) → Bytes l → isImage l ≡ true → ¬ (stateOf l ≡ c)
-none-other c none l bytes good same = differ (hasImage (stateOf l)) (tells-such l bytes good) (ap hasImage same ∙ none)
+none-other c none l bytes good same = contrary (hasImage (stateOf l)) (ap hasImage same ∙ none) (tells-such l bytes good)
 
 -- Bytes that are no state's image are refused.
 pub others-refused : (l : List ℕ) → Bytes l → ((c : Chip) → hasImage c ≡ true → ¬ (imageOf c ≡ l)) → isImage l ≡ false

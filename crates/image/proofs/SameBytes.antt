@@ -1,29 +1,31 @@
 -- An image is the image of the state that it tells, byte for byte.
--- Rests on Long, and on bits' Tabled.
-use mathlib.Core.Path.{_≡_, _∙_, refl, sym, subst}
-use mathlib.Core.Bool.{Bool, true, false, _&&_, and-eq-true-iff}
+-- Rests on Long, and on bits' Logic and Tabled.
+use mathlib.Core.Path.{_≡_, _∙_, refl, sym}
+use mathlib.Core.Bool.{Bool, true, false, _&&_}
 use mathlib.Core.List.{List, [], _∷_, _++_}
-use Prim.Native.Nat.{ℕ, zero, suc, _+_, _*_, _/_, _%_, _<_}
+use Prim.Native.Nat.{ℕ, zero, suc, _+_, _-_, _*_, _/_, _%_, _<_}
 use native.Mathlib.Omega.{arith}
-use lib.Dec.{T, eqb, ltb}
+use lib.Dec.{eqb, ltb}
 use lib.ListN.{length}
 use lib.Seq.{ext-getD}
 use borrow.Author.Tests.{eqb-true, ltb-true, ne-eqb}
 use Rattle.bits.specs.Bit.{bitOf}
 use Rattle.bits.specs.Table.{from}
+use Rattle.bits.proofs.Logic.{contrary, both}
 use Rattle.bits.proofs.Tabled.{table-at}
 use Rattle.control.specs.declared.Group.the-variants.{A, B}
 use Rattle.channel.specs.declared.Side.{Side}
 use Rattle.channel.specs.declared.Side.the-variants.{Input, Output}
 use Rattle.chip.specs.Handshakes.{strobed}
-use Rattle.image.specs.Layout.{fillByte, enablesByte, busByte, placeByte, writtenByte, imageOf}
-use Rattle.image.specs.Restored.{byteAt, fillAs, enablesAs, phaseAs, stateOf}
-use Rattle.image.specs.Good.{cycleFits, enablesFit, fillFits, fillsFit, allZero, unusedZero, formed, isImage, Bytes}
+use Rattle.image.specs.Places as places
+use Rattle.image.specs.Layout.{fillByte, enablesByte, busByte, addressByte, writtenByte, imageOf}
+use Rattle.image.specs.Loaded.{byteAt, fillAs, enablesAs, phaseAs, stateOf}
+use Rattle.image.specs.Good.{cycleFits, enablesFit, fillFits, channelFits, fillsFit, allZero, unusedZero, bytesFit, isImage, Bytes}
 use Rattle.image.proofs.Long.{is-long}
 
--- A list of 64 is its elements, one after the other.
-spelled : (l : List ℕ) → length l ≡ 64 → from (byteAt l) 0 64 ≡ l
-spelled l h = ext-getD 0 (from (byteAt l) 0 64) l (sym h) (λ i below. table-at (byteAt l) 0 64 i below)
+-- A list of that length is its elements, one after the other.
+spelled : (l : List ℕ) → length l ≡ places.length → from (byteAt l) 0 places.length ≡ l
+spelled l h = ext-getD 0 (from (byteAt l) 0 places.length) l (sym h) (λ i below. table-at (byteAt l) 0 places.length i below)
 
 pub small : (l : List ℕ) → Bytes l → (i : ℕ) → byteAt l i < 256
 small [] bytes i = omega arith
@@ -62,7 +64,7 @@ same-fill false Output (suc (suc (suc b))) fits = absurd (omega (arith, ltb-true
 -- The three bytes of the bus.
 abbrev busAgain : ℕ → ℕ → ℕ → List ℕ
 busAgain bus place byte =
-    busByte (phaseAs bus place byte) ∷ placeByte (phaseAs bus place byte) ∷ writtenByte (phaseAs bus place byte) ∷ []
+    busByte (phaseAs bus place byte) ∷ addressByte (phaseAs bus place byte) ∷ writtenByte (phaseAs bus place byte) ∷ []
 
 no-bus : (bus place byte : ℕ) → 2 < bus → cycleFits bus place byte ≡ false
 no-bus bus place byte h =
@@ -73,14 +75,14 @@ no-bus bus place byte h =
 
 same-bus : (bus place byte : ℕ) → cycleFits bus place byte ≡ true → busAgain bus place byte ≡ bus ∷ place ∷ byte ∷ []
 same-bus zero place byte fits =
-    let both = and-eq-true-iff (eqb place 0) (eqb byte 0) .0 fits in
-    λ i. 0 ∷ sym (eqb-true place 0 (both .0)) i ∷ sym (eqb-true byte 0 (both .1)) i ∷ []
+    let is = both (eqb place 0) (eqb byte 0) fits in
+    λ i. 0 ∷ sym (eqb-true place 0 (is .0)) i ∷ sym (eqb-true byte 0 (is .1)) i ∷ []
 same-bus (suc zero) place byte fits =
-    let both = and-eq-true-iff (ltb place 3) (eqb byte 0) .0 fits in
-    λ i. 1 ∷ place ∷ sym (eqb-true byte 0 (both .1)) i ∷ []
+    let is = both (ltb place 3) (eqb byte 0) fits in
+    λ i. 1 ∷ place ∷ sym (eqb-true byte 0 (is .1)) i ∷ []
 same-bus (suc (suc zero)) place byte fits = refl
 same-bus (suc (suc (suc bus))) place byte fits =
-    absurd (subst T (sym fits ∙ no-bus (suc (suc (suc bus))) place byte (omega arith)) tt)
+    absurd (contrary _ (no-bus (suc (suc (suc bus))) place byte (omega arith)) fits)
 
 -- As many zeros as there are bytes.
 abbrev zeros : List ℕ → List ℕ
@@ -90,37 +92,38 @@ zeros (b ∷ bs) = 0 ∷ zeros bs
 same-zeros : (bs : List ℕ) → allZero bs ≡ true → zeros bs ≡ bs
 same-zeros [] all = refl
 same-zeros (b ∷ bs) all =
-    let both = and-eq-true-iff (eqb b 0) (allZero bs) .0 all in
-    λ i. sym (eqb-true b 0 (both .0)) i ∷ same-zeros bs (both .1) i
+    let is = both (eqb b 0) (allZero bs) all in
+    λ i. sym (eqb-true b 0 (is .0)) i ∷ same-zeros bs (is .1) i
 
--- What is asked of 64 bytes, one by one.
+-- What is asked of the bytes, one by one.
 record Parts (l : List ℕ) : Type 0 where
-  cycle : cycleFits (byteAt l 54) (byteAt l 55) (byteAt l 56) ≡ true
-  aInput : fillFits (strobed (byteAt l 52) A Input) Input (byteAt l 48) ≡ true
-  aOutput : fillFits (strobed (byteAt l 52) A Output) Output (byteAt l 49) ≡ true
-  bInput : fillFits (strobed (byteAt l 52) B Input) Input (byteAt l 50) ≡ true
-  bOutput : fillFits (strobed (byteAt l 52) B Output) Output (byteAt l 51) ≡ true
-  enables : enablesFit (byteAt l 53) ≡ true
+  cycle : cycleFits (byteAt l places.bus) (byteAt l places.address) (byteAt l places.written) ≡ true
+  aInput : channelFits l A Input 0 ≡ true
+  aOutput : channelFits l A Output 1 ≡ true
+  bInput : channelFits l B Input 2 ≡ true
+  bOutput : channelFits l B Output 3 ≡ true
+  enables : enablesFit (byteAt l places.enables) ≡ true
   unused : unusedZero l ≡ true
 
 parts : (l : List ℕ) → isImage l ≡ true → Parts l
 unfolding isImage
 parts l good =
-    let w = byteAt l 52 in
-    let cycle = cycleFits (byteAt l 54) (byteAt l 55) (byteAt l 56) in
-    let a = fillFits (strobed w A Input) Input (byteAt l 48) in
-    let b = fillFits (strobed w A Output) Output (byteAt l 49) in
-    let c = fillFits (strobed w B Input) Input (byteAt l 50) in
-    let d = fillFits (strobed w B Output) Output (byteAt l 51) in
-    let formed-is = and-eq-true-iff (eqb (length l) 64) (formed l) .0 good .1 in
-    let to-enables = and-eq-true-iff (cycle && bitOf w 7 && fillsFit l && enablesFit (byteAt l 53)) (unusedZero l) .0 formed-is in
-    let to-fills = and-eq-true-iff (cycle && bitOf w 7 && fillsFit l) (enablesFit (byteAt l 53)) .0 (to-enables .0) in
-    let to-word = and-eq-true-iff (cycle && bitOf w 7) (fillsFit l) .0 (to-fills .0) in
-    let three = and-eq-true-iff (a && b && c) d .0 (to-word .1) in
-    let two = and-eq-true-iff (a && b) c .0 (three .0) in
-    let one = and-eq-true-iff a b .0 (two .0) in
+    let cycle = cycleFits (byteAt l places.bus) (byteAt l places.address) (byteAt l places.written) in
+    let set = bitOf (byteAt l places.word) 7 in
+    let enables = enablesFit (byteAt l places.enables) in
+    let a = channelFits l A Input 0 in
+    let b = channelFits l A Output 1 in
+    let c = channelFits l B Input 2 in
+    let d = channelFits l B Output 3 in
+    let fits = both (eqb (length l) places.length) (bytesFit l) good .1 in
+    let to-enables = both (cycle && set && fillsFit l && enables) (unusedZero l) fits in
+    let to-fills = both (cycle && set && fillsFit l) enables (to-enables .0) in
+    let to-word = both (cycle && set) (fillsFit l) (to-fills .0) in
+    let three = both (a && b && c) d (to-word .1) in
+    let two = both (a && b) c (three .0) in
+    let one = both a b (two .0) in
     record {
-      cycle = and-eq-true-iff cycle (bitOf w 7) .0 (to-word .0) .0;
+      cycle = both cycle set (to-word .0) .0;
       aInput = one .0;
       aOutput = one .1;
       bInput = two .1;
@@ -133,15 +136,17 @@ pub same-bytes : (l : List ℕ) → Bytes l → isImage l ≡ true → imageOf (
 unfolding imageOf stateOf
 same-bytes l bytes good =
     let p = parts l good in
+    let strobes = strobed (byteAt l places.word) in
+    let condition : ℕ → ℕ = λ k. byteAt l (places.conditions + k) in
     (λ i.
-    same-pairs (byteAt l) (small l bytes) 0 20 i
-    ++ (byteAt l 40 ∷ byteAt l 41 ∷ byteAt l 42 ∷ byteAt l 43
-    ∷ byteAt l 44 ∷ byteAt l 45 ∷ byteAt l 46 ∷ byteAt l 47
-    ∷ same-fill (strobed (byteAt l 52) A Input) Input (byteAt l 48) (p .aInput) i
-    ∷ same-fill (strobed (byteAt l 52) A Output) Output (byteAt l 49) (p .aOutput) i
-    ∷ same-fill (strobed (byteAt l 52) B Input) Input (byteAt l 50) (p .bInput) i
-    ∷ same-fill (strobed (byteAt l 52) B Output) Output (byteAt l 51) (p .bOutput) i ∷ [])
-    ++ (byteAt l 52 ∷ eqb-true (enablesByte (enablesAs (byteAt l 53))) (byteAt l 53) (p .enables) i ∷ [])
-    ++ same-bus (byteAt l 54) (byteAt l 55) (byteAt l 56) (p .cycle) i
-    ++ same-zeros (from (byteAt l) 57 7) (p .unused) i)
+    same-pairs (byteAt l) (small l bytes) places.tallies 20 i
+    ++ from (byteAt l) places.levelsA (places.conditions - places.levelsA)
+    ++ (same-fill (strobes A Input) Input (condition 0) (p .aInput) i
+    ∷ same-fill (strobes A Output) Output (condition 1) (p .aOutput) i
+    ∷ same-fill (strobes B Input) Input (condition 2) (p .bInput) i
+    ∷ same-fill (strobes B Output) Output (condition 3) (p .bOutput) i
+    ∷ byteAt l places.word
+    ∷ eqb-true (enablesByte (enablesAs (byteAt l places.enables))) (byteAt l places.enables) (p .enables) i ∷ [])
+    ++ same-bus (byteAt l places.bus) (byteAt l places.address) (byteAt l places.written) (p .cycle) i
+    ++ same-zeros (from (byteAt l) places.unused (places.length - places.unused)) (p .unused) i)
     ∙ spelled l (is-long l good)

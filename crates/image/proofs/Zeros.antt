@@ -3,12 +3,13 @@
 use mathlib.Core.Path.{_≡_, _∙_, refl, ap, sym}
 use mathlib.Core.Bool.{Bool, _&&_}
 use mathlib.Core.List.{List, [], _∷_}
-use Prim.Native.Nat.{ℕ, zero, suc, _+_, _*_}
+use Prim.Native.Nat.{ℕ, zero, suc, _+_, _-_, _*_}
 use native.Mathlib.Omega.{arith}
 use lib.Dec.{eqb}
 use borrow.Author.Tests.{eq-eqb, ne-eqb}
 use Rattle.bits.specs.Table.{from}
-use Rattle.image.specs.Restored.{byteAt, wideAt}
+use Rattle.image.specs.Places as places
+use Rattle.image.specs.Loaded.{byteAt, wideAt}
 use Rattle.image.specs.Good.{allZero, unusedZero}
 
 -- Bytes as one number, the lowest first.
@@ -32,8 +33,12 @@ value-zero [] = refl
 value-zero (b ∷ bs) = both-zero b (value bs) ∙ ap (λ (z : Bool). eqb b 0 && z) (value-zero bs)
 
 -- The last eight bytes of an image, two and two, against the first of them.
-pub seven-zero : (l : List ℕ)
-    → eqb (wideAt l 56 + 65536 * wideAt l 58 + 4294967296 * wideAt l 60 + 281474976710656 * wideAt l 62) (byteAt l 56) ≡ unusedZero l
+abbrev lastEight : List ℕ → ℕ
+lastEight l =
+    wideAt l places.written + 65536 * wideAt l (places.unused + 1)
+    + 4294967296 * wideAt l (places.unused + 3) + 281474976710656 * wideAt l (places.unused + 5)
+
+pub seven-zero : (l : List ℕ) → eqb (lastEight l) (byteAt l places.written) ≡ unusedZero l
 seven-zero l =
-    ap (λ (n : ℕ). eqb n (byteAt l 56)) (omega arith)
-    ∙ lowest (byteAt l 56) (value (from (byteAt l) 57 7)) ∙ value-zero (from (byteAt l) 57 7)
+    let unused = from (byteAt l) places.unused (places.length - places.unused) in
+    ap (λ (n : ℕ). eqb n (byteAt l places.written)) (omega arith) ∙ lowest (byteAt l places.written) (value unused) ∙ value-zero unused

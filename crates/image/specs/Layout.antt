@@ -1,18 +1,20 @@
--- The image of a chip: 64 bytes that a host keeps and saves. docs/IMAGE.md has the same table.
+-- The image of a chip: the bytes that a host keeps and saves, part by part in the order of Places.
 use mathlib.Core.Bool.{false}
 use mathlib.Core.List.{List, [], _∷_, _++_}
-use Prim.Native.Nat.{ℕ, _/_, _%_}
+use Prim.Native.Nat.{ℕ, _-_, _/_, _%_}
+use lib.ListN.{replicate}
 use Rattle.bits.specs.Bit.{byteOf}
+use Rattle.bus.specs.declared.Phase.{Phase}
+use Rattle.bus.specs.declared.Phase.the-variants.{Idle, Reading, Writing}
 use Rattle.channel.specs.declared.Fill.{Fill}
 use Rattle.channel.specs.declared.Fill.the-variants.{Empty, Waiting, Fetching}
 use Rattle.channel.specs.declared.Tally.{Tally}
-use Rattle.chip.specs.declared.Phase.{Phase}
-use Rattle.chip.specs.declared.Phase.the-variants.{Idle, Reading, Writing}
 use Rattle.chip.specs.declared.Enables.{Enables}
 use Rattle.chip.specs.declared.Core.{Core}
 use Rattle.chip.specs.declared.Chip.{Chip}
+use Rattle.image.specs.Places as places
 
--- Bytes 0 to 39: the five tallies of each channel, each as two bytes, the low one first.
+-- The five tallies of a channel, each as two bytes, the low one first.
 abbrev pub tallyBytes : Tally → List ℕ
 tallyBytes t =
     t .offered % 256 ∷ t .offered / 256
@@ -21,7 +23,7 @@ tallyBytes t =
     ∷ t .swallowed % 256 ∷ t .swallowed / 256
     ∷ t .cleared % 256 ∷ t .cleared / 256 ∷ []
 
--- The channels are A in, A out, B in and B out.
+-- The first part: those of the channels A in, A out, B in and B out.
 abbrev pub allTallies : Core → List ℕ
 allTallies c =
     tallyBytes (c .a .input .tally) ++ tallyBytes (c .a .output .tally)
@@ -44,10 +46,10 @@ busByte (Reading p) = 1
 busByte (Writing a d) = 2
 
 -- The port or the address that it names.
-abbrev pub placeByte : Phase → ℕ
-placeByte Idle = 0
-placeByte (Reading p) = p
-placeByte (Writing a d) = a
+abbrev pub addressByte : Phase → ℕ
+addressByte Idle = 0
+addressByte (Reading p) = p
+addressByte (Writing a d) = a
 
 -- The byte that it writes.
 abbrev pub writtenByte : Phase → ℕ
@@ -55,20 +57,20 @@ writtenByte Idle = 0
 writtenByte (Reading p) = 0
 writtenByte (Writing a d) = d
 
--- Bytes 40 to 51, four to a row: the levels outside and the latch of port C; the latches of the four channels; their conditions.
+-- The second part, from the levels on, four to a row: the levels outside and the latch of port C; the latches of the four channels; their
+-- conditions.
 abbrev pub portBytes : Core → List ℕ
 portBytes c =
     c .a .outside ∷ c .b .outside ∷ c .c .outside ∷ c .c .latch
     ∷ c .a .input .latch ∷ c .a .output .latch ∷ c .b .input .latch ∷ c .b .output .latch
     ∷ fillByte (c .a .input .fill) ∷ fillByte (c .a .output .fill) ∷ fillByte (c .b .input .fill) ∷ fillByte (c .b .output .fill) ∷ []
 
--- Bytes 52 to 63: the mode word, the enables and the cycle that runs, three bytes; what is not used, which is 0.
+-- The third part, from the mode word on: the enables and the cycle that runs, three bytes; what is not used, which is 0.
 abbrev pub controlBytes : Chip → List ℕ
 controlBytes c =
-    c .core .word ∷ enablesByte (c .core .inte) ∷ busByte (c .phase) ∷ placeByte (c .phase)
-    ∷ writtenByte (c .phase) ∷ 0 ∷ 0 ∷ 0
-    ∷ 0 ∷ 0 ∷ 0 ∷ 0 ∷ []
+    c .core .word ∷ enablesByte (c .core .inte) ∷ busByte (c .phase) ∷ addressByte (c .phase) ∷ writtenByte (c .phase)
+    ∷ replicate (places.length - places.unused) 0
 
--- All 64.
+-- All of it.
 unfoldable pub imageOf : Chip → List ℕ
 imageOf c = allTallies (c .core) ++ portBytes (c .core) ++ controlBytes c

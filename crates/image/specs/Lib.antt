@@ -1,4 +1,5 @@
+pub mod Places
 pub mod Layout
-pub mod Restored
+pub mod Loaded
 pub mod Good
 pub mod Slices

@@ -18,7 +18,7 @@ use Rattle.roles.proofs.PinByMasks.{number-one}
 use Rattle.channel.specs.declared.Side.{Side}
 use Rattle.channel.specs.declared.Side.the-variants.{Input, Output}
 use Rattle.chip.specs.declared.Chip.{Chip}
-use Rattle.chip.specs.Handshakes.{strobed, lineOf, enableOf}
+use Rattle.chip.specs.Handshakes.{strobed, linePin, enableOf}
 use Rattle.chip.proofs.StrobedWords.{strobed-as-byte}
 use Rattle.status.specs.Status.{flagAt, intrOf}
 use Rattle.ports.specs.Reads.{readAs, readLines, readOf}
@@ -44,7 +44,7 @@ abbrev flagRole : Side → Role
 flagRole Input = IBF
 flagRole Output = OBF
 
-pub line-role : (w : ℕ) (g : Group) (s : Side) → strobed w g s ≡ true → roleOf w (lineOf g s) ≡ lineRole s
+pub line-role : (w : ℕ) (g : Group) (s : Side) → strobed w g s ≡ true → roleOf w (linePin g s) ≡ lineRole s
 unfolding roleOf usesOf freeRole strobedInput strobedOutput modeOf inputOf upperInput lowerInput bitOf
 line-role w A Input = role-where A Input 4 STB tt w
 line-role w A Output = role-where A Output 6 ACK tt w
@@ -92,7 +92,7 @@ module _ (c : Chip) where
   flag-pin B Output on = pin-by-role c 1 (lit< tt) ∙ ap (levelAs c 1) (flag-role (c .core .word) B Output on)
 
   pub line-pin : (g : Group) (s : Side) → strobed (c .core .word) g s ≡ true
-      → pin c (lineOf g s) ≡ bitOf (c .core .c .outside) (lineOf g s)
+      → pin c (linePin g s) ≡ bitOf (c .core .c .outside) (linePin g s)
   line-pin A Input on = pin-by-role c 4 (lit< tt) ∙ ap (levelAs c 4) (line-role (c .core .word) A Input on)
   line-pin A Output on = pin-by-role c 6 (lit< tt) ∙ ap (levelAs c 6) (line-role (c .core .word) A Output on)
   line-pin B Input on = pin-by-role c 2 (lit< tt) ∙ ap (levelAs c 2) (line-role (c .core .word) B Input on)
@@ -102,7 +102,7 @@ module _ (c : Chip) where
   intr-pin A s on = pin-by-role c 3 (lit< tt) ∙ ap (levelAs c 3) (intr-role (c .core .word) A s on)
   intr-pin B s on = pin-by-role c 0 (lit< tt) ∙ ap (levelAs c 0) (intr-role (c .core .word) B s on)
 
-  pub told-enable : (g : Group) (s : Side) → strobed (c .core .word) g s ≡ true → told c (lineOf g s) ≡ enableOf (c .core .inte) g s
+  pub told-enable : (g : Group) (s : Side) → strobed (c .core .word) g s ≡ true → told c (linePin g s) ≡ enableOf (c .core .inte) g s
   told-enable A Input on = told-by-role c 4 (lit< tt) ∙ ap (readAs c 4) (line-role (c .core .word) A Input on)
   told-enable A Output on = told-by-role c 6 (lit< tt) ∙ ap (readAs c 6) (line-role (c .core .word) A Output on)
   told-enable B Input on = told-by-role c 2 (lit< tt) ∙ ap (readAs c 2) (line-role (c .core .word) B Input on)

@@ -11,7 +11,7 @@ use Rattle.chip.specs.declared.Chip.{Chip}
 use Rattle.chip.specs.Handshakes.{ownAddress}
 use Rattle.ports.specs.declared.Pins.{Pins}
 use Rattle.ports.specs.Pins.{pinsOf}
-use Rattle.laws.specs.PlainBits.{bothWays, handshake, into, used, intoC}
+use Rattle.laws.specs.PlainBits.{goesBothWays, handshake, into, used, intoC}
 use Rattle.laws.specs.Chart.{LinesCharted, AsCharted}
 use Rattle.laws.proofs.PlainBits.{by-pin}
 use Rattle.laws.proofs.OneWay.{output-drives, input-undriven}
@@ -21,7 +21,7 @@ neither : (six five : Bool) → (six || five) ≡ false → six ≡ false
 neither true five none = none
 neither false five none = refl
 
-one-way : (w : ℕ) (g : Group) → handshake w g ≡ false → bothWays w g ≡ false
+one-way : (w : ℕ) (g : Group) → handshake w g ≡ false → goesBothWays w g ≡ false
 one-way w A none = neither (bitOf w 6) (bitOf w 5) none
 one-way w B none = refl
 
@@ -31,8 +31,8 @@ none-on two one way a b = rw (a, b)
 
 unused : (w : ℕ) → handshake w A ≡ false → handshake w B ≡ false → (n : ℕ) → n < 8 → used w n ≡ false
 unused w a b =
-    let taking = none-on (bothWays w A) (handshake w A) (into w A) (one-way w A a) a in
-    let giving = none-on (bothWays w A) (handshake w A) (not (into w A)) (one-way w A a) a in
+    let taking = none-on (goesBothWays w A) (handshake w A) (into w A) (one-way w A a) a in
+    let giving = none-on (goesBothWays w A) (handshake w A) (not (into w A)) (one-way w A a) a in
     by-pin (λ n. used w n ≡ false) b b b a taking taking giving giving
 
 module _ (c : Chip) where

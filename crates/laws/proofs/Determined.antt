@@ -2,6 +2,8 @@
 -- Rests on bits' Determined.
 use Rattle.bits.proofs.Determined.{Determines, equation-determines}
 use Rattle.bits.proofs as bits
+use Rattle.events.proofs as events
+use Rattle.bus.proofs as bus
 use Rattle.control.proofs as control
 use Rattle.roles.proofs as roles
 use Rattle.channel.proofs as channel
@@ -31,6 +33,15 @@ pair-determined c x y = equation-determines
 
 pub choose-determined : Determines bits.choose.ended bits.choose.Reads.Learnt
 choose-determined c x y = equation-determines
+
+pub is-kind-determined : Determines events.is_kind.ended events.is_kind.Reads.Learnt
+is-kind-determined c x y = equation-determines
+
+pub operands-determined : Determines events.operands.ended events.operands.Reads.Learnt
+operands-determined c x y = equation-determines
+
+pub bus-number-determined : Determines bus.number.ended bus.number.Reads.Learnt
+bus-number-determined c x y = equation-determines
 
 pub mode-determined : Determines control.mode.mode.ended control.mode.mode.Reads.Learnt
 mode-determined c x y = equation-determines
@@ -86,6 +97,18 @@ find-determined c x y = equation-determines
 pub tally-determined : Determines chip.channels.tally.ended chip.channels.tally.Reads.Learnt
 tally-determined c x y = equation-determines
 
+pub strobed-determined : Determines chip.handshakes.strobed.ended chip.handshakes.strobed.Reads.Learnt
+strobed-determined c x y = equation-determines
+
+pub line-pin-determined : Determines chip.handshakes.line_pin.ended chip.handshakes.line_pin.Reads.Learnt
+line-pin-determined c x y = equation-determines
+
+pub enable-determined : Determines chip.handshakes.enable.ended chip.handshakes.enable.Reads.Learnt
+enable-determined c x y = equation-determines
+
+pub running-determined : Determines chip.handshakes.running.ended chip.handshakes.running.Reads.Learnt
+running-determined c x y = equation-determines
+
 pub status-determined : Determines status.status.ended status.status.Reads.Learnt
 status-determined c x y = equation-determines
 
@@ -122,7 +145,7 @@ pins-determined c x y = equation-determines
 pub step-determined : Determines step.step.ended step.step.Reads.Learnt
 step-determined c x y = equation-determines
 
-pub number-determined : Determines step.numbers.number.ended step.numbers.number.Reads.Learnt
+pub number-determined : Determines step.number.ended step.number.Reads.Learnt
 number-determined c x y = equation-determines
 
 pub reset-determined : Determines step.kinds.reset.ended step.kinds.reset.Reads.Learnt

@@ -2,18 +2,20 @@
 -- the theorems on the flags.
 -- Rests on ChannelPins.
 use mathlib.Core.Path.{_≡_, _∙_, refl, sym, subst}
-use mathlib.Core.Bool.{Bool, true, false, cond, _&&_}
+use mathlib.Core.Bool.{true, false, _&&_}
 use Prim.Native.Nat.{ℕ}
-use lib.Dec.{T, eqb}
+use lib.Dec.{eqb}
 use Rattle.bits.specs.Bit.{bitOf}
+use Rattle.events.specs.Kinds.{isKind}
+use Rattle.bus.specs.Refusals.{numberOf}
+use Rattle.bus.specs.declared.Phase.{Phase}
 use Rattle.control.specs.declared.Group.{Group}
 use Rattle.channel.specs.declared.Side.{Side}
-use Rattle.chip.specs.declared.Phase.{Phase}
 use Rattle.chip.specs.declared.Chip.{Chip}
-use Rattle.chip.specs.Handshakes.{strobed, lineOf}
+use Rattle.chip.specs.Handshakes.{strobed, linePin}
 use Rattle.status.specs.Status.{flagAt}
 use Rattle.levels.specs.Levels.{fallen, lineFalls}
-use Rattle.step.specs.Numbers.{numberOf}
+use Rattle.step.specs.Step.{limits}
 use Rattle.laws.specs.Seen.{pin, flagPin, lowers}
 use Rattle.laws.proofs.ChannelPins.{flag-pin, line-pin}
 
@@ -25,7 +27,7 @@ flag-under c c′ g s on same =
 
 -- A line that falls, as the pins show it.
 pub line-falls : (c : Chip) (g : Group) (s : Side) (d : ℕ) → strobed (c .core .word) g s ≡ true
-    → pin c (lineOf g s) ≡ true → bitOf d (lineOf g s) ≡ false → lineFalls (c .core) d g s ≡ true
+    → pin c (linePin g s) ≡ true → bitOf d (linePin g s) ≡ false → lineFalls (c .core) d g s ≡ true
 unfolding fallen
 line-falls c g s d on high low = rw (on, sym (line-pin c g s on) ∙ high, low)
 
@@ -34,15 +36,6 @@ pub seen-falls : (c : Chip) (g : Group) (s : Side) (x d : ℕ) → strobed (c .c
 unfolding fallen
 seen-falls c g s x d on = rw (on, line-pin c g s on)
 
-pub levels-accepted : (ph : Phase) → numberOf ph 5 2 ≡ 0
-unfolding numberOf
+pub levels-accepted : (ph : Phase) → numberOf limits ph 5 2 ≡ 0
+unfolding numberOf isKind
 levels-accepted ph = refl
-
--- What holds either way.
-pub either-way : {X Y : Type 0} (P : X → Y) (v : Y) (b : Bool) (y n : X) → P y ≡ v → P n ≡ v → P (cond b y n) ≡ v
-either-way P v true y n hy hn = hy
-either-way P v false y n hy hn = hn
-
--- What is so and not so.
-pub contrary : (b : Bool) → b ≡ false → b ≡ true → ⊥
-contrary b off on = subst T (sym on ∙ off) tt

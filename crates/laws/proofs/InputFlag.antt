@@ -1,41 +1,42 @@
 -- IBF as the sheet has it, in every state: set by the fall of STB, reset by the end of the read, and moved by nothing else but a mode word and a
 -- reset ("Handshake").
--- Rests on FillAfter, FlagAfter, ChannelPins, the channel's Left, reads' and levels' After, and the step's Ends and Outcome.
+-- Rests on FillAfter, FlagAfter, ChannelPins, bits' Logic, the channel's ConditionsLeft, reads' and levels' PortsAfter, and the step's Ends and Outcome.
 use mathlib.Core.Path.{_≡_, _∙_, refl, ap, sym}
 use mathlib.Core.Bool.{Bool, true, false, _||_, or-true}
 use Prim.Native.Nat.{ℕ}
 use Rattle.bits.specs.Bit.{bitOf}
+use Rattle.bits.proofs.Logic.{contrary}
+use Rattle.bus.specs.declared.Phase.the-variants.{Reading}
 use Rattle.control.specs.declared.Group.{Group}
 use Rattle.control.specs.Mode.{strobedInput}
 use Rattle.channel.specs.declared.Side.the-variants.{Input}
 use Rattle.channel.specs.declared.Fill.{Fill}
 use Rattle.channel.specs.declared.Fill.the-variants.{Empty, Waiting, Fetching}
 use Rattle.channel.specs.Channel.{flagOf}
-use Rattle.channel.proofs.Left.{leaves, offer-waits, end-read-empties}
-use Rattle.chip.specs.declared.Phase.the-variants.{Reading}
+use Rattle.channel.proofs.ConditionsLeft.{leaves, offer-waits, end-read-empties}
 use Rattle.chip.specs.declared.Core.{Core}
 use Rattle.chip.specs.declared.Chip.{Chip}
 use Rattle.chip.specs.State.{portOf, channelOf}
-use Rattle.chip.specs.Handshakes.{strobed, lineOf, ownAddress, reading}
+use Rattle.chip.specs.Handshakes.{strobed, linePin, ownAddress, reading}
 use Rattle.status.specs.Status.{flagAt}
-use Rattle.reads.specs.Read.{endedRead}
-use Rattle.reads.proofs.After.{begun-around, ended-input, ended-around}
-use Rattle.levels.specs.Levels.{lineFalls, levelled}
-use Rattle.levels.proofs.After.{levelled-input, levelled-word}
+use Rattle.reads.specs.Read.{afterReadEnds}
+use Rattle.reads.proofs.PortsAfter.{begun-surrounded, ended-input, ended-surrounded}
+use Rattle.levels.specs.Levels.{lineFalls, afterLevels}
+use Rattle.levels.proofs.PortsAfter.{levels-input, levels-word}
 use Rattle.step.specs.Step.{stepOf}
 use Rattle.step.proofs.Ends.{read-ends}
 use Rattle.step.proofs.Outcome.{step-accepts, step-either}
 use Rattle.laws.specs.Seen.{pin, flagPin, makesAnew}
 use Rattle.laws.specs.Flags.{movesIbf}
 use Rattle.laws.proofs.ChannelPins.{flag-pin}
-use Rattle.laws.proofs.FillAfter.{by-event}
-use Rattle.laws.proofs.FlagAfter.{flag-under, line-falls, seen-falls, levels-accepted, contrary}
+use Rattle.laws.proofs.FillAfter.{fill-by-event}
+use Rattle.laws.proofs.FlagAfter.{flag-under, line-falls, seen-falls, levels-accepted}
 
-strobe-sets : (c : Core) (d : ℕ) (g : Group) → lineFalls c d g Input ≡ true → flagAt (levelled c 2 d) g Input ≡ true
+strobe-sets : (c : Core) (d : ℕ) (g : Group) → lineFalls c d g Input ≡ true → flagAt (afterLevels c 2 d) g Input ≡ true
 unfolding flagOf
-strobe-sets c d g fell = rw (levelled-input c 2 d g, fell, offer-waits (channelOf c g Input) (portOf c g .outside))
+strobe-sets c d g fell = rw (levels-input c 2 d g, fell, offer-waits (channelOf c g Input) (portOf c g .outside))
 
-done-resets : (c : Core) (x : ℕ) (g : Group) → strobedInput (c .word) g ≡ true → ownAddress x g ≡ true → flagAt (endedRead c x) g Input ≡ false
+done-resets : (c : Core) (x : ℕ) (g : Group) → strobedInput (c .word) g ≡ true → ownAddress x g ≡ true → flagAt (afterReadEnds c x) g Input ≡ false
 unfolding flagOf
 done-resets c x g on own = rw (ended-input c x g, on, own, end-read-empties (channelOf c g Input))
 
@@ -48,15 +49,15 @@ fetching Fetching = refl
 
 module _ (c : Chip) (g : Group) (on : strobed (c .core .word) g Input ≡ true) where
   -- The fall of STB sets IBF.
-  pub strobe-sets-ibf : (d : ℕ) → pin c (lineOf g Input) ≡ true → bitOf d (lineOf g Input) ≡ false → pin (stepOf c 5 2 d .chip) (flagPin g Input) ≡ true
+  pub strobe-sets-ibf : (d : ℕ) → pin c (linePin g Input) ≡ true → bitOf d (linePin g Input) ≡ false → pin (stepOf c 5 2 d .chip) (flagPin g Input) ≡ true
   strobe-sets-ibf d high low =
       rw (step-accepts c 5 2 d (levels-accepted (c .phase)))
-      (flag-under c _ g Input on (levelled-word (c .core) 2 d) ∙ strobe-sets (c .core) d g (line-falls c g Input d on high low))
+      (flag-under c _ g Input on (levels-word (c .core) 2 d) ∙ strobe-sets (c .core) d g (line-falls c g Input d on high low))
 
   -- The end of the read resets IBF.
   pub end-resets-ibf : (p x d : ℕ) → c .phase ≡ Reading p → ownAddress p g ≡ true → pin (stepOf c 2 x d .chip) (flagPin g Input) ≡ false
   end-resets-ibf p x d phase own =
-      rw (read-ends c p x d phase) (flag-under c _ g Input on (ended-around (c .core) p .word) ∙ done-resets (c .core) p g on own)
+      rw (read-ends c p x d phase) (flag-under c _ g Input on (ended-surrounded (c .core) p .word) ∙ done-resets (c .core) p g on own)
 
   -- As long as the word strobes the channel, IBF stays as it is through every event but those that are named to move it.
   pub ibf-held : (v : Bool) → pin c (flagPin g Input) ≡ v → (k x d : ℕ) → movesIbf c g v k x d ≡ false
@@ -65,7 +66,7 @@ module _ (c : Chip) (g : Group) (on : strobed (c .core .word) g Input ≡ true) 
   ibf-held true set k x d none still =
       let unmoved = contrary (movesIbf c g true k x d) none in
       let here = sym (flag-pin c g Input on) ∙ set in
-      flag-pin _ g Input still ∙ by-event (λ f. flagOf Input f ≡ true) c g Input k x d (record {
+      flag-pin _ g Input still ∙ fill-by-event (λ f. flagOf Input f ≡ true) c g Input k x d (record {
         stays = here;
         reset = λ zero. absurd (unmoved (rw (zero)));
         renewal = λ two anew. absurd (unmoved (rw (two) (ap (λ (r : Bool). r || reading (c .phase) g) anew)));
@@ -76,7 +77,7 @@ module _ (c : Chip) (g : Group) (on : strobed (c .core .word) g Input ≡ true) 
   ibf-held false low k x d none still =
       let unmoved = contrary (movesIbf c g false k x d) none in
       let here = sym (flag-pin c g Input on) ∙ low in
-      flag-pin _ g Input still ∙ by-event (λ f. flagOf Input f ≡ false) c g Input k x d (record {
+      flag-pin _ g Input still ∙ fill-by-event (λ f. flagOf Input f ≡ false) c g Input k x d (record {
         stays = here;
         reset = λ zero. refl;
         renewal = λ two anew. refl;
@@ -89,4 +90,4 @@ module _ (c : Chip) (g : Group) (on : strobed (c .core .word) g Input ≡ true) 
   pub begin-keeps-ibf : (x d : ℕ) → pin c (flagPin g Input) ≡ true → pin (stepOf c 1 x d .chip) (flagPin g Input) ≡ true
   begin-keeps-ibf x d set =
       ibf-held true set 1 x d refl
-      (step-either (λ c. strobed (c .core .word) g Input ≡ true) c 1 x d on (λ ok. rw (begun-around (c .core) x .word) (on)))
+      (step-either (λ c. strobed (c .core .word) g Input ≡ true) c 1 x d on (λ ok. rw (begun-surrounded (c .core) x .word) (on)))

@@ -1,43 +1,40 @@
 -- What loads an input latch, in every state: the fall of STB, and levels on the port's own lines while STB is low. Nothing else but a mode
 -- word and a reset touches it ("Handshake").
--- Rests on ChannelPins, FlagAfter, OwnPort, Refusals, the channel's Left, ports' Strobed, chip's OnPort and Surrounded, reads', writes' and levels'
--- After, and the step's ByKind, Ends and Outcome.
+-- Rests on ByEvent, ChannelPins, FlagAfter, OwnPort, bits' Logic, the channel's ConditionsLeft, ports' Strobed, chip's OnPort and Surrounded,
+-- settings', reads', writes' and levels' PortsAfter, and the step's Outcome.
 use mathlib.Core.Path.{_≡_, _∙_, refl, ap, sym, subst}
 use mathlib.Core.Bool.{Bool, true, false, cond, not, _&&_, _||_, and-false}
 use Prim.Native.Nat.{ℕ}
 use lib.Dec.{T, eqb}
 use Rattle.bits.specs.Bit.{bitOf}
+use Rattle.bits.proofs.Logic.{contrary, either-way}
 use Rattle.control.specs.declared.Group.{Group}
 use Rattle.control.specs.Mode.{strobedInput}
 use Rattle.channel.specs.declared.Side.the-variants.{Input}
 use Rattle.channel.specs.declared.Fill.the-variants.{Fetching}
 use Rattle.channel.specs.declared.Channel.{Channel}
 use Rattle.channel.specs.Moves.{afterOffer, afterFollow, afterHandOver, afterEndRead}
-use Rattle.channel.proofs.Left.{offer-latches, follow-latches, hand-over-keeps, end-read-keeps}
-use Rattle.chip.specs.declared.Phase.the-variants.{Writing}
+use Rattle.channel.proofs.ConditionsLeft.{offer-latches, follow-latches, hand-over-keeps, end-read-keeps}
 use Rattle.chip.specs.declared.Core.{Core}
 use Rattle.chip.specs.declared.Chip.{Chip}
 use Rattle.chip.specs.State.{portOf, channelOf}
-use Rattle.chip.specs.Handshakes.{strobed, lineOf, ownAddress}
+use Rattle.chip.specs.Handshakes.{strobed, linePin, ownAddress}
 use Rattle.chip.proofs.OnPort.{lines-not-own}
-use Rattle.chip.proofs.Surrounded.{spared-port}
-use Rattle.reads.specs.Read.{begunRead, endedRead}
-use Rattle.reads.proofs.After.{begun-input, ended-input}
-use Rattle.writes.specs.Write.{written}
-use Rattle.writes.proofs.After.{by-address}
-use Rattle.levels.specs.Levels.{fallen, lineFalls, letsThrough, levelled}
-use Rattle.levels.proofs.After.{levelled-input, levelled-word}
+use Rattle.chip.proofs.Surrounded.{Spared, latch-spares, spared-channel}
+use Rattle.settings.proofs.PortsAfter.{bit-spares}
+use Rattle.reads.specs.Read.{afterReadBegins, afterReadEnds}
+use Rattle.reads.proofs.PortsAfter.{begun-input, ended-input}
+use Rattle.levels.specs.Levels.{fallen, lineFalls, letsThrough, afterLevels}
+use Rattle.levels.proofs.PortsAfter.{levels-input, levels-word}
 use Rattle.ports.specs.Reads.{readOf}
 use Rattle.ports.proofs.Strobed.{strobed-reads}
 use Rattle.step.specs.Step.{stepOf}
-use Rattle.step.proofs.ByKind.{by-kind}
-use Rattle.step.proofs.Ends.{by-phase}
-use Rattle.step.proofs.Outcome.{step-accepts, step-either}
+use Rattle.step.proofs.Outcome.{step-accepts}
 use Rattle.laws.specs.Seen.{pin, lowers, makesAnew}
 use Rattle.laws.specs.Loads.{comesUnderLow, loads}
-use Rattle.laws.proofs.Refusals.{no-kind-refused}
+use Rattle.laws.proofs.ByEvent.{not-anew, by-event}
 use Rattle.laws.proofs.ChannelPins.{line-pin}
-use Rattle.laws.proofs.FlagAfter.{line-falls, levels-accepted, either-way}
+use Rattle.laws.proofs.FlagAfter.{line-falls, levels-accepted}
 use Rattle.laws.proofs.OwnPort.{own-accepted, own-read}
 
 module _ (c : Core) (g : Group) where
@@ -53,34 +50,30 @@ module _ (c : Core) (g : Group) where
       → cond (strobedInput (c .word) g && ownAddress x g) moved channel .latch ≡ channel .latch
   taking-part x moved e = either-way (λ ch. ch .latch) (channel .latch) (strobedInput (c .word) g && ownAddress x g) moved channel e refl
 
-  begun : (x : ℕ) → Same (begunRead c x)
+  begun : (x : ℕ) → Same (afterReadBegins c x)
   begun x =
       ap (λ ch. ch .latch) (begun-input c x g)
       ∙ taking-part x (afterHandOver channel Fetching) (hand-over-keeps channel Fetching)
 
-  ended : (x : ℕ) → Same (endedRead c x)
+  ended : (x : ℕ) → Same (afterReadEnds c x)
   ended x =
       ap (λ ch. ch .latch) (ended-input c x g)
       ∙ taking-part x (afterEndRead channel) (end-read-keeps channel)
 
-  stored : (x d : ℕ) → makesAnew (Writing x d) ≡ false → Same (written c x d)
-  stored x d other =
-      by-address Same c x d
-      (λ mode. absurd (subst T (sym mode ∙ other) tt))
-      (λ mode own c′ k. ap (λ p. p .input .latch) (spared-port k g))
-      (λ mode c′ k. ap (λ ch. ch .latch) (k .input g))
+  spared : {c′ : Core} → Spared c′ c → Same c′
+  spared k = ap (λ ch. ch .latch) (spared-channel k g Input)
 
-  through-latch : (x d : ℕ) → ownAddress x g ≡ true → letsThrough c g ≡ true → channelOf (levelled c x d) g Input .latch ≡ d
-  through-latch x d own through = ap (λ ch. ch .latch) (levelled-input c x d g) ∙ go (eqb x 2) refl
+  through-latch : (x d : ℕ) → ownAddress x g ≡ true → letsThrough c g ≡ true → channelOf (afterLevels c x d) g Input .latch ≡ d
+  through-latch x d own through = ap (λ ch. ch .latch) (levels-input c x d g) ∙ go (eqb x 2) refl
     where
       go : (two : Bool) → eqb x 2 ≡ two
           → cond (two && lineFalls c d g Input) (afterOffer channel (portOf c g .outside))
           (cond (ownAddress x g && letsThrough c g) (afterFollow channel d) channel) .latch ≡ d
-      go true two = absurd (subst T (sym own ∙ lines-not-own x two g) tt)
+      go true two = absurd (contrary (ownAddress x g) (lines-not-own x two g) own)
       go false two = rw (own, through, follow-latches channel d)
 
-  fallen-latch : (d : ℕ) → lineFalls c d g Input ≡ true → channelOf (levelled c 2 d) g Input .latch ≡ portOf c g .outside
-  fallen-latch d fell = ap (λ ch. ch .latch) (levelled-input c 2 d g) ∙ rw (fell, offer-latches channel (portOf c g .outside))
+  fallen-latch : (d : ℕ) → lineFalls c d g Input ≡ true → channelOf (afterLevels c 2 d) g Input .latch ≡ portOf c g .outside
+  fallen-latch d fell = ap (λ ch. ch .latch) (levels-input c 2 d g) ∙ rw (fell, offer-latches channel (portOf c g .outside))
 
 -- Levels that neither lower STB nor come while it is low move nothing.
 unmoved : (ch offered followed : Channel) (fell through : Bool) → (fell || through) ≡ false
@@ -92,20 +85,20 @@ unmoved ch offered followed false false none = refl
 module _ (c : Chip) (g : Group) where
   -- The line of STB, as the pins show it where the input is strobed.
   abbrev seen : Bool
-  seen = pin c (lineOf g Input)
+  seen = pin c (linePin g Input)
 
-  unloaded : (x d : ℕ) → loads c g x d ≡ false → Same (c .core) g (levelled (c .core) x d)
+  unloaded : (x d : ℕ) → loads c g x d ≡ false → Same (c .core) g (afterLevels (c .core) x d)
   unfolding fallen
-  unloaded x d none = ap (λ ch. ch .latch) (levelled-input (c .core) x d g) ∙ go (strobed (c .core .word) g Input) refl none
+  unloaded x d none = ap (λ ch. ch .latch) (levels-input (c .core) x d g) ∙ go (strobed (c .core .word) g Input) refl none
     where
       ch : Channel
       ch = channelOf (c .core) g Input
 
       was : Bool
-      was = bitOf (c .core .c .outside) (lineOf g Input)
+      was = bitOf (c .core .c .outside) (linePin g Input)
 
       low : Bool
-      low = not (bitOf d (lineOf g Input))
+      low = not (bitOf d (linePin g Input))
 
       go : (on : Bool) → strobed (c .core .word) g Input ≡ on → (on && (lowers c g Input x d || comesUnderLow c g x)) ≡ false
           → cond (eqb x 2 && (strobed (c .core .word) g Input && (was && low))) (afterOffer ch (portOf (c .core) g .outside))
@@ -128,33 +121,32 @@ module _ (c : Chip) (g : Group) where
   low-follows x d on low own =
       let through : letsThrough (c .core) g ≡ true = rw (on, sym (line-pin c g Input on) ∙ low) in
       rw (step-accepts c 5 x d (own-accepted (c .phase) x g own))
-      (latch-read x (levelled (c .core) x d) on (levelled-word (c .core) x d) own ∙ through-latch (c .core) g x d own through)
+      (latch-read x (afterLevels (c .core) x d) on (levels-word (c .core) x d) own ∙ through-latch (c .core) g x d own through)
 
   -- A fall of STB brings in what stands on the port's lines.
-  pub fall-loads : (x d : ℕ) → strobed (c .core .word) g Input ≡ true → seen ≡ true → bitOf d (lineOf g Input) ≡ false → ownAddress x g ≡ true
+  pub fall-loads : (x d : ℕ) → strobed (c .core .word) g Input ≡ true → seen ≡ true → bitOf d (linePin g Input) ≡ false → ownAddress x g ≡ true
       → readOf (stepOf c 5 2 d .chip) x ≡ portOf (c .core) g .outside
   fall-loads x d on high low own =
       rw (step-accepts c 5 2 d (levels-accepted (c .phase)))
-      (latch-read x (levelled (c .core) 2 d) on (levelled-word (c .core) 2 d) own
+      (latch-read x (afterLevels (c .core) 2 d) on (levels-word (c .core) 2 d) own
       ∙ fallen-latch (c .core) g d (line-falls c g Input d on high low))
-
-  abbrev Still : Chip → Type 0
-  Still c′ = Same (c .core) g (c′ .core)
 
   -- Whatever is not said to load the latch leaves it, but for a mode word and a reset. So levels leave it while STB is high, and wherever the
   -- port is no strobed input; a rise of STB loads nothing; and a latch that a mode word zeroed while STB was low is 00 until the next levels
   -- or the next fall.
   pub latch-stays : (k x d : ℕ) → ¬ (k ≡ 0) → (k ≡ 2 → makesAnew (c .phase) ≡ false) → (k ≡ 5 → loads c g x d ≡ false)
-      → Still (stepOf c k x d .chip)
-  latch-stays k x d =
-      by-kind (λ k. ¬ (k ≡ 0) → (k ≡ 2 → makesAnew (c .phase) ≡ false) → (k ≡ 5 → loads c g x d ≡ false) → Still (stepOf c k x d .chip))
-      (λ reset renewal load. absurd (reset refl))
-      (λ reset renewal load. step-either Still c 1 x d refl (λ ok. begun (c .core) g x))
-      (λ reset renewal load. by-phase Still c x d
-      (λ phase. refl)
-      (λ p phase. ended (c .core) g p)
-      (λ a b phase. stored (c .core) g a b (ap makesAnew (sym phase) ∙ renewal refl)))
-      (λ reset renewal load. step-either Still c 3 x d refl (λ ok. refl))
-      (λ reset renewal load. step-either Still c 5 x d refl (λ ok. unloaded x d (load refl)))
-      (λ k none reset renewal load. rw (no-kind-refused c k x d none))
-      k
+      → Same (c .core) g (stepOf c k x d .chip .core)
+  latch-stays k x d reset renewal load = by-event (λ c′. Same (c .core) g (c′ .core)) c k x d (record {
+    stays = refl;
+    reset = λ zero. absurd (reset zero);
+    readBegins = λ one ok. begun (c .core) g x;
+    ends = λ two. record {
+      read = λ p phase. ended (c .core) g p;
+      modeWord = λ w phase seven. not-anew (renewal two) phase seven;
+      bitWord = λ w phase seven. spared (c .core) g (bit-spares (c .core) w seven);
+      lines = λ b phase. spared (c .core) g (latch-spares (c .core) _);
+      port = λ a b phase c′ stored. ap (λ ch. ch .latch) (stored .input g);
+    };
+    writeBegins = λ three ok. refl;
+    levels = λ five ok. unloaded x d (load five);
+  })

@@ -6,6 +6,8 @@ use mathlib.Core.Bool.{Bool, true, false, not, _&&_, _||_, or-false}
 use Prim.Native.Nat.{ℕ}
 use borrow.Author.Tests.{not-true}
 use Rattle.bits.specs.Bit.{bitOf}
+use Rattle.bus.specs.Refusals.{numberOf}
+use Rattle.bus.specs.declared.Phase.the-variants.{Idle}
 use Rattle.control.specs.declared.Group.{Group}
 use Rattle.control.specs.declared.Group.the-variants.{A}
 use Rattle.control.specs.Mode.{modeOf, inputOf}
@@ -13,13 +15,11 @@ use Rattle.control.proofs.ModeTwo.{mode-2-both-ways}
 use Rattle.control.proofs.Strobed.{mode-1-takes, mode-1-gives}
 use Rattle.channel.specs.declared.Side.{Side}
 use Rattle.channel.specs.declared.Side.the-variants.{Input, Output}
-use Rattle.chip.specs.declared.Phase.the-variants.{Idle}
 use Rattle.chip.specs.declared.Chip.{Chip}
-use Rattle.chip.specs.Handshakes.{strobed, lineOf, enableOf, ownAddress, running}
+use Rattle.chip.specs.Handshakes.{strobed, linePin, enableOf, ownAddress, running}
 use Rattle.status.specs.Status.{flagAt, requestOf, intrOf}
 use Rattle.status.proofs.ByReason.{quiet}
-use Rattle.step.specs.Numbers.{numberOf}
-use Rattle.step.specs.Step.{stepOf}
+use Rattle.step.specs.Step.{limits, stepOf}
 use Rattle.step.proofs.Outcome.{step-accepts}
 use Rattle.laws.specs.Seen.{pin, intrPin}
 use Rattle.laws.specs.Halves.{half, other}
@@ -63,7 +63,7 @@ intr-in-mode-1 c g s one on =
 pub cycle-drops-half : (c : Chip) (g : Group) (s : Side) → running (c .phase) g s ≡ true → requestOf c g s ≡ false
 unfolding requestOf
 cycle-drops-half c g s r =
-    rw (r) (dropped (strobed (c .core .word) g s) (enableOf (c .core .inte) g s) (flagAt (c .core) g s) (bitOf (c .core .c .outside) (lineOf g s)))
+    rw (r) (dropped (strobed (c .core .word) g s) (enableOf (c .core .inte) g s) (flagAt (c .core) g s) (bitOf (c .core .c .outside) (linePin g s)))
 
 -- So INTR is low in mode 1 while the own cycle runs, and in mode 2 it is the other half.
 pub intr-low-in-own-cycle : (c : Chip) (g : Group) (s : Side) → modeOf (c .core .word) g ≡ 1
@@ -91,8 +91,8 @@ none-runs g Input = refl
 none-runs g Output = refl
 
 -- The own cycle runs from its beginning: an accepted read for an input, an accepted write for an output.
-pub begun-read-runs : (c : Chip) (g : Group) (x d : ℕ) → numberOf (c .phase) 1 x ≡ 0 → running (stepOf c 1 x d .chip .phase) g Input ≡ ownAddress x g
+pub begun-read-runs : (c : Chip) (g : Group) (x d : ℕ) → numberOf limits (c .phase) 1 x ≡ 0 → running (stepOf c 1 x d .chip .phase) g Input ≡ ownAddress x g
 begun-read-runs c g x d ok = rw (step-accepts c 1 x d ok)
 
-pub begun-write-runs : (c : Chip) (g : Group) (x d : ℕ) → numberOf (c .phase) 3 x ≡ 0 → running (stepOf c 3 x d .chip .phase) g Output ≡ ownAddress x g
+pub begun-write-runs : (c : Chip) (g : Group) (x d : ℕ) → numberOf limits (c .phase) 3 x ≡ 0 → running (stepOf c 3 x d .chip .phase) g Output ≡ ownAddress x g
 begun-write-runs c g x d ok = rw (step-accepts c 3 x d ok)

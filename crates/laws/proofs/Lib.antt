@@ -1,7 +1,7 @@
-pub mod Refusals
-pub mod Places
+pub mod Cycles
 pub mod PlainBits
 pub mod ChannelPins
+pub mod ByEvent
 pub mod OneEnd
 pub mod Interrupts
 pub mod Quiet
@@ -9,7 +9,6 @@ pub mod Altered
 pub mod Enables
 pub mod FillAfter
 pub mod FlagAfter
-pub mod Beginnings
 pub mod Halves
 pub mod InputFlag
 pub mod OutputFlag
@@ -26,6 +25,5 @@ pub mod Chart
 pub mod OtherModels
 pub mod Marked
 pub mod Determined
-pub mod Operands
 pub mod Unreached
 pub mod Unstrobed

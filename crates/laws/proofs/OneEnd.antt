@@ -1,26 +1,27 @@
 -- The one end of a cycle, in every state: it is accepted while any cycle runs, a read that ends leaves the outputs, and a write that ends
 -- leaves the inputs, unless it was of a mode word; and 04, which is no kind, is refused whatever its operands ("Events and numbers").
--- Rests on Refusals, chip's Surrounded, reads' and writes' After, and the step's Ends.
-use mathlib.Core.Path.{_≡_, _∙_, refl, ap, sym, subst}
+-- Rests on Cycles, bits' Logic, chip's Surrounded, reads' and writes' PortsAfter, and the step's Ends.
+use mathlib.Core.Path.{_≡_, refl}
 use mathlib.Core.Bool.{false}
 use Prim.Native.Nat.{ℕ}
-use lib.Dec.{T}
+use Rattle.bits.proofs.Logic.{contrary}
+use Rattle.events.specs.Kinds.{isKind}
+use Rattle.bus.specs.declared.Phase.{Phase}
+use Rattle.bus.specs.declared.Phase.the-variants.{Idle, Reading, Writing}
 use Rattle.control.specs.declared.Group.{Group}
 use Rattle.channel.specs.declared.Side.the-variants.{Input, Output}
-use Rattle.chip.specs.declared.Phase.{Phase}
-use Rattle.chip.specs.declared.Phase.the-variants.{Idle, Reading, Writing}
 use Rattle.chip.specs.declared.Core.{Core}
 use Rattle.chip.specs.declared.Chip.{Chip}
 use Rattle.chip.specs.State.{channelOf}
-use Rattle.chip.proofs.Surrounded.{spared-port}
-use Rattle.reads.proofs.After.{ended-output}
-use Rattle.writes.specs.Write.{written}
-use Rattle.writes.proofs.After.{by-address}
+use Rattle.chip.proofs.Surrounded.{spared-channel}
+use Rattle.reads.proofs.PortsAfter.{ended-output}
+use Rattle.writes.specs.Write.{afterWriteEnds}
+use Rattle.writes.proofs.PortsAfter.{by-address}
 use Rattle.step.specs.Step.{refused, stepOf}
 use Rattle.step.proofs.Ends.{read-ends, write-ends}
 use Rattle.laws.specs.Seen.{makesAnew}
 use Rattle.laws.specs.Anew.{Freed}
-use Rattle.laws.proofs.Refusals.{no-kind-refused}
+use Rattle.laws.proofs.Cycles.{no-kind-refused}
 
 -- The end of whatever runs is accepted. The idle bus itself refuses with 5: idle-ends-nothing, in the step's Ends.
 pub cycle-ends : (c : Chip) (x d : ℕ) → ¬ (c .phase ≡ Idle) → Freed (stepOf c 2 x d)
@@ -37,11 +38,11 @@ pub read-end-spares-outputs : (c : Chip) (p x d : ℕ) → c .phase ≡ Reading 
 read-end-spares-outputs c p x d phase g = rw (read-ends c p x d phase) (ended-output (c .core) p g)
 
 -- A write that ends leaves every input channel as it was, unless it was of a mode word.
-spares-input : (c : Core) (a b : ℕ) → makesAnew (Writing a b) ≡ false → (g : Group) → channelOf (written c a b) g Input ≡ channelOf c g Input
+spares-input : (c : Core) (a b : ℕ) → makesAnew (Writing a b) ≡ false → (g : Group) → channelOf (afterWriteEnds c a b) g Input ≡ channelOf c g Input
 spares-input c a b other g =
     by-address (λ c′. channelOf c′ g Input ≡ channelOf c g Input) c a b
-    (λ mode. absurd (subst T (sym mode ∙ other) tt))
-    (λ mode own c′ k. ap (λ p. p .input) (spared-port k g))
+    (λ mode. absurd (contrary (makesAnew (Writing a b)) other mode))
+    (λ mode own c′ k. spared-channel k g Input)
     (λ mode c′ k. k .input g)
 
 pub write-end-spares-inputs : (c : Chip) (a b x d : ℕ) → c .phase ≡ Writing a b → makesAnew (Writing a b) ≡ false → (g : Group)
@@ -50,4 +51,5 @@ write-end-spares-inputs c a b x d phase other g = rw (write-ends c a b x d phase
 
 -- 04, which stands between the kinds, is none, whatever its operands.
 pub four-is-no-kind : (c : Chip) (x d : ℕ) → stepOf c 4 x d ≡ refused c 1
+unfolding isKind
 four-is-no-kind c x d = no-kind-refused c 4 x d refl

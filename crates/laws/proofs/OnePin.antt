@@ -1,5 +1,5 @@
 -- Bit set/reset changes one bit of port C's latch, or one enable, or nothing, by plain bits of the mode word ("Writes and bit set/reset").
--- Rests on PlainBits, bits' BitLaws, settings' After, and the step's Ends.
+-- Rests on PlainBits, bits' BitLaws, settings' PortsAfter, and the step's Ends.
 use mathlib.Core.Path.{_≡_, refl, subst}
 use mathlib.Core.Bool.{Bool, true, false, cond, not, _&&_, _||_}
 use Prim.Native.Nat.{ℕ, _/_, _%_, _<_}
@@ -7,21 +7,21 @@ use native.Mathlib.Omega.{arith}
 use lib.Dec.{T, eqb}
 use Rattle.bits.specs.Bit.{bitOf}
 use Rattle.bits.proofs.BitLaws.{bit-of-with}
+use Rattle.bus.specs.declared.Phase.the-variants.{Writing}
 use Rattle.control.specs.declared.Group.{Group}
 use Rattle.control.specs.declared.Group.the-variants.{A, B}
 use Rattle.roles.specs.Role.{input, output}
 use Rattle.roles.specs.Pins.{handshakeRole}
 use Rattle.channel.specs.declared.Side.{Side}
 use Rattle.channel.specs.declared.Side.the-variants.{Input, Output}
-use Rattle.chip.specs.declared.Phase.the-variants.{Writing}
 use Rattle.chip.specs.declared.Enables.{Enables}
 use Rattle.chip.specs.declared.Core.{Core}
 use Rattle.chip.specs.declared.Chip.{Chip}
 use Rattle.chip.specs.State.{withEnables}
-use Rattle.chip.specs.Handshakes.{lineOf, enableOf}
-use Rattle.settings.specs.Commanded.{setAs, pinSet}
-use Rattle.settings.proofs.After.{bit-word}
-use Rattle.writes.specs.Write.{written}
+use Rattle.chip.specs.Handshakes.{linePin, enableOf}
+use Rattle.settings.specs.ControlWord.{setAs, pinSet}
+use Rattle.settings.proofs.PortsAfter.{bit-word}
+use Rattle.writes.specs.Write.{afterWriteEnds}
 use Rattle.step.specs.Step.{stepOf}
 use Rattle.step.proofs.Ends.{write-ends}
 use Rattle.laws.specs.PlainBits.{used, intoC, freeOutput}
@@ -32,7 +32,7 @@ use Rattle.laws.proofs.PlainBits.{by-pin, role-by-bits}
 abbrev put : Enables → ℕ → Bool → Enables
 put e n v = record { input = cond (eqb n 4) v (e .input); output = cond (eqb n 6) v (e .output); b = cond (eqb n 2) v (e .b) }
 
-put-enable : (e : Enables) (n : ℕ) (v : Bool) (g : Group) (s : Side) → enableOf (put e n v) g s ≡ cond (eqb n (lineOf g s)) v (enableOf e g s)
+put-enable : (e : Enables) (n : ℕ) (v : Bool) (g : Group) (s : Side) → enableOf (put e n v) g s ≡ cond (eqb n (linePin g s)) v (enableOf e g s)
 put-enable e n v A Input = refl
 put-enable e n v A Output = refl
 put-enable e n v B s = refl
@@ -85,8 +85,8 @@ module _ (c : Core) (v : Bool) where
     unfolding pinSet
     one-pin = rw (role-by-bits (c .word) n hn) (set (used (c .word) n) (bitOf (c .word) 1) (intoC (c .word) n))
 
-set-word : (c : Core) (d : ℕ) → bitOf d 7 ≡ false → written c 3 d ≡ pinSet c (d / 2 % 8) (bitOf d 0)
-unfolding written
+set-word : (c : Core) (d : ℕ) → bitOf d 7 ≡ false → afterWriteEnds c 3 d ≡ pinSet c (d / 2 % 8) (bitOf d 0)
+unfolding afterWriteEnds
 set-word c d clear = bit-word c d clear
 
 -- The end of a write of a control word with bit 7 clear.

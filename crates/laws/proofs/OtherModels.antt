@@ -7,18 +7,18 @@ use Prim.Native.Nat.{ℕ, _<_, _≤_}
 use lib.Dec.{ltb}
 use borrow.Author.Tests.{le-ltb}
 use Rattle.bits.specs.Bit.{bitOf}
+use Rattle.bus.specs.declared.Phase.the-variants.{Idle, Writing}
 use Rattle.control.specs.declared.Group.{Group}
 use Rattle.control.specs.declared.Group.the-variants.{A, B}
 use Rattle.roles.specs.Role.{Role, input, output, INTR, IBF, OBF, STB, ACK, roleOf}
 use Rattle.channel.specs.declared.Side.{Side}
 use Rattle.channel.specs.declared.Side.the-variants.{Input, Output}
-use Rattle.chip.specs.declared.Phase.the-variants.{Idle, Writing}
 use Rattle.chip.specs.declared.Core.{Core}
 use Rattle.chip.specs.declared.Chip.{Chip}
 use Rattle.chip.specs.State.{withLatch}
-use Rattle.chip.specs.Handshakes.{groupAt, strobed, lineOf, enableOf, ownAddress}
-use Rattle.writes.specs.Write.{latchWritten, written}
+use Rattle.chip.specs.Handshakes.{groupAt, strobed, linePin, enableOf, ownAddress}
 use Rattle.status.specs.Status.{flagAt, requestOf, intrOf}
+use Rattle.writes.specs.Write.{latchWritten, afterWriteEnds}
 use Rattle.ports.specs.Pins.{levelAs}
 use Rattle.step.specs.Step.{onBus, stepOf}
 use Rattle.step.proofs.Ends.{write-ends}
@@ -30,7 +30,7 @@ use Rattle.laws.proofs.Halves.{intr-after}
 
 -- A port C read tells the enable, whatever level STB or ACK has.
 pub read-tells-enable : (c : Chip) (g : Group) (s : Side) → strobed (c .core .word) g s ≡ true
-    → told c (lineOf g s) ≡ enableOf (c .core .inte) g s
+    → told c (linePin g s) ≡ enableOf (c .core .inte) g s
 read-tells-enable c g s on = told-enable c g s on
 
 -- A port C write beside a handshake of group A leaves bits 7 to 4 of the latch.
@@ -41,7 +41,7 @@ upper-stays w x d n beside above below =
 
 pub write-leaves-upper : (c : Chip) (b x d n : ℕ) → c .phase ≡ Writing 2 b → handshake (c .core .word) A ≡ true → 4 ≤ n → n < 8
     → bitOf (stepOf c 2 x d .chip .core .c .latch) n ≡ bitOf (c .core .c .latch) n
-unfolding written
+unfolding afterWriteEnds
 write-leaves-upper c b x d n phase beside above below =
     rw (write-ends c 2 b x d phase) (upper-stays (c .core .word) (c .core .c .latch) b n beside above below)
 
@@ -67,7 +67,7 @@ level-same c b x n ACK phase same = refl
 
 pub write-leaves-upper-pins : (c : Chip) (b x d n : ℕ) → c .phase ≡ Writing 2 b → handshake (c .core .word) A ≡ true → 4 ≤ n → n < 8
     → pin (stepOf c 2 x d .chip) n ≡ pin c n
-unfolding written
+unfolding afterWriteEnds
 write-leaves-upper-pins c b x d n phase beside above below =
     let latch = latchWritten (c .core .word) (c .core .c .latch) b in
     rw (write-ends c 2 b x d phase)

@@ -4,18 +4,20 @@ use mathlib.Core.Path.{_≡_}
 use mathlib.Core.Bool.{true}
 use Prim.Native.Nat.{ℕ}
 use borrow.Author.Tests.{eqb-true}
+use Rattle.events.specs.Kinds.{isKind}
+use Rattle.bus.specs.Refusals.{numberOf}
+use Rattle.bus.specs.declared.Phase.{Phase}
 use Rattle.control.specs.declared.Group.{Group}
 use Rattle.control.specs.declared.Group.the-variants.{A, B}
-use Rattle.chip.specs.declared.Phase.{Phase}
 use Rattle.chip.specs.declared.Chip.{Chip}
 use Rattle.chip.specs.State.{portOf}
 use Rattle.chip.specs.Handshakes.{ownAddress}
 use Rattle.ports.specs.Reads.{readPort, readOf}
 use Rattle.ports.specs.Pins.{drivesPort, pinsOfPort, pinsOf}
-use Rattle.step.specs.Numbers.{numberOf}
+use Rattle.step.specs.Step.{limits}
 
-pub own-accepted : (ph : Phase) (a : ℕ) (g : Group) → ownAddress a g ≡ true → numberOf ph 5 a ≡ 0
-unfolding numberOf
+pub own-accepted : (ph : Phase) (a : ℕ) (g : Group) → ownAddress a g ≡ true → numberOf limits ph 5 a ≡ 0
+unfolding numberOf isKind
 own-accepted ph a A own = rw (eqb-true a 0 own)
 own-accepted ph a B own = rw (eqb-true a 1 own)
 

@@ -19,7 +19,7 @@ use Rattle.roles.proofs.PinByMasks.{number-one}
 use Rattle.channel.specs.declared.Side.{Side}
 use Rattle.channel.specs.declared.Side.the-variants.{Input, Output}
 use Rattle.chip.specs.Handshakes.{strobed}
-use Rattle.laws.specs.PlainBits.{bothWays, handshake, into, handshakeOn, roleBy}
+use Rattle.laws.specs.PlainBits.{goesBothWays, handshake, into, handshakeOn, roleBy}
 
 -- What holds of each of the eight pins holds of every number below 8.
 pub by-pin : (P : ℕ → Type 0) → P 0 → P 1 → P 2 → P 3 → P 4 → P 5 → P 6 → P 7 → (n : ℕ) → n < 8 → P n
@@ -42,18 +42,18 @@ bit-as-byte w n below =
     (omega arith) (omega arith) (omega arith) (omega arith) (omega arith) (omega arith) (omega arith) (omega arith) n below)
 
 -- The mode of a group.
-pub mode-by-bits : (w : ℕ) (g : Group) → modeOf w g ≡ cond (bothWays w g) 2 (cond (handshake w g) 1 0)
+pub mode-by-bits : (w : ℕ) (g : Group) → modeOf w g ≡ cond (goesBothWays w g) 2 (cond (handshake w g) 1 0)
 unfolding modeOf bitOf
 mode-by-bits w A =
     rw (← as-byte w .mode A, ← bit-as-byte w 6 (lit< tt), ← bit-as-byte w 5 (lit< tt))
-    (numbers 256 (λ w. modeOf w A) (λ w. cond (bothWays w A) 2 (cond (handshake w A) 1 0)) tt (w % 256) (omega arith))
+    (numbers 256 (λ w. modeOf w A) (λ w. cond (goesBothWays w A) 2 (cond (handshake w A) 1 0)) tt (w % 256) (omega arith))
 mode-by-bits w B =
     rw (← as-byte w .mode B)
-    (numbers 256 (λ w. modeOf w B) (λ w. cond (bothWays w B) 2 (cond (handshake w B) 1 0)) tt (w % 256) (omega arith))
+    (numbers 256 (λ w. modeOf w B) (λ w. cond (goesBothWays w B) 2 (cond (handshake w B) 1 0)) tt (w % 256) (omega arith))
 
 -- Mode 2 is bit 6, and mode 0 of group A is neither 6 nor 5.
-pub two-by-bit : (w : ℕ) (g : Group) → eqb (modeOf w g) 2 ≡ bothWays w g
-two-by-bit w g = ap (λ (m : ℕ). eqb m 2) (mode-by-bits w g) ∙ go (bothWays w g) (handshake w g)
+pub two-by-bit : (w : ℕ) (g : Group) → eqb (modeOf w g) 2 ≡ goesBothWays w g
+two-by-bit w g = ap (λ (m : ℕ). eqb m 2) (mode-by-bits w g) ∙ go (goesBothWays w g) (handshake w g)
   where
     go : (two one : Bool) → eqb (cond two 2 (cond one 1 0)) 2 ≡ two
     go true one = refl

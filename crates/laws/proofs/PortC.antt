@@ -7,16 +7,16 @@ use Prim.Native.Nat.{ℕ, _<_}
 use Rattle.bits.specs.Bit.{bitOf}
 use Rattle.bits.proofs.Tested.{bits}
 use Rattle.bits.proofs.BitLaws.{bit-of-assembled}
+use Rattle.bus.specs.declared.Phase.the-variants.{Writing}
 use Rattle.roles.specs.Role.{input, output, roleOf}
 use Rattle.roles.specs.Pins.{isOutput, handshakeRole}
-use Rattle.chip.specs.declared.Phase.the-variants.{Writing}
 use Rattle.chip.specs.declared.Chip.{Chip}
-use Rattle.writes.specs.Write.{writable, latchWritten, written}
+use Rattle.writes.specs.Write.{writable, latchWritten, afterWriteEnds}
 use Rattle.ports.specs.Pins.{isDriven, pinsOfLines, pinsOf}
 use Rattle.step.specs.Step.{stepOf}
 use Rattle.step.proofs.Ends.{write-ends}
 use Rattle.laws.specs.Seen.{driven}
-use Rattle.laws.specs.PlainBits.{used, intoC, freeOutput, linePin}
+use Rattle.laws.specs.PlainBits.{used, intoC, freeOutput, isLinePin}
 use Rattle.laws.specs.PortC.{reached, LinesWritten, drivenBy, LineShown}
 use Rattle.laws.proofs.PlainBits.{zero-by-bits, role-by-bits}
 use Rattle.laws.proofs.ChannelPins.{pin-by-role, told-by-role}
@@ -26,9 +26,9 @@ not-free : (taking : Bool) (n : ℕ) → n < 8 → isOutput (handshakeRole takin
 not-free true = bits 8 (λ n. isOutput (handshakeRole true n)) (λ n. false) tt
 not-free false = bits 8 (λ n. isOutput (handshakeRole false n)) (λ n. false) tt
 
-but-lines : (taking : Bool) (n : ℕ) → n < 8 → isDriven (handshakeRole taking n) ≡ not (linePin n)
-but-lines true = bits 8 (λ n. isDriven (handshakeRole true n)) (λ n. not (linePin n)) tt
-but-lines false = bits 8 (λ n. isDriven (handshakeRole false n)) (λ n. not (linePin n)) tt
+but-lines : (taking : Bool) (n : ℕ) → n < 8 → isDriven (handshakeRole taking n) ≡ not (isLinePin n)
+but-lines true = bits 8 (λ n. isDriven (handshakeRole true n)) (λ n. not (isLinePin n)) tt
+but-lines false = bits 8 (λ n. isDriven (handshakeRole false n)) (λ n. not (isLinePin n)) tt
 
 module _ (w n : ℕ) (below : n < 8) where
   free-by-bits : isOutput (roleOf w n) ≡ freeOutput w n
@@ -45,7 +45,7 @@ module _ (w n : ℕ) (below : n < 8) where
     where
       go : (inUse inward : Bool)
           → isDriven (cond inUse (handshakeRole (bitOf w 1) n) (cond (not inUse && inward) input output))
-          ≡ not ((not inUse && inward) || (inUse && linePin n))
+          ≡ not ((not inUse && inward) || (inUse && isLinePin n))
       go true inward = but-lines (bitOf w 1) n below
       go false true = refl
       go false false = refl
@@ -57,7 +57,7 @@ bits-written w x d n below =
     bit-of-assembled (λ n. cond (writable w n) (bitOf d n) (bitOf x n)) n below ∙ rw (free-by-bits w n below, zero-by-bits w)
 
 pub write-to-lines : (c : Chip) (b x d : ℕ) → c .phase ≡ Writing 2 b → LinesWritten (c .core) b (stepOf c 2 x d .chip .core)
-unfolding written
+unfolding afterWriteEnds
 write-to-lines c b x d phase = rw (write-ends c 2 b x d phase) (record {
   bits = bits-written (c .core .word) (c .core .c .latch) b;
   word = refl;

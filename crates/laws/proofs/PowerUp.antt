@@ -5,26 +5,28 @@ use mathlib.Core.Bool.{true}
 use mathlib.Core.List.{_++_}
 use Prim.Native.Nat.{ℕ}
 use Rattle.bits.specs.Bit.{bitOf, valueOf}
+use Rattle.events.specs.Kinds.{isKind}
+use Rattle.events.specs.Histories.{levels, write}
+use Rattle.bus.specs.Device.{stepIn}
+use Rattle.bus.specs.Refusals.{numberOf}
+use Rattle.bus.specs.declared.Phase.the-variants.{Writing}
 use Rattle.control.specs.declared.Group.{Group}
 use Rattle.control.specs.declared.Group.the-variants.{A, B}
 use Rattle.control.specs.Mode.{modeOf, inputOf, upperInput, lowerInput, strobedInput, strobedOutput, outputOf}
 use Rattle.roles.specs.Role.{usesOf, freeRole, roleOf}
 use Rattle.channel.specs.declared.Side.{Side}
 use Rattle.channel.specs.declared.Side.the-variants.{Input, Output}
-use Rattle.chip.specs.declared.Phase.the-variants.{Writing}
 use Rattle.channel.specs.Moves.{afterClear}
 use Rattle.chip.specs.declared.Chip.{Chip}
 use Rattle.chip.specs.declared.Levels.{Levels}
 use Rattle.chip.specs.State.{noTally, noByte, powerUpWith, channelOf}
-use Rattle.chip.specs.Handshakes.{strobed, lineOf}
-use Rattle.settings.specs.Renewed.{clearedPort, renewed}
-use Rattle.levels.specs.Levels.{edged, levelledLines, levelledPort, levelled}
+use Rattle.chip.specs.Handshakes.{strobed, linePin}
+use Rattle.settings.specs.ModeWord.{clearedPort, afterModeWord}
+use Rattle.levels.specs.Levels.{edged, afterLevelsOnC, portAfterLevels, afterLevels}
 use Rattle.ports.specs.Pins.{levelAs, drivesPort, pinsOfPort, pinsOfLines, pinsOf}
-use Rattle.step.specs.Numbers.{numberOf}
 use Rattle.step.specs.Step.{accepted, stepOf}
 use Rattle.laws.specs.Anew.{Anew}
 use Rattle.laws.specs.PowerUp.{AsNamed, Starts}
-use Rattle.laws.specs.History.{levels, write}
 use Rattle.laws.specs.Marked.{after}
 use Rattle.laws.proofs.ChannelPins.{pin-by-role, line-pin}
 use Rattle.laws.proofs.ModeWords.{mode-word-renews, reset-roles}
@@ -41,14 +43,14 @@ power-up-shows l = record {
 
 -- A reset right after a power-up changes nothing: it goes back to what the chip was then, in every field.
 pub reset-as-power-up : (l : Levels) (x d : ℕ) → stepOf (powerUpWith l) 0 x d .chip ≡ powerUpWith l
-unfolding stepOf numberOf renewed clearedPort afterClear
+unfolding stepOf stepIn numberOf isKind afterModeWord clearedPort afterClear
 reset-as-power-up l x d = refl
 
 -- To name levels is to put them on the ports right after a power-up under any others: in mode 0 none of them is an edge, and none goes
 -- through to a latch.
 pub named-is-put : (k l : Levels)
     → after (accepted (powerUpWith k) 0) (levels 0 (l .a) ++ levels 1 (l .b) ++ levels 2 (l .c)) .chip ≡ powerUpWith l
-unfolding stepOf numberOf levelled levelledLines levelledPort edged strobedInput strobedOutput modeOf inputOf bitOf
+unfolding stepOf stepIn numberOf isKind afterLevels afterLevelsOnC portAfterLevels edged strobedInput strobedOutput modeOf inputOf bitOf
 named-is-put k l = refl
 
 -- A mode word finds the lines as they were named, and no byte.
@@ -62,14 +64,14 @@ starts-anew : (l : Levels) (w : ℕ) (c : Chip) → Anew (powerUpWith l .core) w
 starts-anew l w c anew = record {
   line = λ g s on.
       line-pin c g s (subst (λ (v : ℕ). strobed v g s ≡ true) (sym (anew .word)) on)
-      ∙ ap (λ (d : ℕ). bitOf d (lineOf g s)) (anew .linesLevels);
+      ∙ ap (λ (d : ℕ). bitOf d (linePin g s)) (anew .linesLevels);
   none = λ g s.
       let tally : channelOf (c .core) g s .tally ≡ noTally = anew .tallies g s ∙ rw (no-byte-yet l g s) in
       λ i. record { fill = anew .empty g s i; latch = anew .latches g s i; tally = tally i };
 }
 
 pub starts : (l : Levels) (w : ℕ) → bitOf w 7 ≡ true → Starts l w (after (accepted (powerUpWith l) 0) (write 3 w) .chip)
-unfolding stepOf numberOf
+unfolding stepOf stepIn numberOf isKind
 starts l w set =
     let writing : Chip = record { phase = Writing 3 w; core = powerUpWith l .core } in
     starts-anew l w (stepOf writing 2 0 0 .chip) (mode-word-renews writing w 0 0 refl set .core)

@@ -1,12 +1,12 @@
 -- In states that no history reaches, a cycle at a place that there is not ends, and that is all ("Events and numbers").
--- Rests on reads' and writes' After, and on the step's Ends.
+-- Rests on reads' and writes' PortsAfter, and on the step's Ends.
 use mathlib.Core.Path.{_≡_, _∙_, ap}
 use Prim.Native.Nat.{ℕ, _<_}
-use Rattle.chip.specs.declared.Phase.the-variants.{Idle, Reading, Writing}
+use Rattle.bus.specs.declared.Phase.the-variants.{Idle, Reading, Writing}
 use Rattle.chip.specs.declared.Core.{Core}
 use Rattle.chip.specs.declared.Chip.{Chip}
-use Rattle.reads.proofs.After.{ended-nowhere}
-use Rattle.writes.proofs.After.{written-nowhere}
+use Rattle.reads.proofs.PortsAfter.{ended-nowhere}
+use Rattle.writes.proofs.PortsAfter.{written-nowhere}
 use Rattle.step.specs.Step.{onBus, accepted, stepOf}
 use Rattle.step.proofs.Ends.{read-ends, write-ends}
 

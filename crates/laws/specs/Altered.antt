@@ -2,22 +2,22 @@
 use mathlib.Core.Path.{_≡_}
 use mathlib.Core.Bool.{true}
 use Rattle.bits.specs.Bit.{withBit}
+use Rattle.bus.specs.declared.Phase.the-variants.{Idle}
 use Rattle.control.specs.declared.Group.{Group}
 use Rattle.channel.specs.declared.Side.{Side}
 use Rattle.channel.specs.declared.Side.the-variants.{Input, Output}
 use Rattle.channel.specs.declared.Fill.{Fill}
 use Rattle.channel.specs.declared.Fill.the-variants.{Empty, Waiting}
 use Rattle.channel.specs.declared.Channel.{Channel}
-use Rattle.chip.specs.declared.Phase.the-variants.{Idle}
 use Rattle.chip.specs.declared.Core.{Core}
 use Rattle.chip.specs.declared.Chip.{Chip}
 use Rattle.chip.specs.State.{portOf, channelOf, withInput, withOutput, withPort, withEnables}
-use Rattle.chip.specs.Handshakes.{lineOf}
+use Rattle.chip.specs.Handshakes.{linePin}
 use Rattle.status.specs.declared.reasons.Reason.{Reason}
 use Rattle.status.specs.declared.reasons.Reason.the-variants.{EnableOff, FlagWrong, LineLow, OwnCycle, High}
 use Rattle.status.specs.Status.{requestOf}
 use Rattle.status.specs.Reasons.{reasonOf}
-use Rattle.settings.specs.Commanded.{enabled}
+use Rattle.settings.specs.ControlWord.{enabled}
 use Rattle.laws.specs.Seen.{pin, intrPin}
 
 -- A condition in which a channel's flag is right: a byte in an input, none in an output.
@@ -40,7 +40,7 @@ lineRaised c g s = record {
   word = c .word;
   a = c .a;
   b = c .b;
-  c = record { latch = c .c .latch; outside = withBit (c .c .outside) (lineOf g s) true };
+  c = record { latch = c .c .latch; outside = withBit (c .c .outside) (linePin g s) true };
   inte = c .inte;
 }
 

@@ -2,11 +2,11 @@
 use mathlib.Core.Path.{_≡_}
 use mathlib.Core.Bool.{false}
 use Prim.Native.Nat.{ℕ}
+use Rattle.bus.specs.declared.Phase.the-variants.{Idle}
 use Rattle.control.specs.declared.Group.{Group}
 use Rattle.channel.specs.declared.Side.{Side}
 use Rattle.channel.specs.declared.Fill.the-variants.{Empty}
 use Rattle.channel.specs.Channel.{isWaiting, counted, cleared}
-use Rattle.chip.specs.declared.Phase.the-variants.{Idle}
 use Rattle.chip.specs.declared.Core.{Core}
 use Rattle.chip.specs.declared.Chip.{Chip}
 use Rattle.chip.specs.State.{portOf, channelOf}

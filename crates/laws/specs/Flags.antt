@@ -2,6 +2,7 @@
 use mathlib.Core.Bool.{Bool, true, false, _&&_, _||_}
 use Prim.Native.Nat.{ℕ}
 use lib.Dec.{eqb}
+use Rattle.events.specs.Kinds as kinds
 use Rattle.control.specs.declared.Group.{Group}
 use Rattle.channel.specs.declared.Side.the-variants.{Input, Output}
 use Rattle.chip.specs.declared.Chip.{Chip}
@@ -10,11 +11,12 @@ use Rattle.laws.specs.Seen.{lowers, makesAnew}
 
 -- IBF that is high can fall at a reset and at the end of a mode word's write or of a read of the port, and one that is low can rise as STB falls.
 abbrev pub movesIbf : Chip → Group → Bool → ℕ → ℕ → ℕ → Bool
-movesIbf c g true k x d = eqb k 0 || (eqb k 2 && (makesAnew (c .phase) || reading (c .phase) g))
-movesIbf c g false k x d = eqb k 5 && lowers c g Input x d
+movesIbf c g true k x d = eqb k kinds.reset || (eqb k kinds.endCycle && (makesAnew (c .phase) || reading (c .phase) g))
+movesIbf c g false k x d = eqb k kinds.outsideLevels && lowers c g Input x d
 
 -- OBF that is high can fall at the end of a write to the port, and one that is low can rise at a reset, at the end of a mode word's write, and as
 -- ACK falls.
 abbrev pub movesObf : Chip → Group → Bool → ℕ → ℕ → ℕ → Bool
-movesObf c g true k x d = eqb k 2 && writing (c .phase) g
-movesObf c g false k x d = eqb k 0 || ((eqb k 2 && makesAnew (c .phase)) || (eqb k 5 && lowers c g Output x d))
+movesObf c g true k x d = eqb k kinds.endCycle && writing (c .phase) g
+movesObf c g false k x d =
+    eqb k kinds.reset || ((eqb k kinds.endCycle && makesAnew (c .phase)) || (eqb k kinds.outsideLevels && lowers c g Output x d))

@@ -1,8 +1,5 @@
 pub mod Seen
 pub mod PlainBits
-pub mod Refusals
-pub mod Places
-pub mod Beginnings
 pub mod Anew
 pub mod Kept
 pub mod PowerUp
@@ -15,5 +12,4 @@ pub mod Flags
 pub mod Halves
 pub mod Quiet
 pub mod Altered
-pub mod History
 pub mod Marked

@@ -4,12 +4,12 @@ use Prim.Native.Nat.{ℕ}
 use Rattle.control.specs.declared.Group.{Group}
 use Rattle.channel.specs.declared.Side.the-variants.{Input}
 use Rattle.chip.specs.declared.Chip.{Chip}
-use Rattle.chip.specs.Handshakes.{strobed, lineOf, ownAddress}
+use Rattle.chip.specs.Handshakes.{strobed, linePin, ownAddress}
 use Rattle.laws.specs.Seen.{pin, lowers}
 
 -- Levels come onto a group's own port while the pins show its STB low.
 abbrev pub comesUnderLow : Chip → Group → ℕ → Bool
-comesUnderLow c g x = ownAddress x g && not (pin c (lineOf g Input))
+comesUnderLow c g x = ownAddress x g && not (pin c (linePin g Input))
 
 -- Levels d on port x load the input latch of a group: the input is strobed, and they do either.
 abbrev pub loads : Chip → Group → ℕ → ℕ → Bool

@@ -2,14 +2,15 @@
 -- results ("Marked cases").
 use mathlib.Core.List.{List, [], _∷_, _++_}
 use Prim.Native.Nat.{ℕ}
+use Rattle.events.specs.Event.{Event, event}
+use Rattle.events.specs.Histories.{write, levels, readFrom, cycleEnd, strobe}
 use Rattle.control.specs.declared.Group.the-variants.{A}
 use Rattle.channel.specs.declared.Side.the-variants.{Input}
 use Rattle.chip.specs.State.{allHigh, powerUpWith, tallyOf}
 use Rattle.ports.specs.Reads.{readOf}
 use Rattle.ports.specs.Pins.{pinsOf}
 use Rattle.step.specs.declared.Stepped.{Stepped}
-use Rattle.step.specs.Step.{accepted}
-use Rattle.laws.specs.History.{Event, event, stepped, write, levels, beginRead, endCycle, strobe}
+use Rattle.step.specs.Step.{accepted, stepped}
 
 -- The last event's outcome, after a history.
 abbrev pub after : Stepped → List Event → Stepped
@@ -61,7 +62,7 @@ abbrev pub P4 : List Event
 P4 = P3 ++ levels 2 0xff
 
 abbrev pub P5 : List Event
-P5 = P4 ++ beginRead 0
+P5 = P4 ++ readFrom 0
 
 abbrev pub P7 : List Event
 P7 = write 3 0xc0
@@ -83,7 +84,7 @@ cases =
     ∷ (P3 asks (pins 2 ∷ readC ∷ []) gives (0x20 ∷ 0x30 ∷ []))
     ∷ (P4 asks (pins 2 ∷ readC ∷ []) gives (0x38 ∷ 0x38 ∷ []))
     ∷ (P5 asks (byte ∷ pins 2 ∷ []) gives (0x41 ∷ 0x30 ∷ []))
-    ∷ ((P5 ++ endCycle) asks (pins 2 ∷ []) gives (0x10 ∷ []))
+    ∷ ((P5 ++ cycleEnd) asks (pins 2 ∷ []) gives (0x10 ∷ []))
     ∷ (P7 asks (pins 2 ∷ readC ∷ []) gives (0xd0 ∷ 0x80 ∷ []))
     ∷ (P8 asks (pins 2 ∷ readC ∷ []) gives (0xd8 ∷ 0xc8 ∷ []))
     ∷ ((P8 ++ (event 3 0 0x55 ∷ [])) asks (pins 2 ∷ []) gives (0xd0 ∷ []))
@@ -92,5 +93,5 @@ cases =
     ∷ (write 3 0x9c asks (pins 2 ∷ readC ∷ []) gives (0xf6 ∷ 0xf2 ∷ []))
     ∷ ((write 3 0xb0 ++ write 2 0xff) asks (pins 2 ∷ []) gives (0x17 ∷ []))
     ∷ (P13 asks (offered ∷ overwritten ∷ []) gives (2 ∷ 1 ∷ []))
-    ∷ ((P13 ++ beginRead 0) asks (byte ∷ []) gives (0x42 ∷ []))
+    ∷ ((P13 ++ readFrom 0) asks (byte ∷ []) gives (0x42 ∷ []))
     ∷ []

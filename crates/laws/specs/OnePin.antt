@@ -7,8 +7,8 @@ use Rattle.bits.specs.Bit.{bitOf}
 use Rattle.control.specs.declared.Group.{Group}
 use Rattle.channel.specs.declared.Side.{Side}
 use Rattle.chip.specs.declared.Core.{Core}
-use Rattle.chip.specs.Handshakes.{lineOf, enableOf}
-use Rattle.laws.specs.PlainBits.{linePin}
+use Rattle.chip.specs.Handshakes.{linePin, enableOf}
+use Rattle.laws.specs.PlainBits.{isLinePin}
 
 -- Pin n is put to v, where it may be a free output, and a handshake may use it. A free output keeps the value in its bit of the latch, the
 -- line of a channel in that channel's enable, and any other pin nowhere.
@@ -18,5 +18,5 @@ pub record OnePin (before : Core) (n : ℕ) (v free inUse : Bool) (after : Core)
   pub b : after .b ≡ before .b
   pub levels : after .c .outside ≡ before .c .outside
   pub bits : (k : ℕ) → k < 8 → bitOf (after .c .latch) k ≡ cond (free && eqb k n) v (bitOf (before .c .latch) k)
-  pub enables : (g : Group) (s : Side) → enableOf (after .inte) g s ≡ cond (inUse && eqb n (lineOf g s)) v (enableOf (before .inte) g s)
-  pub nothing : (free || (inUse && linePin n)) ≡ false → after ≡ before
+  pub enables : (g : Group) (s : Side) → enableOf (after .inte) g s ≡ cond (inUse && eqb n (linePin g s)) v (enableOf (before .inte) g s)
+  pub nothing : (free || (inUse && isLinePin n)) ≡ false → after ≡ before

@@ -13,9 +13,9 @@ use Rattle.channel.specs.declared.Side.{Side}
 use Rattle.channel.specs.declared.Side.the-variants.{Input, Output}
 
 -- A group's port goes both ways, in mode 2, by bit 6; B's never does.
-abbrev pub bothWays : ℕ → Group → Bool
-bothWays w A = bitOf w 6
-bothWays w B = false
+abbrev pub goesBothWays : ℕ → Group → Bool
+goesBothWays w A = bitOf w 6
+goesBothWays w B = false
 
 -- There is a handshake of the group: bit 6 or 5 is set for A, bit 2 for B.
 abbrev pub handshake : ℕ → Group → Bool
@@ -29,15 +29,15 @@ into w B = bitOf w 1
 
 -- A port that goes one way, in mode 0 or 1: out, or in.
 abbrev pub outputOnly : ℕ → Group → Bool
-outputOnly w g = not (bothWays w g) && not (into w g)
+outputOnly w g = not (goesBothWays w g) && not (into w g)
 
 abbrev pub inputOnly : ℕ → Group → Bool
-inputOnly w g = not (bothWays w g) && into w g
+inputOnly w g = not (goesBothWays w g) && into w g
 
 -- There is a handshake on a side: of the input in mode 1 with that direction, of the output in mode 1 with the other, of both in mode 2.
 abbrev pub handshakeOn : ℕ → Group → Side → Bool
-handshakeOn w g Input = bothWays w g || (handshake w g && into w g)
-handshakeOn w g Output = bothWays w g || (handshake w g && not (into w g))
+handshakeOn w g Input = goesBothWays w g || (handshake w g && into w g)
+handshakeOn w g Output = goesBothWays w g || (handshake w g && not (into w g))
 
 -- A handshake uses pin n: 0, 1 and 2 are B's, 3 is A's INTR, 4 and 5 are its input's, 6 and 7 its output's.
 abbrev pub used : ℕ → ℕ → Bool
@@ -63,8 +63,8 @@ abbrev pub roleBy : ℕ → ℕ → Role
 roleBy w n = cond (used w n) (handshakeRole (into w B) n) (cond (freeInput w n) input output)
 
 -- STB and ACK are on pins 2, 4 and 6, and to these the chip listens where a handshake uses them.
-abbrev pub linePin : ℕ → Bool
-linePin n = eqb n 2 || (eqb n 4 || eqb n 6)
+abbrev pub isLinePin : ℕ → Bool
+isLinePin n = eqb n 2 || (eqb n 4 || eqb n 6)
 
 abbrev pub listens : ℕ → ℕ → Bool
-listens w n = used w n && linePin n
+listens w n = used w n && isLinePin n

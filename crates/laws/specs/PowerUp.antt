@@ -8,7 +8,7 @@ use Rattle.channel.specs.declared.Side.{Side}
 use Rattle.chip.specs.declared.Chip.{Chip}
 use Rattle.chip.specs.declared.Levels.{Levels}
 use Rattle.chip.specs.State.{noByte, channelOf}
-use Rattle.chip.specs.Handshakes.{strobed, lineOf}
+use Rattle.chip.specs.Handshakes.{strobed, linePin}
 use Rattle.ports.specs.Pins.{pinsOf}
 use Rattle.laws.specs.Seen.{pin}
 
@@ -21,5 +21,5 @@ pub record AsNamed (l : Levels) (c : Chip) : Type 0 where
 
 -- A mode word finds the lines as they were named, and takes no level for a fall: no channel has had a byte.
 pub record Starts (l : Levels) (w : ℕ) (c : Chip) : Type 0 where
-  pub line : (g : Group) (s : Side) → strobed w g s ≡ true → pin c (lineOf g s) ≡ bitOf (l .c) (lineOf g s)
+  pub line : (g : Group) (s : Side) → strobed w g s ≡ true → pin c (linePin g s) ≡ bitOf (l .c) (linePin g s)
   pub none : (g : Group) (s : Side) → channelOf (c .core) g s ≡ noByte

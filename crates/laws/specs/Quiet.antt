@@ -11,7 +11,7 @@ use Rattle.roles.specs.Role.{INTR, number, roleOf}
 use Rattle.channel.specs.declared.Side.{Side}
 use Rattle.channel.specs.declared.Side.the-variants.{Input, Output}
 use Rattle.chip.specs.declared.Chip.{Chip}
-use Rattle.chip.specs.Handshakes.{strobed, lineOf, running}
+use Rattle.chip.specs.Handshakes.{strobed, linePin, running}
 use Rattle.status.specs.declared.reasons.Reason.{Reason}
 use Rattle.status.specs.declared.reasons.Reason.the-variants.{EnableOff, FlagWrong, LineLow, OwnCycle, High}
 use Rattle.status.specs.declared.reasons.Explained.{Explained}
@@ -22,9 +22,9 @@ use Rattle.laws.specs.Seen.{pin, told, intrPin, flagPin}
 -- Each answer as it is seen: a read of port C tells, on the pin of STB or ACK, that the enable is off; the pin view shows IBF or OBF at 0;
 -- it shows STB or ACK low; the bus runs a read or a write of the port; the pin view shows INTR high.
 abbrev pub seen : Chip → Group → Side → Reason → Bool
-seen c g s EnableOff = not (told c (lineOf g s))
+seen c g s EnableOff = not (told c (linePin g s))
 seen c g s FlagWrong = not (pin c (flagPin g s))
-seen c g s LineLow = not (pin c (lineOf g s))
+seen c g s LineLow = not (pin c (linePin g s))
 seen c g s OwnCycle = running (c .phase) g s
 seen c g s High = pin c (intrPin g)
 

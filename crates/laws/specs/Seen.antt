@@ -3,14 +3,14 @@ use mathlib.Core.Bool.{Bool, false, not, _&&_}
 use Prim.Native.Nat.{ℕ}
 use lib.Dec.{eqb}
 use Rattle.bits.specs.Bit.{bitOf}
+use Rattle.bus.specs.declared.Phase.{Phase}
+use Rattle.bus.specs.declared.Phase.the-variants.{Idle, Reading, Writing}
 use Rattle.control.specs.declared.Group.{Group}
 use Rattle.control.specs.declared.Group.the-variants.{A, B}
 use Rattle.channel.specs.declared.Side.{Side}
 use Rattle.channel.specs.declared.Side.the-variants.{Input, Output}
-use Rattle.chip.specs.declared.Phase.{Phase}
-use Rattle.chip.specs.declared.Phase.the-variants.{Idle, Reading, Writing}
 use Rattle.chip.specs.declared.Chip.{Chip}
-use Rattle.chip.specs.Handshakes.{lineOf}
+use Rattle.chip.specs.Handshakes.{linePin}
 use Rattle.ports.specs.Reads.{readOf}
 use Rattle.ports.specs.Pins.{pinsOf}
 
@@ -38,7 +38,7 @@ flagPin B s = 1
 
 -- Levels d on port x lower a channel's STB or ACK, which the pins show high.
 abbrev pub lowers : Chip → Group → Side → ℕ → ℕ → Bool
-lowers c g s x d = eqb x 2 && (pin c (lineOf g s) && not (bitOf d (lineOf g s)))
+lowers c g s x d = eqb x 2 && (pin c (linePin g s) && not (bitOf d (linePin g s)))
 
 -- A write of a mode word runs, which will make the chip anew at its end.
 abbrev pub makesAnew : Phase → Bool

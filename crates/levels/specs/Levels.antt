@@ -12,8 +12,9 @@ use Rattle.channel.specs.declared.Channel.{Channel}
 use Rattle.channel.specs.Moves.{afterOffer, afterFollow, afterHandOver}
 use Rattle.chip.specs.declared.Port.{Port}
 use Rattle.chip.specs.declared.Core.{Core}
+use Rattle.chip.specs.Addresses.{portC}
 use Rattle.chip.specs.State.{portOf, onPort}
-use Rattle.chip.specs.Handshakes.{strobed, lineOf}
+use Rattle.chip.specs.Handshakes.{strobed, linePin}
 
 -- A fall takes two levels, a high one and then a low one; a line that stays low makes none.
 unfoldable pub fallen : ℕ → ℕ → ℕ → Bool
@@ -37,15 +38,15 @@ edged p strobe acknowledge = record {
 
 -- The channel's STB or ACK falls as the levels of port C become d; a channel that the mode word does not strobe takes no part.
 abbrev pub lineFalls : Core → ℕ → Group → Side → Bool
-lineFalls c d g s = strobed (c .word) g s && fallen (c .c .outside) d (lineOf g s)
+lineFalls c d g s = strobed (c .word) g s && fallen (c .c .outside) d (linePin g s)
 
 -- A group's port after the edges on its own lines.
 abbrev pub edgesOn : Core → ℕ → Group → Port
 edgesOn c d g = edged (portOf c g) (lineFalls c d g Input) (lineFalls c d g Output)
 
 -- New levels on port C: the edges of both groups act, and the levels stand for the next event.
-unfoldable pub levelledLines : Core → ℕ → Core
-levelledLines c d = record {
+unfoldable pub afterLevelsOnC : Core → ℕ → Core
+afterLevelsOnC c d = record {
   word = c .word;
   a = edgesOn c d A;
   b = edgesOn c d B;
@@ -55,12 +56,12 @@ levelledLines c d = record {
 
 -- A group's input lets levels through to its latch: the mode word strobes it, and its STB is low.
 abbrev pub letsThrough : Core → Group → Bool
-letsThrough c g = strobed (c .word) g Input && not (bitOf (c .c .outside) (lineOf g Input))
+letsThrough c g = strobed (c .word) g Input && not (bitOf (c .c .outside) (linePin g Input))
 
 -- New levels on a port's own eight lines, which may go through to its input latch; they do so also where they are those already there.
-unfoldable pub levelledPort : Port → Bool → ℕ → Port
-levelledPort p through d = record { input = cond through (afterFollow (p .input) d) (p .input); output = p .output; outside = d }
+unfoldable pub portAfterLevels : Port → Bool → ℕ → Port
+portAfterLevels p through d = record { input = cond through (afterFollow (p .input) d) (p .input); output = p .output; outside = d }
 
 -- New levels on a port; on port C they may be edges.
-unfoldable pub levelled : Core → ℕ → ℕ → Core
-levelled c x d = cond (eqb x 2) (levelledLines c d) (onPort c x (λ g p. levelledPort p (letsThrough c g) d))
+unfoldable pub afterLevels : Core → ℕ → ℕ → Core
+afterLevels c x d = cond (eqb x portC) (afterLevelsOnC c d) (onPort c x (λ g p. portAfterLevels p (letsThrough c g) d))

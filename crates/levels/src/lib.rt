@@ -1,11 +1,13 @@
 // Levels put on the pins from outside: a fall of STB offers a byte, and a fall of ACK hands one over. While STB is low, levels on the
 // port itself go through to its input latch.
 ghost use mathlib.Core.Path.{_≡_};
-ghost use Rattle.levels.specs.Levels.{fallen, strobedWith, acknowledged, edged, levelledLines, levelledPort, levelled};
+ghost use Rattle.levels.specs.Levels.{fallen, strobedWith, acknowledged, edged, afterLevelsOnC, letsThrough, portAfterLevels, afterLevels};
 use channel::Channel;
 use channel::Fill;
+use channel::Side;
 use chip::Core;
 use chip::Port;
+use chip::handshakes;
 use control::Group;
 
 // Whether the level of a pin falls as the byte before becomes the byte after.
@@ -42,17 +44,17 @@ fn edges(mut port: Port, strobed: bool, taken: bool) -> Port
     port
 }
 
-// The levels of port C: its falling edges act on both ports. A's STB is pin 4 and its ACK pin 6; B's are pin 2.
+// The levels of port C: its falling edges act on both ports. The fall of group B's line is either edge.
 fn lines(mut core: Core, levels: u8) -> Core
-    ensures { λ r. ⌜ r ≡ levelledLines core levels ⌝ }
+    ensures { λ r. ⌜ r ≡ afterLevelsOnC core levels ⌝ }
 {
     let before = core.c.outside;
     let word = core.word;
-    let low = falls(before, levels, 2);
+    let low = falls(before, levels, handshakes::LINE_B);
     core.a = edges(
         core.a,
-        control::mode::strobed_input(word, Group::A) & falls(before, levels, 4),
-        control::mode::strobed_output(word, Group::A) & falls(before, levels, 6),
+        control::mode::strobed_input(word, Group::A) & falls(before, levels, handshakes::STB_A),
+        control::mode::strobed_output(word, Group::A) & falls(before, levels, handshakes::ACK_A),
     );
     core.b = edges(
         core.b,
@@ -63,34 +65,37 @@ fn lines(mut core: Core, levels: u8) -> Core
     core
 }
 
+// Whether the group's input lets levels through to its latch: it is strobed, and its STB is low.
+fn lets_through(core: Core, group: Group) -> bool
+    ensures { λ r. ⌜ r ≡ letsThrough core group ⌝ }
+{
+    let stb = bits::bit(core.c.outside, handshakes::line_pin(group, Side::Input));
+    handshakes::strobed(core.word, group, Side::Input) & !stb
+}
+
 // The port after new levels on its own lines, whether or not they go through to its input latch.
 fn put(mut port: Port, through: bool, levels: u8) -> Port
-    ensures { λ r. ⌜ r ≡ levelledPort port through levels ⌝ }
+    ensures { λ r. ⌜ r ≡ portAfterLevels port through levels ⌝ }
 {
     port.input = channel::follow(port.input, through, levels);
     port.outside = levels;
     port
 }
 
-// The outside levels of port 0, 1 or 2 become these; on any other number, which is no port, nothing happens. A strobed input lets levels on
-// its own port through to its latch while its STB, pin 4 for A and pin 2 for B, is low.
+// The outside levels of a port become these; on a number that is no port nothing happens.
 pub fn set(mut core: Core, port: u8, levels: u8) -> Core
-    ensures { λ r. ⌜ r ≡ levelled core port levels ⌝ }
+    ensures { λ r. ⌜ r ≡ afterLevels core port levels ⌝ }
 {
     match port {
-        0 => {
-            let through = control::mode::strobed_input(core.word, Group::A)
-                & !bits::bit(core.c.outside, 4);
-            core.a = put(core.a, through, levels);
+        chip::PORT_A => {
+            core.a = put(core.a, lets_through(core, Group::A), levels);
             core
         }
-        1 => {
-            let through = control::mode::strobed_input(core.word, Group::B)
-                & !bits::bit(core.c.outside, 2);
-            core.b = put(core.b, through, levels);
+        chip::PORT_B => {
+            core.b = put(core.b, lets_through(core, Group::B), levels);
             core
         }
-        2 => lines(core, levels),
+        chip::PORT_C => lines(core, levels),
         _ => core,
     }
 }

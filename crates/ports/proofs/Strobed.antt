@@ -12,7 +12,7 @@ use Rattle.control.proofs.Strobed.{giving-is-output}
 use Rattle.channel.specs.declared.Side.the-variants.{Output}
 use Rattle.chip.specs.declared.Port.{Port}
 use Rattle.chip.specs.declared.Core.{Core}
-use Rattle.chip.specs.Handshakes.{lineOf}
+use Rattle.chip.specs.Handshakes.{linePin}
 use Rattle.ports.specs.Reads.{readPort}
 use Rattle.ports.specs.Pins.{drivesPort, pinsOfPort}
 
@@ -20,7 +20,7 @@ pub strobed-reads : (w : ℕ) (g : Group) (p : Port) → strobedInput w g ≡ tr
 unfolding readPort
 strobed-reads w g p on = rw (on)
 
-pub acknowledge-drives : (c : Core) (g : Group) → strobedOutput (c .word) g ≡ true → bitOf (c .c .outside) (lineOf g Output) ≡ false
+pub acknowledge-drives : (c : Core) (g : Group) → strobedOutput (c .word) g ≡ true → bitOf (c .c .outside) (linePin g Output) ≡ false
     → drivesPort c g ≡ true
 unfolding drivesPort
 acknowledge-drives c A on low = rw (low) (go (eqb (modeOf (c .word) A) 2) (outputOf (c .word) A) (giving-is-output (c .word) A on))

@@ -7,17 +7,18 @@ use Rattle.control.specs.declared.Group.{Group}
 use Rattle.control.specs.declared.Group.the-variants.{A, B}
 use Rattle.control.specs.Mode.{modeOf, outputOf}
 use Rattle.roles.specs.Role.{Role, input, output, INTR, IBF, OBF, STB, ACK, roleOf}
+use Rattle.channel.specs.declared.Side.the-variants.{Output}
 use Rattle.chip.specs.declared.Port.{Port}
 use Rattle.chip.specs.declared.Core.{Core}
 use Rattle.chip.specs.declared.Chip.{Chip}
-use Rattle.channel.specs.declared.Side.the-variants.{Output}
-use Rattle.chip.specs.Handshakes.{lineOf}
+use Rattle.chip.specs.Addresses.{portA, portB, portC}
+use Rattle.chip.specs.Handshakes.{linePin}
 use Rattle.ports.specs.declared.Pins.{Pins}
 use Rattle.ports.specs.Reads.{readAs}
 
 -- An output drives its lines. In mode 2 port A has them only as long as ACK, held low, asks for the byte.
 unfoldable pub drivesPort : Core → Group → Bool
-drivesPort c A = cond (eqb (modeOf (c .word) A) 2) (not (bitOf (c .c .outside) (lineOf A Output))) (outputOf (c .word) A)
+drivesPort c A = cond (eqb (modeOf (c .word) A) 2) (not (bitOf (c .c .outside) (linePin A Output))) (outputOf (c .word) A)
 drivesPort c B = outputOf (c .word) B
 
 -- Driven lines show the latch, and others what the outside puts there.
@@ -45,10 +46,10 @@ pinsOfLines c = record {
   driven = assembled (λ n. isDriven (roleOf (c .core .word) n));
 }
 
--- A, B and C are the ports 0, 1 and 2; where there is no port there is no level and nothing is driven.
+-- A port by its number; where there is no port there is no level and nothing is driven ("Events and numbers").
 unfoldable pub pinsOf : Chip → ℕ → Pins
 pinsOf c p =
-    cond (eqb p 0) (pinsOfPort (c .core .a) (drivesPort (c .core) A))
-    (cond (eqb p 1) (pinsOfPort (c .core .b) (drivesPort (c .core) B))
-    (cond (eqb p 2) (pinsOfLines c)
+    cond (eqb p portA) (pinsOfPort (c .core .a) (drivesPort (c .core) A))
+    (cond (eqb p portB) (pinsOfPort (c .core .b) (drivesPort (c .core) B))
+    (cond (eqb p portC) (pinsOfLines c)
     (record { levels = 0; driven = 0 })))

@@ -10,6 +10,7 @@ use Rattle.roles.specs.Role.{Role, input, output, INTR, IBF, OBF, STB, ACK, rol
 use Rattle.channel.specs.declared.Side.the-variants.{Input, Output}
 use Rattle.chip.specs.declared.Port.{Port}
 use Rattle.chip.specs.declared.Chip.{Chip}
+use Rattle.chip.specs.Addresses.{portA, portB, portC}
 use Rattle.chip.specs.Handshakes.{groupAt, enableOf}
 use Rattle.status.specs.Status.{flagAt, intrOf}
 
@@ -33,10 +34,10 @@ readAs c n ACK = enableOf (c .core .inte) (groupAt n) Output
 unfoldable pub readLines : Chip → ℕ
 readLines c = assembled (λ n. readAs c n (roleOf (c .core .word) n))
 
--- A, B and C are the ports 0, 1 and 2; where there is no port a read gives 00.
+-- A port by its address; where there is no port a read gives 00 ("Events and numbers").
 unfoldable pub readOf : Chip → ℕ → ℕ
 readOf c p =
-    cond (eqb p 0) (readPort (c .core .word) A (c .core .a))
-    (cond (eqb p 1) (readPort (c .core .word) B (c .core .b))
-    (cond (eqb p 2) (readLines c)
+    cond (eqb p portA) (readPort (c .core .word) A (c .core .a))
+    (cond (eqb p portB) (readPort (c .core .word) B (c .core .b))
+    (cond (eqb p portC) (readLines c)
     0))

@@ -29,15 +29,15 @@ fn lines(chip: Chip) -> u8
     bits::blend(roles::handshake(core.word), status::status(chip), free)
 }
 
-// What a read of the port answers: port 0, 1 and 2 are A, B and C. There is no other, and it reads as 00.
+// What a read of the port answers. There are no ports but A, B and C, and another reads as 00.
 pub fn value(chip: Chip, port: u8) -> u8
     ensures { λ r. ⌜ r ≡ readOf chip port ⌝ }
 {
     let core = chip.core;
     match port {
-        0 => self::port(core.word, Group::A, core.a),
-        1 => self::port(core.word, Group::B, core.b),
-        2 => lines(chip),
+        chip::PORT_A => self::port(core.word, Group::A, core.a),
+        chip::PORT_B => self::port(core.word, Group::B, core.b),
+        chip::PORT_C => lines(chip),
         _ => 0,
     }
 }

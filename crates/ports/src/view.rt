@@ -5,7 +5,13 @@ use super::Pins;
 use chip::Chip;
 use chip::Core;
 use chip::Port;
+use chip::handshakes::ACK_A;
+use chip::handshakes::LINE_B;
+use chip::handshakes::STB_A;
 use control::Group;
+
+// Of the handshakes' pins on port C those that the chip drives: all but STB and ACK.
+const SIGNALS: u8 = !(1 << STB_A | 1 << ACK_A | 1 << LINE_B);
 
 // Whether the chip drives port A or B.
 fn drives(core: Core, group: Group) -> bool
@@ -14,7 +20,7 @@ fn drives(core: Core, group: Group) -> bool
     match group {
         Group::A => {
             if control::mode::mode(core.word, Group::A) == 2 {
-                !bits::bit(core.c.outside, 6)
+                !bits::bit(core.c.outside, ACK_A)
             } else {
                 control::mode::output(core.word, Group::A)
             }
@@ -32,13 +38,13 @@ fn port(port: Port, driven: bool) -> Pins
     }
 }
 
-// Port C. Of the handshakes' pins all but 2, 4 and 6, which are STB or ACK, are driven.
+// Port C: its free outputs and the signals of its handshakes are driven.
 fn lines(chip: Chip) -> Pins
     ensures { λ r. ⌜ r ≡ pinsOfLines chip ⌝ }
 {
     let core = chip.core;
     let used = roles::handshake(core.word);
-    let driven = bits::blend(used, 0xab, roles::outputs(core.word));
+    let driven = bits::blend(used, SIGNALS, roles::outputs(core.word));
     let shown = bits::blend(used, status::status(chip), core.c.latch);
     Pins {
         levels: bits::blend(driven, shown, core.c.outside),
@@ -46,15 +52,15 @@ fn lines(chip: Chip) -> Pins
     }
 }
 
-// The pins of port 0, 1 or 2: A, B or C. There is no other: its levels are 00, and none is driven.
+// The pins of a port. There are no ports but A, B and C: the levels of another are 00, and none is driven.
 pub fn pins(chip: Chip, port: u8) -> Pins
     ensures { λ r. ⌜ r ≡ pinsOf chip port ⌝ }
 {
     let core = chip.core;
     match port {
-        0 => self::port(core.a, drives(core, Group::A)),
-        1 => self::port(core.b, drives(core, Group::B)),
-        2 => lines(chip),
+        chip::PORT_A => self::port(core.a, drives(core, Group::A)),
+        chip::PORT_B => self::port(core.b, drives(core, Group::B)),
+        chip::PORT_C => lines(chip),
         _ => Pins {
             levels: 0,
             driven: 0,

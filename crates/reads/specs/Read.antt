@@ -17,9 +17,9 @@ abbrev pub doneWith : Port → Bool → Port
 doneWith p strobed = cond strobed (withInput p (afterEndRead (p .input))) p
 
 -- A read begins at the address x: ports A and B may have a byte to give ("Events and numbers").
-unfoldable pub begunRead : Core → ℕ → Core
-begunRead c x = onPort c x (λ g p. fetchedFrom p (strobedInput (c .word) g))
+unfoldable pub afterReadBegins : Core → ℕ → Core
+afterReadBegins c x = onPort c x (λ g p. fetchedFrom p (strobedInput (c .word) g))
 
 -- It ends there.
-unfoldable pub endedRead : Core → ℕ → Core
-endedRead c x = onPort c x (λ g p. doneWith p (strobedInput (c .word) g))
+unfoldable pub afterReadEnds : Core → ℕ → Core
+afterReadEnds c x = onPort c x (λ g p. doneWith p (strobedInput (c .word) g))

@@ -1,6 +1,6 @@
 // A read, which begins and ends: it hands over the byte of a strobed input, and then empties the channel.
 ghost use mathlib.Core.Path.{_≡_};
-ghost use Rattle.reads.specs.Read.{fetchedFrom, doneWith, begunRead, endedRead};
+ghost use Rattle.reads.specs.Read.{fetchedFrom, doneWith, afterReadBegins, afterReadEnds};
 use channel::Fill;
 use chip::Core;
 use chip::Port;
@@ -24,14 +24,14 @@ fn finish(mut port: Port, strobed: bool) -> Port
 
 // A read of the port begins.
 pub fn begin(mut core: Core, port: u8) -> Core
-    ensures { λ r. ⌜ r ≡ begunRead core port ⌝ }
+    ensures { λ r. ⌜ r ≡ afterReadBegins core port ⌝ }
 {
     match port {
-        0 => {
+        chip::PORT_A => {
             core.a = fetch(core.a, control::mode::strobed_input(core.word, Group::A));
             core
         }
-        1 => {
+        chip::PORT_B => {
             core.b = fetch(core.b, control::mode::strobed_input(core.word, Group::B));
             core
         }
@@ -41,14 +41,14 @@ pub fn begin(mut core: Core, port: u8) -> Core
 
 // A read of the port ends.
 pub fn end(mut core: Core, port: u8) -> Core
-    ensures { λ r. ⌜ r ≡ endedRead core port ⌝ }
+    ensures { λ r. ⌜ r ≡ afterReadEnds core port ⌝ }
 {
     match port {
-        0 => {
+        chip::PORT_A => {
             core.a = finish(core.a, control::mode::strobed_input(core.word, Group::A));
             core
         }
-        1 => {
+        chip::PORT_B => {
             core.b = finish(core.b, control::mode::strobed_input(core.word, Group::B));
             core
         }

@@ -5,27 +5,28 @@ use mathlib.Core.Bool.{true}
 use mathlib.Core.List.{List, [], _∷_, _++_}
 use Prim.Native.Nat.{ℕ, _/_}
 use lib.ListN.{length}
+use Rattle.events.specs.Event.{Event}
 use Rattle.control.specs.declared.Group.{Group}
 use Rattle.channel.specs.declared.Side.{Side}
 use Rattle.channel.specs.declared.Tally.{Tally}
 use Rattle.chip.specs.declared.Chip.{Chip}
 use Rattle.chip.specs.declared.Levels.{Levels}
 use Rattle.chip.specs.State.{noTally, powerUpWith, tallyOf}
-use Rattle.laws.specs.History.{Event}
-use Rattle.fates.specs.Around.{atPowerUp}
+use Rattle.fates.specs.Surroundings.{atPowerUp}
 use Rattle.fates.specs.Bytes.{handedOver, Byte, bytesOf}
 use Rattle.fates.specs.Promise.{run, newBytes, oldByte, Each, ShownAt, Fates}
 use Rattle.fates.proofs.Demand.{fates, disciplined}
 use Rattle.account.specs.Account.{Account, opened}
 use Rattle.account.specs.Promise.{over, accountOf, Accounted}
 use Rattle.account.proofs.Account.{account, account-from}
-use Rattle.image.specs.Restored.{stateOf}
+use Rattle.image.specs.Places as places
+use Rattle.image.specs.Loaded.{stateOf}
 use Rattle.image.specs.Good.{isImage, Bytes}
-use Rattle.host.specs.Calls.{pinsAnswer, tallyAnswer, explainAnswer}
+use Rattle.calls.specs.Calls.{pinsAnswer, tallyAnswer, explainAnswer}
 use Rattle.restored.specs.Host.{hostRun, powerUpIn}
 use Rattle.restored.specs.Answers.{answerTo, answerBy, pinsBy, explainedBy, AnsweredAt, Answers, HostKept, ImageKept}
 use Rattle.restored.proofs.Holds.{Holds, holds-new, holds-image, holds-run, answer-held, pins-held, explain-held}
-use Rattle.restored.proofs.Saved.{restored}
+use Rattle.restored.proofs.Saved.{goes-on}
 use Rattle.restored.proofs.Shown.{answered-at}
 use Rattle.restored.proofs.SameDiscipline.{same-discipline}
 use Rattle.restored.proofs.Counts.{Numbered, numbered-none, numbered-held, tally-told}
@@ -57,8 +58,8 @@ module _ (l : List ℕ) (c : Chip) (a : Account) (es : List Event) (h : Holds l 
     asOffered = λ g s. all-answered g s (all g s) (f g s .asOffered);
   }
 
--- From every power-up, in 64 bytes that held anything.
-pub host-kept : (l : List ℕ) (v : Levels) (es : List Event) → length l ≡ 64 → HostKept l v es
+-- From every power-up, in as many bytes as an image has, that held anything.
+pub host-kept : (l : List ℕ) (v : Levels) (es : List Event) → length l ≡ places.length → HostKept l v es
 host-kept l v es long =
     let h = holds-new l v long in
     let bytes : Group → Side → List Byte = λ g s. bytesOf g s v es in
@@ -76,4 +77,4 @@ image-kept l bytes good es =
     let h = holds-image l bytes good in
     answers l c (accountOf c) es h (account-from c es)
     (λ k n. tallyAnswer l k n / 256) (tallyOf c) (numbered-held l c h)
-    (λ g s. newBytes g s c es) (λ g s. oldByte g s c es ++ newBytes g s c es) (restored l bytes good es .fates)
+    (λ g s. newBytes g s c es) (λ g s. oldByte g s c es ++ newBytes g s c es) (goes-on l bytes good es .fates)

@@ -1,26 +1,28 @@
 -- A host that holds the image of a chip: it holds that of the next chip after every event, and its calls answer what the chip does.
--- Rests on Stays, on image's Long, ComesBack and OneImage, on host's HostStep, and on fates' Followed.
+-- Rests on Stays, on image's Long, ComesBack and OneImage, on calls' HostStep, and on fates' Followed.
 use mathlib.Core.Path.{_≡_, refl}
 use mathlib.Core.Bool.{true, _||_}
 use mathlib.Core.List.{List, [], _∷_}
 use Prim.Native.Nat.{ℕ, _*_}
 use lib.Dec.{ltb}
 use lib.ListN.{length}
+use Rattle.events.specs.Event.{Event}
 use Rattle.chip.specs.declared.Chip.{Chip}
 use Rattle.chip.specs.declared.Levels.{Levels}
 use Rattle.chip.specs.State.{powerUpWith, tallyOf}
 use Rattle.status.specs.Reasons.{explainedOf, numbersOf}
 use Rattle.ports.specs.Pins.{pinsOf}
-use Rattle.laws.specs.History.{Event, stepped}
+use Rattle.step.specs.Step.{stepped}
 use Rattle.fates.specs.Promise.{run}
 use Rattle.fates.proofs.Followed.{after}
-use Rattle.image.specs.Restored.{stateOf}
+use Rattle.image.specs.Places as places
+use Rattle.image.specs.Loaded.{stateOf}
 use Rattle.image.specs.Good.{hasImage, isImage, Bytes}
-use Rattle.host.specs.Calls.{packed, orNone, pinsGiven, pinsAnswer, groupNumbered, sideNumbered, counterNumbered, tallyAnswer, reasonsGiven, explainAnswer}
 use Rattle.image.proofs.Long.{written-over}
 use Rattle.image.proofs.ComesBack.{comes-back}
 use Rattle.image.proofs.OneImage.{has-image, tells-such}
-use Rattle.host.proofs.HostStep.{host-answer, by-number}
+use Rattle.calls.specs.Calls.{packed, orNone, lastPort, lastChannel, lastTally, pinsGiven, pinsAnswer, groupNumbered, sideNumbered, counterNumbered, tallyAnswer, reasonsGiven, explainAnswer}
+use Rattle.calls.proofs.HostStep.{host-answer, by-number}
 use Rattle.restored.specs.Host.{passed, hostRun, powerUpIn}
 use Rattle.restored.specs.Answers.{answerTo}
 use Rattle.restored.proofs.Stays.{image-stays, power-up-has}
@@ -44,7 +46,7 @@ module _ (l : List ℕ) (c : Chip) (h : Holds l c) where
   pub answer-held : (e : Event) → answerTo l e ≡ packed (stepped c e .number) (stepped c e .byte) 0
   answer-held e = rw (← h .state) (host-answer l (e .kind) (e .first) (e .second) (h .image))
 
-  pub pins-held : (p : ℕ) → pinsAnswer l p ≡ orNone (ltb 2 p) (pinsGiven (pinsOf c p))
+  pub pins-held : (p : ℕ) → pinsAnswer l p ≡ orNone (ltb lastPort p) (pinsGiven (pinsOf c p))
   unfolding pinsAnswer
   pins-held p = rw (h .image, h .state)
 
@@ -53,7 +55,8 @@ module _ (l : List ℕ) (c : Chip) (h : Holds l c) where
   explain-held n = rw (h .image, h .state)
 
   pub tally-held : (k n : ℕ)
-      → tallyAnswer l k n ≡ orNone (ltb 3 k || ltb 4 n) (256 * counterNumbered (tallyOf c (groupNumbered k) (sideNumbered k)) n)
+      → tallyAnswer l k n
+      ≡ orNone (ltb lastChannel k || ltb lastTally n) (256 * counterNumbered (tallyOf c (groupNumbered k) (sideNumbered k)) n)
   unfolding tallyAnswer
   tally-held k n = rw (h .image, h .state)
 
@@ -61,8 +64,8 @@ pub holds-run : (l : List ℕ) (c : Chip) (es : List Event) → Holds l c → Ho
 holds-run l c [] h = h
 holds-run l c (e ∷ es) h = holds-run (passed l e) (after c e) es (holds-next l c h e)
 
--- So it is from a power-up, in 64 bytes that held anything,
-pub holds-new : (l : List ℕ) (v : Levels) → length l ≡ 64 → Holds (powerUpIn l v) (powerUpWith v)
+-- So it is from a power-up, in as many bytes as an image has, that held anything,
+pub holds-new : (l : List ℕ) (v : Levels) → length l ≡ places.length → Holds (powerUpIn l v) (powerUpWith v)
 holds-new l v long =
     let c = powerUpWith v in
     rw (written-over l c long) (record { image = has-image c (power-up-has v); state = comes-back c; has = power-up-has v })

@@ -6,19 +6,19 @@ use mathlib.Core.List.{List, [], _∷_}
 use Prim.Native.Nat.{ℕ, _/_, _%_, _<_}
 use native.Mathlib.Omega.{arith}
 use Rattle.bits.specs.Bit.{num}
+use Rattle.events.specs.Event.{Event}
 use Rattle.control.specs.declared.Group.{Group}
 use Rattle.channel.specs.declared.Side.the-variants.{Input}
 use Rattle.chip.specs.declared.Chip.{Chip}
 use Rattle.ports.specs.Pins.{pinsOf}
-use Rattle.laws.specs.History.{Event}
-use Rattle.fates.specs.Around.{Around, aroundNext}
-use Rattle.fates.specs.Deeds.{deed}
+use Rattle.fates.specs.Surroundings.{Surroundings, surroundingsNext}
+use Rattle.fates.specs.Effects.{effect}
 use Rattle.fates.specs.Discipline.{ibf, Minds, Disciplined}
 use Rattle.fates.proofs.Followed.{after}
 use Rattle.account.specs.Views.{pinLevel, byteBy}
 use Rattle.account.specs.Promise.{accountOf}
 use Rattle.account.proofs.Account.{account-from}
-use Rattle.host.specs.Calls.{packed}
+use Rattle.calls.specs.Calls.{packed}
 use Rattle.restored.specs.Host.{passed}
 use Rattle.restored.specs.Answers.{ibfAnswered, HostDisciplined}
 use Rattle.restored.proofs.Holds.{Holds, holds-next, pins-held}
@@ -42,9 +42,9 @@ ibf-held : (g : Group) (l : List ℕ) (c : Chip) → Holds l c → ibfAnswered l
 ibf-held g l c h = rw (pins-held l c h 2, taken-out _ _ (lines-below c))
 
 -- So the one can be kept exactly where the other can.
-pub same-discipline : (g : Group) (a : Around) (l : List ℕ) (c : Chip) (es : List Event) → Holds l c
+pub same-discipline : (g : Group) (a : Surroundings) (l : List ℕ) (c : Chip) (es : List Event) → Holds l c
     → HostDisciplined g a l es ≡ Disciplined g a c es
 same-discipline g a l c [] h = refl
 same-discipline g a l c (e ∷ es) h =
-    ap₂ (λ (level : Bool) (rest : Type 0). Minds level (deed g Input a e) × rest) (ibf-held g l c h)
-    (same-discipline g (aroundNext a e) (passed l e) (after c e) es (holds-next l c h e))
+    ap₂ (λ (level : Bool) (rest : Type 0). Minds level (effect g Input a e) × rest) (ibf-held g l c h)
+    (same-discipline g (surroundingsNext a e) (passed l e) (after c e) es (holds-next l c h e))

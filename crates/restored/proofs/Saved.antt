@@ -1,12 +1,13 @@
 -- Demand 3 from a chip that a host restores from an image; and what the host holds after a power-up.
--- Rests on Conditions and Holds, on image's ComesBack, OneImage and SameBytes, and on fates' Tables, Surroundings, Followed, SameByte, InTheLatch,
--- Discipline and Demand.
+-- Rests on Conditions and Holds, on image's ComesBack, OneImage and SameBytes, and on fates' Tables, SurroundingsKept, Followed, SameByte,
+-- InTheLatch, Discipline and Demand.
 use mathlib.Core.Path.{_≡_, _∙_, ap, sym, subst}
 use mathlib.Core.Bool.{true}
 use mathlib.Core.List.{List, [], _∷_}
 use Prim.Native.Nat.{ℕ, _+_, _*_, _<_}
 use native.Mathlib.Omega.{arith}
 use lib.ListN.{length}
+use Rattle.events.specs.Event.{Event}
 use Rattle.control.specs.declared.Group.{Group}
 use Rattle.control.specs.declared.Group.the-variants.{A, B}
 use Rattle.channel.specs.declared.Side.{Side}
@@ -15,23 +16,23 @@ use Rattle.chip.specs.declared.Chip.{Chip}
 use Rattle.chip.specs.declared.Levels.{Levels}
 use Rattle.chip.specs.State.{powerUpWith, tallyOf}
 use Rattle.chip.specs.Handshakes.{strobed}
-use Rattle.laws.specs.History.{Event}
-use Rattle.fates.specs.Promise.{run, aroundOf, WaitsByHandshake, SixteenBits}
+use Rattle.fates.specs.Promise.{run, surroundingsOf, WaitsByHandshake, SixteenBits}
 use Rattle.fates.specs.Discipline.{HasFound, Disciplined}
 use Rattle.fates.proofs.Tables.{strobes-same}
-use Rattle.fates.proofs.Surroundings.{around-next}
+use Rattle.fates.proofs.SurroundingsKept.{surroundings-next}
 use Rattle.fates.proofs.Followed.{after}
 use Rattle.fates.proofs.SameByte.{strobed-alone}
 use Rattle.fates.proofs.InTheLatch.{held-from}
 use Rattle.fates.proofs.Discipline.{found-next, disciplined-from}
 use Rattle.fates.proofs.Demand.{fates-from, no-read}
+use Rattle.image.specs.Places as places
 use Rattle.image.specs.Layout.{imageOf}
-use Rattle.image.specs.Restored.{byteAt, tallyAt, stateOf}
-use Rattle.image.specs.Good.{kept, hasImage, isImage, Bytes}
+use Rattle.image.specs.Loaded.{byteAt, tallyAt, stateOf}
+use Rattle.image.specs.Good.{allowed, hasImage, isImage, Bytes}
 use Rattle.image.proofs.ComesBack.{comes-back}
 use Rattle.image.proofs.SameBytes.{small}
 use Rattle.image.proofs.OneImage.{tells-such}
-use Rattle.restored.specs.Host.{powerUpIn, Restored, PoweredUp, StillNoneLost}
+use Rattle.restored.specs.Host.{powerUpIn, GoesOn, PoweredUp, StillNoneLost}
 use Rattle.restored.proofs.Conditions.{apart}
 use Rattle.restored.proofs.Holds.{holds-new, holds-image, holds-run}
 
@@ -54,20 +55,20 @@ module _ (l : List ℕ) (bytes : Bytes l) where
 
   sixteen-bits : (g : Group) (s : Side) → SixteenBits (tallyOf (stateOf l) g s)
   unfolding stateOf
-  sixteen-bits A Input = tally-small 0
-  sixteen-bits A Output = tally-small 10
-  sixteen-bits B Input = tally-small 20
-  sixteen-bits B Output = tally-small 30
+  sixteen-bits A Input = tally-small places.tallies
+  sixteen-bits A Output = tally-small (places.tallies + places.channelTallies)
+  sixteen-bits B Input = tally-small (places.tallies + places.channelTallies * 2)
+  sixteen-bits B Output = tally-small (places.tallies + places.channelTallies * 3)
 
 -- In a chip that has an image a byte waits only where the mode word strobes the channel.
 waits-strobed : (g : Group) (s : Side) (c : Chip) → hasImage c ≡ true → WaitsByHandshake g s c
 waits-strobed g s c has waits =
     let w = c .core .word in
-    strobed-alone w g s (strobes-same w g s ∙ sym (ap (kept (strobed w g s) s) waits) ∙ apart c has .channel g s)
+    strobed-alone w g s (strobes-same w g s ∙ sym (ap (allowed (strobed w g s) s) waits) ∙ apart c has .channel g s)
 
 -- From every image, over all events.
-pub restored : (l : List ℕ) → Bytes l → isImage l ≡ true → (es : List Event) → Restored l es
-restored l bytes good es =
+pub goes-on : (l : List ℕ) → Bytes l → isImage l ≡ true → (es : List Event) → GoesOn l es
+goes-on l bytes good es =
     let at-end = holds-run l (stateOf l) es (holds-image l bytes good) in
     record {
       image = at-end .image;
@@ -76,17 +77,17 @@ restored l bytes good es =
       held = λ g s. held-from g s (stateOf l) (waits-strobed g s (stateOf l) (tells-such l bytes good)) es;
     }
 
--- From every power-up, in 64 bytes that held anything.
-pub powered-up : (l : List ℕ) (v : Levels) (es : List Event) → length l ≡ 64 → PoweredUp l v es
+-- From every power-up, in as many bytes as an image has, that held anything.
+pub powered-up : (l : List ℕ) (v : Levels) (es : List Event) → length l ≡ places.length → PoweredUp l v es
 powered-up l v es long =
     let at-end = holds-run (powerUpIn l v) (powerUpWith v) es (holds-new l v long) in
     record { image = at-end .image; state = at-end .state }
 
 -- In a run that keeps to the discipline, a read of the strobed port has always found a byte.
-has-found : (g : Group) (c : Chip) (es : List Event) → HasFound g c → Disciplined g (aroundOf c) c es → HasFound g (run c es)
+has-found : (g : Group) (c : Chip) (es : List Event) → HasFound g c → Disciplined g (surroundingsOf c) c es → HasFound g (run c es)
 has-found g c [] found kept = found
 has-found g c (e ∷ es) found kept =
-    has-found g (after c e) es (found-next g c e found (kept .0)) (rw (around-next c e) (kept .1))
+    has-found g (after c e) es (found-next g c e found (kept .0)) (rw (surroundings-next c e) (kept .1))
 
 -- From an image saved in such a run.
 pub still-none-lost : (g : Group) (l : Levels) (before es : List Event) → StillNoneLost g l before es

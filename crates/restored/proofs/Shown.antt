@@ -6,21 +6,22 @@ use mathlib.Core.List.{List, [], _∷_}
 use Prim.Native.Nat.{ℕ, zero, suc}
 use native.Mathlib.Omega.{arith}
 use lib.Dec.{ltb}
+use Rattle.events.specs.Event.{Event}
 use Rattle.control.specs.declared.Group.{Group}
 use Rattle.control.specs.declared.Group.the-variants.{A, B}
 use Rattle.channel.specs.declared.Side.{Side}
 use Rattle.channel.specs.declared.Side.the-variants.{Input, Output}
 use Rattle.chip.specs.declared.Chip.{Chip}
-use Rattle.laws.specs.History.{Event}
-use Rattle.fates.specs.Deeds.{portNumber}
+use Rattle.fates.specs.Effects.{portNumber}
 use Rattle.fates.specs.Promise.{Shows, ShownAt}
 use Rattle.fates.proofs.Followed.{after}
+use Rattle.calls.specs.Calls.{lastPort}
 use Rattle.restored.specs.Host.{passed}
 use Rattle.restored.specs.Answers.{AnswerShows, AnsweredAt}
 use Rattle.restored.proofs.Holds.{Holds, holds-next, answer-held, pins-held}
 
 -- The pins call refuses neither port.
-is-port : (g : Group) → ltb 2 (portNumber g) ≡ false
+is-port : (g : Group) → ltb lastPort (portNumber g) ≡ false
 is-port A = refl
 is-port B = refl
 

@@ -1,41 +1,41 @@
 -- The step takes states with an image to states with an image, and so does every history; the chip at every power-up has one.
--- Rests on Conditions, and on fates' Story, Tables, Surroundings, SameByte and Followed.
+-- Rests on Conditions, on bits' Logic, and on fates' Shapes, Tables, SurroundingsKept, SameByte and Followed.
 use mathlib.Core.Path.{_≡_, refl, sym, subst}
-use mathlib.Core.Bool.{Bool, true, false, cond, _&&_, and-eq-true-iff}
+use mathlib.Core.Bool.{Bool, true, false, cond, _&&_}
 use mathlib.Core.List.{List, [], _∷_}
 use Prim.Native.Nat.{ℕ}
 use lib.Dec.{eqb, ltb}
 use Rattle.bits.specs.Bit.{bitOf}
+use Rattle.bits.proofs.Logic.{both, either-way}
+use Rattle.events.specs.Event.{Event}
+use Rattle.bus.specs.declared.Phase.{Phase}
+use Rattle.bus.specs.declared.Phase.the-variants.{Idle, Reading, Writing}
 use Rattle.control.specs.declared.Group.{Group}
 use Rattle.channel.specs.declared.Side.{Side}
 use Rattle.channel.specs.declared.Side.the-variants.{Input, Output}
 use Rattle.channel.specs.declared.Fill.{Fill}
 use Rattle.channel.specs.declared.Fill.the-variants.{Empty, Waiting, Fetching}
-use Rattle.chip.specs.declared.Phase.{Phase}
-use Rattle.chip.specs.declared.Phase.the-variants.{Idle, Reading, Writing}
 use Rattle.chip.specs.declared.Chip.{Chip}
 use Rattle.chip.specs.declared.Levels.{Levels}
 use Rattle.chip.specs.State.{powerUpWith}
-use Rattle.laws.specs.History.{Event}
-use Rattle.fates.specs.Kinds.{Named, reset, cycleEnded, unknown, readBegun, writeBegun, newLevels, free, accepts}
-use Rattle.fates.specs.Kinds.{named as byName}
-use Rattle.fates.specs.Around.{Around, ofModeWord, brought, phaseAfter, wordAfter, aroundAfter, aroundNext}
-use Rattle.fates.specs.Deeds.{Deed, offered, followed, taken, ended, clearedAway, nothing, strobes, when, ownDeed, clears, deedOf}
-use Rattle.fates.specs.Promise.{run, aroundOf}
-use Rattle.fates.proofs.Story.{fillAfter}
+use Rattle.fates.specs.Kinds.{Kind, reset, cycleEnded, unknown, readBegun, writeBegun, newLevels, free, accepts, kindOf}
+use Rattle.fates.specs.Surroundings.{Surroundings, ofModeWord, brought, phaseAfter, wordAfter, surroundingsAfter, surroundingsNext}
+use Rattle.fates.specs.Effects.{clearedAway, strobes, when, ownEffect, clears, effectOf}
+use Rattle.fates.specs.Promise.{run, surroundingsOf}
+use Rattle.fates.proofs.Shapes.{Shape, passes, offers, decides, Gone, shapeOf, fillAfter}
 use Rattle.fates.proofs.Tables.{strobes-same}
-use Rattle.fates.proofs.Surroundings.{around-next}
+use Rattle.fates.proofs.SurroundingsKept.{surroundings-next}
 use Rattle.fates.proofs.SameByte.{word-stays}
 use Rattle.fates.proofs.Followed.{after, fill, next-fill}
-use Rattle.image.specs.Good.{named, kept, hasImage}
+use Rattle.image.specs.Good.{namesItsPlace, allowed, hasImage}
 use Rattle.restored.proofs.Conditions.{Conditions, apart, together}
 
 -- A cycle that an accepted event begins names its place.
-place-stays : (ph : Phase) (e : Named) → accepts ph e ≡ true → named ph ≡ true → named (phaseAfter ph e) ≡ true
+place-stays : (ph : Phase) (e : Kind) → accepts ph e ≡ true → namesItsPlace ph ≡ true → namesItsPlace (phaseAfter ph e) ≡ true
 place-stays ph reset ok was = refl
-place-stays ph (readBegun x) ok was = and-eq-true-iff (ltb x 3) (free ph) .0 ok .0
+place-stays ph (readBegun x) ok was = both (ltb x 3) (free ph) ok .0
 place-stays ph cycleEnded ok was = refl
-place-stays ph (writeBegun x d) ok was = and-eq-true-iff (ltb x 4) (free ph) .0 ok .0
+place-stays ph (writeBegun x d) ok was = both (ltb x 4) (free ph) ok .0
 place-stays ph (newLevels x d) ok was = was
 place-stays ph unknown ok was = was
 
@@ -50,7 +50,7 @@ word-ends (Writing x d) w was = go (eqb x 3) (bitOf d 7) refl
     go true true is = is
     go true false is = was
 
-bit-7-stays : (ph : Phase) (w : ℕ) (e : Named) → bitOf w 7 ≡ true → bitOf (wordAfter ph w e) 7 ≡ true
+bit-7-stays : (ph : Phase) (w : ℕ) (e : Kind) → bitOf w 7 ≡ true → bitOf (wordAfter ph w e) 7 ≡ true
 unfolding bitOf
 bit-7-stays ph w reset was = refl
 bit-7-stays ph w (readBegun x) was = was
@@ -59,62 +59,63 @@ bit-7-stays ph w (writeBegun x d) was = was
 bit-7-stays ph w (newLevels x d) was = was
 bit-7-stays ph w unknown was = was
 
--- No deed leaves a strobed output fetching.
-deed-keeps : (s : Side) (f : Fill) (d : Deed) → kept true s f ≡ true → kept true s (fillAfter s f d) ≡ true
-deed-keeps s f (offered v) was = refl
-deed-keeps s f (followed v) was = was
-deed-keeps s Empty taken was = refl
-deed-keeps Input Waiting taken was = refl
-deed-keeps Output Waiting taken was = refl
-deed-keeps s Fetching taken was = was
-deed-keeps s f ended was = refl
-deed-keeps s f clearedAway was = refl
-deed-keeps s f nothing was = was
+-- What is left of a channel whose byte is gone has an image where it had one before.
+gone-keeps : (s : Side) (f left : Fill) → Gone s f left → allowed true s f ≡ true → allowed true s left ≡ true
+gone-keeps s f Empty gone was = refl
+gone-keeps s f Waiting gone was = refl
+gone-keeps Input f Fetching gone was = refl
+gone-keeps Output f Fetching gone was = rw (gone) at was
+
+-- No effect leaves a strobed output fetching.
+effect-keeps : (s : Side) (f : Fill) (d : Shape) → allowed true s f ≡ true → allowed true s (fillAfter s f d) ≡ true
+effect-keeps s f (passes to) was = was
+effect-keeps s f (offers v) was = refl
+effect-keeps s f (decides x) was = gone-keeps s f (x .left s f) (x .gone s f) was
 
 -- A channel under an accepted event: all are emptied, or the word stays and only a strobed one takes part.
-module _ (g : Group) (s : Side) (a : Around) (e : Named) (f : Fill) where
-  channel-accepted : kept (strobes (a .word) g s) s f ≡ true
-      → kept (strobes (wordAfter (a .phase) (a .word) e) g s) s (fillAfter s f (deedOf g s a e)) ≡ true
+module _ (g : Group) (s : Side) (a : Surroundings) (e : Kind) (f : Fill) where
+  channel-accepted : allowed (strobes (a .word) g s) s f ≡ true
+      → allowed (strobes (wordAfter (a .phase) (a .word) e) g s) s (fillAfter s f (shapeOf (effectOf g s a e))) ≡ true
   channel-accepted was = go (clears (a .phase) e) refl
     where
-      part : (on : Bool) → kept on s f ≡ true → kept on s (fillAfter s f (when on (ownDeed g s a e))) ≡ true
-      part true was = deed-keeps s f (ownDeed g s a e) was
+      part : (on : Bool) → allowed on s f ≡ true → allowed on s (fillAfter s f (shapeOf (when on (ownEffect g s a e)))) ≡ true
+      part true was = effect-keeps s f (shapeOf (ownEffect g s a e)) was
       part false was = was
 
       go : (all : Bool) → clears (a .phase) e ≡ all
-          → kept (strobes (wordAfter (a .phase) (a .word) e) g s) s (fillAfter s f (cond all clearedAway (when (strobes (a .word) g s) (ownDeed g s a e)))) ≡ true
+          → allowed (strobes (wordAfter (a .phase) (a .word) e) g s) s (fillAfter s f (shapeOf (cond all clearedAway (when (strobes (a .word) g s) (ownEffect g s a e))))) ≡ true
       go true all = refl
       go false none = rw (word-stays (a .phase) (a .word) e none) (part (strobes (a .word) g s) was)
 
-  channel-stays : (accepted : Bool) → kept (strobes (a .word) g s) s f ≡ true
-      → kept (strobes (cond accepted (aroundAfter a e) a .word) g s) s (fillAfter s f (when accepted (deedOf g s a e))) ≡ true
+  channel-stays : (accepted : Bool) → allowed (strobes (a .word) g s) s f ≡ true
+      → allowed (strobes (cond accepted (surroundingsAfter a e) a .word) g s) s (fillAfter s f (shapeOf (when accepted (effectOf g s a e)))) ≡ true
   channel-stays true was = channel-accepted was
   channel-stays false was = was
 
 -- The bus and the mode word under any event.
-module _ (a : Around) (e : Named) where
-  bus-stays : (accepted : Bool) → accepts (a .phase) e ≡ accepted → named (a .phase) ≡ true → named (cond accepted (aroundAfter a e) a .phase) ≡ true
+module _ (a : Surroundings) (e : Kind) where
+  bus-stays : (accepted : Bool) → accepts (a .phase) e ≡ accepted → namesItsPlace (a .phase) ≡ true → namesItsPlace (cond accepted (surroundingsAfter a e) a .phase) ≡ true
   bus-stays true ok was = place-stays (a .phase) e ok was
   bus-stays false ok was = was
 
-  force-stays : (accepted : Bool) → bitOf (a .word) 7 ≡ true → bitOf (cond accepted (aroundAfter a e) a .word) 7 ≡ true
-  force-stays true was = bit-7-stays (a .phase) (a .word) e was
-  force-stays false was = was
+  force-stays : (accepted : Bool) → bitOf (a .word) 7 ≡ true → bitOf (cond accepted (surroundingsAfter a e) a .word) 7 ≡ true
+  force-stays accepted was =
+      either-way (λ (b : Surroundings). bitOf (b .word) 7) true accepted (surroundingsAfter a e) a (bit-7-stays (a .phase) (a .word) e was) was
 
 conditions-stay : (c : Chip) (e : Event) → Conditions c → Conditions (after c e)
 conditions-stay c e k =
-    let accepted = accepts (c .phase) (byName e) in
-    let around : aroundNext (aroundOf c) e ≡ aroundOf (after c e) = sym (around-next c e) in
+    let accepted = accepts (c .phase) (kindOf e) in
+    let surroundings : surroundingsNext (surroundingsOf c) e ≡ surroundingsOf (after c e) = sym (surroundings-next c e) in
     record {
-      place = subst (λ (a : Around). named (a .phase) ≡ true) around (bus-stays (aroundOf c) (byName e) accepted refl (k .place));
-      word = subst (λ (a : Around). bitOf (a .word) 7 ≡ true) around (force-stays (aroundOf c) (byName e) accepted (k .word));
+      place = subst (λ (a : Surroundings). namesItsPlace (a .phase) ≡ true) surroundings (bus-stays (surroundingsOf c) (kindOf e) accepted refl (k .place));
+      word = subst (λ (a : Surroundings). bitOf (a .word) 7 ≡ true) surroundings (force-stays (surroundingsOf c) (kindOf e) accepted (k .word));
       channel = λ g s.
           let on = strobes-same (c .core .word) g s in
-          let was = subst (λ (b : Bool). kept b s (fill g s c) ≡ true) (sym on) (k .channel g s) in
-          let now-kept = channel-stays g s (aroundOf c) (byName e) (fill g s c) accepted was in
-          let by-fill = subst (λ (f : Fill). kept (strobes (aroundNext (aroundOf c) e .word) g s) s f ≡ true) (sym (next-fill g s c e)) now-kept in
-          let by-word = subst (λ (a : Around). kept (strobes (a .word) g s) s (fill g s (after c e)) ≡ true) around by-fill in
-          subst (λ (b : Bool). kept b s (fill g s (after c e)) ≡ true) (strobes-same (after c e .core .word) g s) by-word;
+          let was = subst (λ (b : Bool). allowed b s (fill g s c) ≡ true) (sym on) (k .channel g s) in
+          let now-allowed = channel-stays g s (surroundingsOf c) (kindOf e) (fill g s c) accepted was in
+          let by-fill = subst (λ (f : Fill). allowed (strobes (surroundingsNext (surroundingsOf c) e .word) g s) s f ≡ true) (sym (next-fill g s c e)) now-allowed in
+          let by-word = subst (λ (a : Surroundings). allowed (strobes (a .word) g s) s (fill g s (after c e)) ≡ true) surroundings by-fill in
+          subst (λ (b : Bool). allowed b s (fill g s (after c e)) ≡ true) (strobes-same (after c e .core .word) g s) by-word;
     }
 
 pub image-stays : (c : Chip) (e : Event) → hasImage c ≡ true → hasImage (after c e) ≡ true

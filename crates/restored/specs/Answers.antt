@@ -7,25 +7,25 @@ use Prim.Native.Nat.{ℕ, zero, suc, _+_, _*_, _/_, _%_}
 use lib.Dec.{ltb}
 use lib.ListN.{length, getD}
 use Rattle.bits.specs.Bit.{bitOf}
+use Rattle.events.specs.Event.{Event}
 use Rattle.control.specs.declared.Group.{Group}
 use Rattle.channel.specs.declared.Side.{Side}
 use Rattle.channel.specs.declared.Side.the-variants.{Input, Output}
 use Rattle.chip.specs.declared.Levels.{Levels}
 use Rattle.laws.specs.Seen.{flagPin}
-use Rattle.laws.specs.History.{Event}
-use Rattle.fates.specs.Kinds.{named}
-use Rattle.fates.specs.Around.{Around, atPowerUp, aroundNext}
-use Rattle.fates.specs.Deeds.{portNumber, deed}
+use Rattle.fates.specs.Kinds.{kindOf}
+use Rattle.fates.specs.Surroundings.{Surroundings, atPowerUp, surroundingsNext}
+use Rattle.fates.specs.Effects.{portNumber, effect}
 use Rattle.fates.specs.Bytes.{handedOver, overwritten, swallowed, cleared, Byte, bytesOf, count}
 use Rattle.fates.specs.Promise.{newBytes, oldByte, Each}
 use Rattle.fates.specs.Discipline.{Minds, NoneLost}
 use Rattle.account.specs.Acts.{numberBy}
 use Rattle.account.specs.Account.{Account, opened}
-use Rattle.account.specs.Views.{levelsShown, maskShown, byteGiven}
+use Rattle.account.specs.Views.{levelsShown, maskShown, byteAnswered}
 use Rattle.account.specs.Reasons.{explained}
 use Rattle.account.specs.Promise.{over, accountOf}
-use Rattle.image.specs.Restored.{stateOf}
-use Rattle.host.specs.Calls.{packed, orNone, stepAnswer, pinsAnswer, groupNumbered, sideNumbered, tallyAnswer, reasonsGiven, explainAnswer}
+use Rattle.image.specs.Loaded.{stateOf}
+use Rattle.calls.specs.Calls.{packed, orNone, lastPort, lastChannel, lastTally, stepAnswer, pinsAnswer, groupNumbered, sideNumbered, tallyAnswer, reasonsGiven, explainAnswer}
 use Rattle.restored.specs.Host.{passed, hostRun, powerUpIn}
 
 -- What a call of the step answers, where an event is passed to it,
@@ -34,11 +34,11 @@ answerTo l e = stepAnswer l (e .kind) (e .first) (e .second)
 
 -- and what it answers by the account: the number, and the byte above it.
 abbrev pub answerBy : Account → Event → ℕ
-answerBy a e = packed (numberBy (a .around .phase) (named e)) (byteGiven a e) 0
+answerBy a e = packed (numberBy (a .surroundings .phase) (kindOf e)) (byteAnswered a e) 0
 
 -- What the pins call answers of port p by the account: the levels, and the mask of those driven above them.
 abbrev pub pinsBy : Account → ℕ → ℕ
-pinsBy a p = orNone (ltb 2 p) (packed 0 (levelsShown a p) (maskShown a p))
+pinsBy a p = orNone (ltb lastPort p) (packed 0 (levelsShown a p) (maskShown a p))
 
 -- What the explanation call answers of group n by the account: the number, and above it what is said of the input's half and of the output's.
 abbrev pub explainedBy : Account → ℕ → ℕ
@@ -54,7 +54,7 @@ abbrev pub tallyBy : (ℕ → ℕ → ℕ) → (Group → Side → List Byte) �
 tallyBy start new all k n =
     let g = groupNumbered k in
     let s = sideNumbered k in
-    orNone (ltb 3 k || ltb 4 n) (256 * ((start k n + getD (counts (new g s) (all g s)) n 0) % 65536))
+    orNone (ltb lastChannel k || ltb lastTally n) (256 * ((start k n + getD (counts (new g s) (all g s)) n 0) % 65536))
 
 -- The call to which an event is passed shows the byte v: to the program, by the number 0 with that byte; to the device, by the number 0,
 -- and the pins call right after it answers that byte with all eight lines of the port driven.
@@ -86,9 +86,9 @@ abbrev pub ibfAnswered : List ℕ → Group → Bool
 ibfAnswered l g = bitOf (pinsAnswer l 2 / 256 % 256) (flagPin g Input)
 
 -- Device and program keep to the discipline throughout a run, by the IBF that the pins call answers before each event.
-abbrev pub HostDisciplined : Group → Around → List ℕ → List Event → Type 0
+abbrev pub HostDisciplined : Group → Surroundings → List ℕ → List Event → Type 0
 HostDisciplined g a l [] = Unit {0}
-HostDisciplined g a l (e ∷ es) = Minds (ibfAnswered l g) (deed g Input a e) × HostDisciplined g (aroundNext a e) (passed l e) es
+HostDisciplined g a l (e ∷ es) = Minds (ibfAnswered l g) (effect g Input a e) × HostDisciplined g (surroundingsNext a e) (passed l e) es
 
 -- What is promised of a host that powers its chip up, under any levels, in 64 bytes that held anything, and passes it any events: what the
 -- calls answer, the tallies counting from 0; and that no input byte is overwritten or swallowed where device and program keep to the

@@ -3,19 +3,19 @@ use mathlib.Core.Path.{_≡_}
 use mathlib.Core.Bool.{true}
 use mathlib.Core.List.{List, [], _∷_, _++_}
 use Prim.Native.Nat.{ℕ}
+use Rattle.events.specs.Event.{Event}
 use Rattle.control.specs.declared.Group.{Group}
 use Rattle.channel.specs.declared.Side.{Side}
 use Rattle.channel.specs.declared.Side.the-variants.{Input}
 use Rattle.chip.specs.declared.Levels.{Levels}
 use Rattle.chip.specs.State.{powerUpWith, tallyOf}
-use Rattle.laws.specs.History.{Event}
-use Rattle.fates.specs.Around.{atPowerUp}
-use Rattle.fates.specs.Promise.{run, aroundOf, newBytes, oldByte, HeldInTheLatch, Fates}
+use Rattle.fates.specs.Surroundings.{atPowerUp}
+use Rattle.fates.specs.Promise.{run, surroundingsOf, newBytes, oldByte, HeldInTheLatch, Fates}
 use Rattle.fates.specs.Discipline.{Disciplined, NoneLost}
 use Rattle.image.specs.Layout.{imageOf}
-use Rattle.image.specs.Restored.{stateOf}
+use Rattle.image.specs.Loaded.{stateOf}
 use Rattle.image.specs.Good.{isImage}
-use Rattle.host.specs.Calls.{powerUpImageWith, stepImage}
+use Rattle.calls.specs.Calls.{powerUpImageWith, stepImage}
 
 -- The bytes that a call of the step leaves, where an event is passed to it,
 abbrev pub passed : List ℕ → Event → List ℕ
@@ -33,7 +33,7 @@ powerUpIn l v = powerUpImageWith l (v .a) (v .b) (v .c)
 -- What is promised of an image and any events after it: the host always holds an image, that of the chip after these events; on each
 -- channel the counts go on from the image's tallies, a byte that waits in it being offered already, with the latch's value, which later
 -- levels may change; and a byte that still waits in the end, be it that one, is what the latch holds then.
-pub record Restored (l : List ℕ) (es : List Event) : Type 0 where
+pub record GoesOn (l : List ℕ) (es : List Event) : Type 0 where
   pub image : isImage (hostRun l es) ≡ true
   pub state : stateOf (hostRun l es) ≡ run (stateOf l) es
   pub fates : (g : Group) (s : Side)
@@ -51,5 +51,5 @@ pub record PoweredUp (l : List ℕ) (v : Levels) (es : List Event) : Type 0 wher
 abbrev pub StillNoneLost : Group → Levels → List Event → List Event → Type 0
 StillNoneLost g l before es =
     let c = stateOf (imageOf (run (powerUpWith l) before)) in
-    Disciplined g (atPowerUp l) (powerUpWith l) before → Disciplined g (aroundOf c) c es
+    Disciplined g (atPowerUp l) (powerUpWith l) before → Disciplined g (surroundingsOf c) c es
     → NoneLost (oldByte g Input c es ++ newBytes g Input c es)

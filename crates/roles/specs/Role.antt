@@ -1,5 +1,5 @@
 -- The roles of the port C pins, by mode and pin ("Port C roles").
-use mathlib.Core.Bool.{cond}
+use mathlib.Core.Bool.{Bool, cond}
 use mathlib.Core.List.{List, [], _∷_, _++_}
 use Prim.Native.Nat.{ℕ}
 use lib.Dec.{eqb, ltb}
@@ -49,15 +49,19 @@ usesOf w B =
     ∷ [])
     (modeOf w B) []
 
--- Any other pin is free: 7 to 4 follow bit 3, and 3 to 0 follow bit 0.
+-- Pins 3 to 0 are the lower half of port C, and 7 to 4 the upper ("Mode words").
+abbrev pub inLowerHalf : ℕ → Bool
+inLowerHalf n = ltb n 4
+
+-- Any other pin is free: the upper half follows bit 3, and the lower bit 0.
 unfoldable pub freeRole : ℕ → ℕ → Role
-freeRole w n = cond (cond (ltb n 4) (lowerInput w) (upperInput w)) input output
+freeRole w n = cond (cond (inLowerHalf n) (lowerInput w) (upperInput w)) input output
 
 -- The role that a list of uses gives to pin n, or else the other.
-abbrev pub named : List Use → ℕ → Role → Role
-named [] n other = other
-named (u ∷ us) n other = cond (eqb (u .pin) n) (u .role) (named us n other)
+abbrev pub roleAmong : List Use → ℕ → Role → Role
+roleAmong [] n other = other
+roleAmong (u ∷ us) n other = cond (eqb (u .pin) n) (u .role) (roleAmong us n other)
 
 -- The role of pin n under the mode word w.
 unfoldable pub roleOf : ℕ → ℕ → Role
-roleOf w n = named (usesOf w A ++ usesOf w B) n (freeRole w n)
+roleOf w n = roleAmong (usesOf w A ++ usesOf w B) n (freeRole w n)

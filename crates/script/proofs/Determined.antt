@@ -1,15 +1,21 @@
--- The contract of each public function of frames and of script leaves no choice: of the output that a run was lent neither.
+-- The contract of each public function of text and of script leaves no choice: of the output that a run was lent neither.
 -- Rests on bits' Determined.
 use mathlib.Core.Path.{ap}
 use Rattle.bits.proofs.Determined.{Determines, equation-determines, equations-determine}
-use Rattle.frames.proofs as frames
+use Rattle.text.proofs as text
 use Rattle.script.proofs as script
 
-pub code-determined : Determines frames.digits.code.ended frames.digits.code.Reads.Learnt
+pub code-determined : Determines text.digits.code.ended text.digits.code.Reads.Learnt
 code-determined c x y = equation-determines
 
-pub frame-determined : Determines frames.line.frame.ended frames.line.frame.Reads.Learnt
+pub end-determined : Determines text.lines.end.ended text.lines.end.Reads.Learnt
+end-determined c x y = equation-determines
+
+pub frame-determined : Determines text.lines.frame.ended text.lines.frame.Reads.Learnt
 frame-determined c x y = equation-determines
+
+pub count-determined : Determines text.lines.count.ended text.lines.count.Reads.Learnt
+count-determined c x y = equation-determines
 
 -- Before the output stands the text, which is not written.
 pub run-determined : Determines script.run.ended script.run.Reads.Learnt

@@ -1,7 +1,3 @@
-pub mod FirstLength
-pub mod FirstLine
-pub mod Past
-pub mod LineCount
 pub mod Walking
 pub mod Filling
 pub mod Answering

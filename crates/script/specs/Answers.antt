@@ -6,22 +6,21 @@ use Rattle.chip.specs.State.{allHigh, powerUpWith}
 use Rattle.ports.specs.Pins.{pinsOf}
 use Rattle.step.specs.declared.Stepped.{Stepped}
 use Rattle.step.specs.Step.{refused, stepOf}
-use Rattle.frames.specs.declared.Frame.{Frame}
-use Rattle.frames.specs.declared.Frame.the-variants.{Event, NoFrame}
-use Rattle.frames.specs.Digits.{written}
-use Rattle.frames.specs.Frames.{frameOf}
+use Rattle.text.specs.declared.Frame.{Frame}
+use Rattle.text.specs.declared.Frame.the-variants.{Event, NoFrame}
+use Rattle.text.specs.Digits.{inDigits}
+use Rattle.text.specs.Lines.{lf, Line, linesOf}
+use Rattle.text.specs.Frames.{frameIn}
 use Rattle.script.specs.declared.Shown.{Shown}
-use Rattle.script.specs.Lines.{lf, Line, ended, rest, linesOf}
 
--- What a line says. A rest without LF says nothing, however well it is formed.
-unfoldable pub frameIn : Line → Frame
-frameIn (ended bytes) = frameOf bytes
-frameIn (rest bytes) = NoFrame
+-- The number of a line that is no frame: that of an event of no kind.
+abbrev pub noFrameNumber : ℕ
+noFrameNumber = 1
 
--- A frame is an event of the chip; what is no frame is refused with the number 1.
+-- A frame is an event of the chip; what is no frame is refused.
 unfoldable pub acted : Chip → Frame → Stepped
 acted c (Event k x d) = stepOf c k x d
-acted c NoFrame = refused c 1
+acted c NoFrame = refused c noFrameNumber
 
 -- What becomes of the chip at a line.
 abbrev pub atLine : Chip → Line → Stepped
@@ -39,7 +38,11 @@ shownAfter s = record {
 
 -- An answer line: these five in that order, and LF.
 unfoldable pub lineText : Shown → List ℕ
-lineText r = written (r .number) ++ written (r .byte) ++ written (r .a) ++ written (r .b) ++ written (r .c) ++ (lf ∷ [])
+lineText r = inDigits (r .number) ++ inDigits (r .byte) ++ inDigits (r .a) ++ inDigits (r .b) ++ inDigits (r .c) ++ (lf ∷ [])
+
+-- The bytes of an answer line: ten digits and LF.
+abbrev pub answerWidth : ℕ
+answerWidth = 11
 
 -- The answers to some lines, each of which meets the chip that the one before it left.
 unfoldable pub answersFrom : Chip → List Line → List ℕ

@@ -5,10 +5,10 @@ use Prim.Native.Nat.{ℕ, _+_}
 use lib.Dec.{eqb}
 use Rattle.bits.specs.Bit.{num}
 use Rattle.chip.specs.declared.Chip.{Chip}
+use Rattle.text.specs.Lines.{Line, linesOf}
 use Rattle.script.specs.declared.left.Left.{Left}
-use Rattle.script.specs.Lines.{Line, linesOf}
 use Rattle.script.specs.Answers.{atLine, chipAtStart}
-use Rattle.script.specs.Run.{tooLong}
+use Rattle.script.specs.Run.{tooLong, tooLongNumber}
 
 -- The chip that some lines leave: each meets the chip that the one before it left.
 abbrev pub chipAfter : Chip → List Line → Chip
@@ -28,6 +28,6 @@ chipLeft text = chipAfter chipAtStart (linesOf text)
 abbrev pub walkedThrough : List ℕ → Left
 walkedThrough text = record { number = 0; chip = chipLeft text; refused = refusedAmong chipAtStart (linesOf text) }
 
--- A text that is too long is not run: it has the number 6, and leaves the chip that it would have met.
+-- A text that is too long is not run: it has that number, and leaves the chip that it would have met.
 abbrev pub leftBy : List ℕ → Left
-leftBy text = cond (tooLong text) (record { number = 6; chip = chipAtStart; refused = 0 }) (walkedThrough text)
+leftBy text = cond (tooLong text) (record { number = tooLongNumber; chip = chipAtStart; refused = 0 }) (walkedThrough text)

@@ -1,5 +1,3 @@
-pub mod Lines
-pub mod Walk
 pub mod Answers
 pub mod Run
 pub mod Left

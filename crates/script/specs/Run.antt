@@ -5,21 +5,31 @@ use mathlib.Core.List.{List, _++_}
 use Prim.Native.Nat.{ℕ, _*_}
 use lib.Dec.{eqb, ltb}
 use lib.ListN.{length, drop}
+use Rattle.text.specs.Lines.{lineCount}
 use Rattle.script.specs.declared.Ran.{Ran}
-use Rattle.script.specs.Lines.{linesOf}
-use Rattle.script.specs.Answers.{answersOf}
-
--- How many lines a text has, well formed or not.
-abbrev pub lineCount : List ℕ → ℕ
-lineCount text = length (linesOf text)
+use Rattle.script.specs.Answers.{answerWidth, answersOf}
 
 -- A script has at most 4,096 bytes.
-abbrev pub tooLong : List ℕ → Bool
-tooLong text = ltb 4096 (length text)
+abbrev pub longestScript : ℕ
+longestScript = 4096
 
--- 6: the text is too long. 7: the output has less room than 11 bytes for each line.
-unfoldable pub numberOf : List ℕ → ℕ → ℕ
-numberOf text room = cond (tooLong text) 6 (cond (ltb room (11 * lineCount text)) 7 0)
+abbrev pub tooLong : List ℕ → Bool
+tooLong text = ltb longestScript (length text)
+
+-- The bytes that the answers to a text take.
+abbrev pub roomFor : List ℕ → ℕ
+roomFor text = answerWidth * lineCount text
+
+-- The refusals of a run: the text is too long; the output has no room for the answers.
+abbrev pub tooLongNumber : ℕ
+tooLongNumber = 6
+
+abbrev pub noRoomNumber : ℕ
+noRoomNumber = 7
+
+-- The number of a run: that of the first refusal that applies, and 0 where none does.
+unfoldable pub runNumber : List ℕ → ℕ → ℕ
+runNumber text room = cond (tooLong text) tooLongNumber (cond (ltb room (roomFor text)) noRoomNumber 0)
 
 -- A refused run answers no line; an accepted one answers every line, and has the number 0.
 abbrev pub refusedRun : ℕ → Ran
@@ -33,12 +43,12 @@ abbrev pub ranBy : ℕ → List ℕ → Ran
 ranBy n text = cond (eqb n 0) (acceptedRun text) (refusedRun n)
 
 abbrev pub ranOf : List ℕ → ℕ → Ran
-ranOf text room = ranBy (numberOf text room) text
+ranOf text room = ranBy (runNumber text room) text
 
 -- The output after an accepted run: the answers, and the bytes that stood behind them.
 abbrev pub filled : List ℕ → List ℕ → List ℕ
-filled text out = answersOf text ++ drop (11 * lineCount text) out
+filled text out = answersOf text ++ drop (roomFor text) out
 
 -- The output after a run: a refused one leaves it as it was.
-abbrev pub outputOf : List ℕ → List ℕ → List ℕ
-outputOf text out = cond (eqb (numberOf text (length out)) 0) (filled text out) out
+abbrev pub outputLeft : List ℕ → List ℕ → List ℕ
+outputLeft text out = cond (eqb (runNumber text (length out)) 0) (filled text out) out

@@ -1,11 +1,12 @@
-// The chip that a script meets, what it makes of a line, and what is shown of that.
+// The chip that a script meets, what it makes of a line, and what is shown of that. The whole chip is passed by value, and to follow it the
+// prover names the types that the crate channel declares.
 ghost use mathlib.Core.Path.{_≡_};
 ghost use Rattle.script.specs.Answers.{chipAtStart, acted, shownAfter};
 use super::Shown;
 use chip::Chip;
 use chip::Levels;
-use frames::Frame;
 use step::Stepped;
+use text::Frame;
 
 // The chip that a script meets. Scripts were written for lines that idle high, so the run names these levels.
 pub(super) fn chip_at_start() -> Chip
@@ -18,7 +19,7 @@ pub(super) fn chip_at_start() -> Chip
     })
 }
 
-// A frame is an event; what is no frame has the number 1, and leaves the chip as it was.
+// A frame is an event; what is no frame has the number of an event of no kind, and leaves the chip as it was.
 pub(super) fn act(chip: Chip, frame: Frame) -> Stepped
     ensures { λ r. ⌜ r ≡ acted chip frame ⌝ }
 {
@@ -26,7 +27,7 @@ pub(super) fn act(chip: Chip, frame: Frame) -> Stepped
         Frame::Event(kind, first, second) => step::step(chip, kind, first, second),
         Frame::NoFrame => Stepped {
             chip,
-            number: 1,
+            number: bus::NO_SUCH_KIND,
             byte: 0,
         },
     }

@@ -5,9 +5,10 @@ ghost use lib.Dec.{eqb};
 ghost use Rattle.bits.specs.Bit.{num};
 ghost use Rattle.script.specs.Left.{walkedThrough, leftBy};
 use super::LONGEST;
+use super::TOO_LONG;
 use super::answer;
-use super::lines;
 use chip::Chip;
+use text::lines;
 
 // The number of the text, as a run has it, the chip, and the count of lines whose own number is not 0.
 pub struct Left {
@@ -27,16 +28,15 @@ fn refusals(number: u8) -> usize
 fn walk(text: &[u8]) -> Left
     ensures { λ r. ⌜ r ≡ walkedThrough (now (text .entry)) ⌝ }
 {
-    let mut rest = text;
     let mut chip = answer::chip_at_start();
+    let mut start = 0;
     let mut refused = 0;
-    while rest.len() > 0 {
-        let length = lines::first(rest);
-        let next = lines::past(rest, length);
-        let last = answer::act(chip, lines::frame(rest, length));
+    while start < text.len() {
+        let end = lines::end(text, start);
+        let last = answer::act(chip, lines::frame(text, start, end));
+        start = end + 1;
         chip = last.chip;
         refused = refused + refusals(last.number);
-        rest = &rest[next..];
     }
     Left {
         number: 0,
@@ -45,13 +45,13 @@ fn walk(text: &[u8]) -> Left
     }
 }
 
-// What a text leaves. One that is longer than 4,096 bytes has the number 6, and leaves the chip as it was at the start.
+// What a text leaves. One that is too long leaves the chip as it was at the start.
 pub fn chip_after(text: &[u8]) -> Left
     ensures { λ r. ⌜ r ≡ leftBy (now (text .entry)) ⌝ }
 {
     if LONGEST < text.len() {
         return Left {
-            number: 6,
+            number: TOO_LONG,
             chip: answer::chip_at_start(),
             refused: 0,
         };

@@ -1,19 +1,24 @@
 // The run of a script: a text of frames, one to a line, answered line by line by a chip just powered up.
 ghost use mathlib.Core.Path.{_≡_};
-ghost use Prim.Native.Nat.{_*_, _≤_};
+ghost use Prim.Native.Nat.{_≤_};
 ghost use lib.ListN.{length};
-ghost use Rattle.script.specs.Run.{lineCount, refusedRun, ranOf, filled, outputOf};
+ghost use Rattle.script.specs.Run.{roomFor, refusedRun, ranOf, filled, outputLeft};
+use text::lines;
 
 mod answer;
 pub mod left;
-mod lines;
 mod writer;
-
-// What ends a line.
-const LF: u8 = 10;
 
 // How many bytes a script may have.
 const LONGEST: usize = 4096;
+
+// How many bytes the answer to a line has.
+pub const ANSWER_WIDTH: usize = 11;
+
+// The numbers of a refused run: the text is longer than a script may be, or the output has no room for the answers.
+pub const TOO_LONG: u8 = 6;
+
+pub const NO_ROOM: u8 = 7;
 
 // The number of a run, and how many lines were answered.
 pub struct Ran {
@@ -39,33 +44,32 @@ fn refuse(number: u8) -> Ran
 
 // Answers every line of a text, each from where the last answer stopped.
 fn answer_all(text: &[u8], out: &mut [u8])
-    requires { ⌜ 11 * lineCount (now text) ≤ length (now out) ⌝ }
+    requires { ⌜ roomFor (now text) ≤ length (now out) ⌝ }
     ensures { λ _. ⌜ now (out .exit) ≡ filled (now (text .entry)) (now (out .entry)) ⌝ }
 {
-    let mut rest = text;
     let mut chip = answer::chip_at_start();
+    let mut start = 0;
     let mut at = 0;
-    while rest.len() > 0 {
-        let length = lines::first(rest);
-        let last = answer::act(chip, lines::frame(rest, length));
+    while start < text.len() {
+        let end = lines::end(text, start);
+        let last = answer::act(chip, lines::frame(text, start, end));
+        start = end + 1;
         writer::write(&mut out[at..], answer::show(last));
         chip = last.chip;
-        at = at + 11;
-        let next = lines::past(rest, length);
-        rest = &rest[next..];
+        at = at + ANSWER_WIDTH;
     }
 }
 
-// Runs a text: number 6 where it is longer than 4,096 bytes, 7 where the output has no room for the answers.
+// Runs a text: refused where it is too long, and where the output has no room for the answers.
 pub fn run(text: &[u8], out: &mut [u8]) -> Ran
-    ensures { λ r. ⌜ (r ≡ ranOf (now (text .entry)) (length (now (out .entry)))) × (now (out .exit) ≡ outputOf (now (text .entry)) (now (out .entry))) ⌝ }
+    ensures { λ r. ⌜ (r ≡ ranOf (now (text .entry)) (length (now (out .entry)))) × (now (out .exit) ≡ outputLeft (now (text .entry)) (now (out .entry))) ⌝ }
 {
     if LONGEST < text.len() {
-        return refuse(6);
+        return refuse(TOO_LONG);
     }
     let lines = lines::count(text);
-    if out.len() < 11 * lines {
-        return refuse(7);
+    if out.len() < ANSWER_WIDTH * lines {
+        return refuse(NO_ROOM);
     }
     answer_all(text, out);
     Ran { number: 0, lines }

@@ -1,2 +1,2 @@
 pub mod PinByMasks
-pub mod After
+pub mod PortsAfter

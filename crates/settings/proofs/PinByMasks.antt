@@ -16,7 +16,7 @@ use Rattle.roles.proofs.PinByMasks.{sorted, role-by-masks}
 use Rattle.channel.specs.declared.Side.the-variants.{Input, Output}
 use Rattle.chip.specs.declared.Core.{Core}
 use Rattle.chip.specs.State.{withLatch, withEnables}
-use Rattle.settings.specs.Commanded.{enabled, setAs, pinSet}
+use Rattle.settings.specs.ControlWord.{enabled, setAs, pinSet}
 
 -- A handshake's pin by its number: 4, 6 and 2 are STB and ACK.
 abbrev pub lineSet : Core → Bool → ℕ → Core

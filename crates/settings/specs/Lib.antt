@@ -1,2 +1,2 @@
-pub mod Renewed
-pub mod Commanded
+pub mod ModeWord
+pub mod ControlWord

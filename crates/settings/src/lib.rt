@@ -1,14 +1,17 @@
 // What the control address sets: a mode word, which makes the chip anew, and one pin of port C.
 ghost use mathlib.Core.Path.{_≡_};
 ghost use Prim.Native.Nat.{_<_};
-ghost use Rattle.settings.specs.Renewed.{clearedPort, renewed};
-ghost use Rattle.settings.specs.Commanded.{setAs, pinSet, commanded};
+ghost use Rattle.settings.specs.ModeWord.{clearedPort, afterModeWord};
+ghost use Rattle.settings.specs.ControlWord.{setAs, pinSet, afterControlWord};
 ghost use Rattle.control.specs.Mode.{strobedInput};
 ghost use Rattle.control.specs.declared.Group.the-variants.{B};
 ghost use Rattle.roles.specs.Pins.{handshakeRole};
 use chip::Core;
 use chip::Enables;
 use chip::Port;
+use chip::handshakes::ACK_A;
+use chip::handshakes::LINE_B;
+use chip::handshakes::STB_A;
 use control::word::Control;
 
 fn clear(mut port: Port) -> Port
@@ -21,7 +24,7 @@ fn clear(mut port: Port) -> Port
 
 // The chip under a new mode word: latches and enables zero, channels empty. The outside levels stay.
 pub fn renew(mut core: Core, word: u8) -> Core
-    ensures { λ r. ⌜ r ≡ renewed core word ⌝ }
+    ensures { λ r. ⌜ r ≡ afterModeWord core word ⌝ }
 {
     let none = Enables {
         input: false,
@@ -42,15 +45,15 @@ fn set_line(mut core: Core, pin: u8, on: bool) -> Core
     ensures { λ r. ⌜ r ≡ setAs core pin on (handshakeRole (strobedInput (core .word) B) pin) ⌝ }
 {
     match pin {
-        4 => {
+        STB_A => {
             core.inte.input = on;
             core
         }
-        6 => {
+        ACK_A => {
             core.inte.output = on;
             core
         }
-        2 => {
+        LINE_B => {
             core.inte.b = on;
             core
         }
@@ -75,7 +78,7 @@ fn set_pin(mut core: Core, pin: u8, on: bool) -> Core
 
 // The end of a write to the control address.
 pub fn command(core: Core, byte: u8) -> Core
-    ensures { λ r. ⌜ r ≡ commanded core byte ⌝ }
+    ensures { λ r. ⌜ r ≡ afterControlWord core byte ⌝ }
 {
     let control = control::word::decode(byte);
     match control {

@@ -1,5 +1,6 @@
 // The mode 0 chart, row by row, as the compiled table has it.
 use super::print;
+use control::Directions;
 
 fn direction(input: bool) {
     if input {
@@ -11,7 +12,7 @@ fn direction(input: bool) {
 
 // The row for the four bits of k, which a mode word has at 4, 3, 1 and 0.
 fn row(k: u8) {
-    let r = chart::row(128 + k / 4 % 4 * 8 + k % 4);
+    let r: Directions = chart::row(128 + k / 4 % 4 * 8 + k % 4);
     print::digit(k / 8 % 2 == 1);
     print::digit(k / 4 % 2 == 1);
     print::digit(k / 2 % 2 == 1);

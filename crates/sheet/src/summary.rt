@@ -45,7 +45,7 @@ fn speaks_of(column: u8, word: u8, pin: u8) -> bool {
 
 // The entry of a cell for a word: the answer as the sheet would name it. A free pin has to follow the direction of its half.
 fn entry(word: u8, pin: u8) -> u8 {
-    let role = published::lookup(word, pin);
+    let role = lookup::role(word, pin);
     if 1 < role {
         return role;
     }

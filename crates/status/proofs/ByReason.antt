@@ -8,7 +8,7 @@ use Rattle.bits.specs.Bit.{bitOf}
 use Rattle.control.specs.declared.Group.{Group}
 use Rattle.channel.specs.declared.Side.{Side}
 use Rattle.chip.specs.declared.Chip.{Chip}
-use Rattle.chip.specs.Handshakes.{strobed, lineOf, enableOf}
+use Rattle.chip.specs.Handshakes.{strobed, linePin, enableOf}
 use Rattle.status.specs.declared.reasons.Reason.{Reason}
 use Rattle.status.specs.declared.reasons.Reason.the-variants.{EnableOff, FlagWrong, LineLow, OwnCycle, High}
 use Rattle.status.specs.Status.{flagAt, requestOf}
@@ -58,7 +58,7 @@ module _ (c : Chip) (g : Group) (s : Side) where
   flag = flagAt (c .core) g s
 
   abbrev line : Bool
-  line = bitOf (c .core .c .outside) (lineOf g s)
+  line = bitOf (c .core .c .outside) (linePin g s)
 
   module _ (there : strobed (c .core .word) g s ≡ true) where
     pub none-asks : NoneHolds c g s → requestOf c g s ≡ true

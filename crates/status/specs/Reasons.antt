@@ -10,7 +10,7 @@ use Rattle.control.specs.Mode.{modeOf, outputOf}
 use Rattle.channel.specs.declared.Side.{Side}
 use Rattle.channel.specs.declared.Side.the-variants.{Input, Output}
 use Rattle.chip.specs.declared.Chip.{Chip}
-use Rattle.chip.specs.Handshakes.{lineOf, enableOf, running}
+use Rattle.chip.specs.Handshakes.{linePin, enableOf, running}
 use Rattle.status.specs.declared.reasons.Reason.{Reason}
 use Rattle.status.specs.declared.reasons.Reason.the-variants.{EnableOff, FlagWrong, LineLow, OwnCycle, High}
 use Rattle.status.specs.declared.reasons.Explained.{Explained}
@@ -23,7 +23,7 @@ use Rattle.status.specs.Status.{flagAt, requestOf}
 abbrev pub holds : Chip → Group → Side → Reason → Bool
 holds c g s EnableOff = not (enableOf (c .core .inte) g s)
 holds c g s FlagWrong = not (flagAt (c .core) g s)
-holds c g s LineLow = not (bitOf (c .core .c .outside) (lineOf g s))
+holds c g s LineLow = not (bitOf (c .core .c .outside) (linePin g s))
 holds c g s OwnCycle = running (c .phase) g s
 holds c g s High = requestOf c g s
 
@@ -71,7 +71,14 @@ saysHigh (InputHalf r) = isHigh r
 saysHigh (OutputHalf r) = isHigh r
 saysHigh (BothHalves i o) = isHigh i || isHigh o
 
--- The reasons' numbers follow their order: 1 is mode 0, which is said of a group, and 6 that the half is high.
+-- What is said of a half, in numbers: 0 where there is none, 1 where its group is in mode 0.
+abbrev pub noHalf : ℕ
+noHalf = 0
+
+abbrev pub inModeZero : ℕ
+inModeZero = 1
+
+-- The reasons' numbers follow, in their order; the last is that the half is high.
 abbrev pub reasonNumber : Reason → ℕ
 reasonNumber EnableOff = 2
 reasonNumber FlagWrong = 3
@@ -83,10 +90,10 @@ reasonNumber High = 6
 abbrev pub numbers : ℕ → ℕ → ℕ → Numbers
 numbers n i o = record { number = n; input = i; output = o }
 
--- Each answer in numbers: it is refused with 2, or accepted with 0; a half that there is not has 0, and in mode 0 both have 1.
+-- Each answer in numbers: refused with 2 where there is no such group, and else accepted with 0.
 abbrev pub numbersOf : Explained → Numbers
-numbersOf NoGroup = numbers 2 0 0
-numbersOf ModeZero = numbers 0 1 1
-numbersOf (InputHalf r) = numbers 0 (reasonNumber r) 0
-numbersOf (OutputHalf r) = numbers 0 0 (reasonNumber r)
+numbersOf NoGroup = numbers 2 noHalf noHalf
+numbersOf ModeZero = numbers 0 inModeZero inModeZero
+numbersOf (InputHalf r) = numbers 0 (reasonNumber r) noHalf
+numbersOf (OutputHalf r) = numbers 0 noHalf (reasonNumber r)
 numbersOf (BothHalves i o) = numbers 0 (reasonNumber i) (reasonNumber o)

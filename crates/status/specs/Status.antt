@@ -11,7 +11,7 @@ use Rattle.channel.specs.Channel.{flagOf}
 use Rattle.chip.specs.declared.Core.{Core}
 use Rattle.chip.specs.declared.Chip.{Chip}
 use Rattle.chip.specs.State.{channelOf}
-use Rattle.chip.specs.Handshakes.{strobed, lineOf, enableOf, running}
+use Rattle.chip.specs.Handshakes.{strobed, linePin, enableOf, running}
 
 -- IBF or OBF of a channel.
 abbrev pub flagAt : Core → Group → Side → Bool
@@ -25,7 +25,7 @@ requestOf c g s =
     strobed (c .core .word) g s
     && enableOf (c .core .inte) g s
     && flagAt (c .core) g s
-    && bitOf (c .core .c .outside) (lineOf g s)
+    && bitOf (c .core .c .outside) (linePin g s)
     && not (running (c .phase) g s)
 
 -- INTR is up for either channel of its group; mode 2 alone strobes both.

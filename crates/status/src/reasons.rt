@@ -2,8 +2,11 @@
 ghost use mathlib.Core.Path.{_≡_};
 ghost use mathlib.Core.Bool.{cond};
 ghost use Rattle.status.specs.Reasons.{reasonOf, oneWay, explainedIn, explainedOf, reasonNumber, numbersOf};
+use bus::ACCEPTED;
+use bus::OUT_OF_RANGE;
 use channel::Side;
 use chip::Chip;
+use chip::handshakes;
 use control::Group;
 
 // What one half of an INTR is doing: low for one of four reasons, or high.
@@ -24,7 +27,22 @@ pub enum Explained {
     BothHalves(Reason, Reason),
 }
 
-// The same in numbers: 0, or 2 where there is no such group; and what is said of each half.
+// The numbers of what is said of a half: that there is none, that its group is in mode 0, and what it is doing, in the reasons' order.
+pub const NO_HALF: u8 = 0;
+
+pub const MODE_ZERO: u8 = 1;
+
+pub const ENABLE_OFF: u8 = 2;
+
+pub const FLAG_WRONG: u8 = 3;
+
+pub const LINE_LOW: u8 = 4;
+
+pub const OWN_CYCLE: u8 = 5;
+
+pub const HIGH: u8 = 6;
+
+// The same in numbers: that of the question, which is refused where there is no such group; and what is said of each half.
 pub struct Numbers {
     pub number: u8,
     pub input: u8,
@@ -57,10 +75,10 @@ fn half(chip: Chip, group: Group, side: Side) -> Reason
     let inte = core.inte;
     let phase = chip.phase;
     first(
-        !super::enable(inte, group, side),
+        !handshakes::enable(inte, group, side),
         !super::flag(core, group, side),
-        !bits::bit(core.c.outside, super::line(group, side)),
-        super::running(phase, group, side),
+        !bits::bit(core.c.outside, handshakes::line_pin(group, side)),
+        handshakes::running(phase, group, side),
     )
 }
 
@@ -104,11 +122,11 @@ fn reason_number(reason: Reason) -> u8
     ensures { λ r. ⌜ r ≡ reasonNumber reason ⌝ }
 {
     match reason {
-        Reason::EnableOff => 2,
-        Reason::FlagWrong => 3,
-        Reason::LineLow => 4,
-        Reason::OwnCycle => 5,
-        Reason::High => 6,
+        Reason::EnableOff => ENABLE_OFF,
+        Reason::FlagWrong => FLAG_WRONG,
+        Reason::LineLow => LINE_LOW,
+        Reason::OwnCycle => OWN_CYCLE,
+        Reason::High => HIGH,
     }
 }
 
@@ -118,27 +136,27 @@ pub fn numbered(explained: Explained) -> Numbers
 {
     match explained {
         Explained::NoGroup => Numbers {
-            number: 2,
-            input: 0,
-            output: 0,
+            number: OUT_OF_RANGE,
+            input: NO_HALF,
+            output: NO_HALF,
         },
         Explained::ModeZero => Numbers {
-            number: 0,
-            input: 1,
-            output: 1,
+            number: ACCEPTED,
+            input: MODE_ZERO,
+            output: MODE_ZERO,
         },
         Explained::InputHalf(reason) => Numbers {
-            number: 0,
+            number: ACCEPTED,
             input: reason_number(reason),
-            output: 0,
+            output: NO_HALF,
         },
         Explained::OutputHalf(reason) => Numbers {
-            number: 0,
-            input: 0,
+            number: ACCEPTED,
+            input: NO_HALF,
             output: reason_number(reason),
         },
         Explained::BothHalves(input, output) => Numbers {
-            number: 0,
+            number: ACCEPTED,
             input: reason_number(input),
             output: reason_number(output),
         },

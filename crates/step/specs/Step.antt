@@ -1,18 +1,25 @@
--- One event: the new state, the number and the byte ("Events and numbers", "State").
-use mathlib.Core.Bool.{cond}
+-- The 8255A as a device on the bus, and its step: the new state, the number and the byte ("Events and numbers", "State").
+use mathlib.Core.Path.{refl}
 use Prim.Native.Nat.{ℕ}
-use lib.Dec.{eqb}
-use Rattle.chip.specs.declared.Phase.{Phase}
-use Rattle.chip.specs.declared.Phase.the-variants.{Idle, Reading, Writing}
+use Rattle.events.specs.Event.{Event}
+use Rattle.bus.specs.declared.Phase.{Phase}
+use Rattle.bus.specs.declared.Phase.the-variants.{Idle, Reading, Writing}
+use Rattle.bus.specs.declared.Limits.{Limits}
+use Rattle.bus.specs.Refusals.{limitsOf}
+use Rattle.bus.specs.Device.{Device, Given, stepIn}
 use Rattle.chip.specs.declared.Core.{Core}
 use Rattle.chip.specs.declared.Chip.{Chip}
-use Rattle.settings.specs.Renewed.{renewed}
-use Rattle.reads.specs.Read.{begunRead, endedRead}
-use Rattle.writes.specs.Write.{written}
-use Rattle.levels.specs.Levels.{levelled}
+use Rattle.chip.specs.State.{powerUpWord}
+use Rattle.settings.specs.ModeWord.{afterModeWord}
+use Rattle.reads.specs.Read.{afterReadBegins, afterReadEnds}
+use Rattle.writes.specs.Write.{afterWriteEnds}
+use Rattle.levels.specs.Levels.{afterLevels}
 use Rattle.ports.specs.Reads.{readOf}
 use Rattle.step.specs.declared.Stepped.{Stepped}
-use Rattle.step.specs.Numbers.{numberOf}
+
+-- Addresses 0 to 3 are A, B, C and control, of which the first three can be read; ports 0 to 2 are A, B and C.
+abbrev pub limits : Limits
+limits = limitsOf 4 3 3
 
 -- A chip is a phase of the bus and the rest.
 abbrev pub onBus : Phase → Core → Chip
@@ -22,51 +29,45 @@ onBus ph c = record { phase = ph; core = c }
 -- there is nothing to end, and the event is refused.
 abbrev pub afterEnd : Core → Phase → Core
 afterEnd c Idle = c
-afterEnd c (Reading p) = endedRead c p
-afterEnd c (Writing a d) = written c a d
+afterEnd c (Reading p) = afterReadEnds c p
+afterEnd c (Writing a d) = afterWriteEnds c a d
 
--- What an accepted event makes of the chip. 00, reset: a running cycle is dropped, and mode word 9B is set.
-abbrev pub reset : Chip → Chip
-reset c = onBus Idle (renewed (c .core) 0x9b)
+-- The 8255A as a device. A reset sets the mode word of power-up.
+abbrev pub device : Device Chip Core
+device = record {
+  phase = λ c. c .phase;
+  rest = λ c. c .core;
+  on = onBus;
+  limits = λ c. limits;
+  afterReset = λ c. afterModeWord c powerUpWord;
+  afterBegin = afterReadBegins;
+  afterEnd = afterEnd;
+  afterLevels = afterLevels;
+  answer = readOf;
+  phase-on = λ ph c. refl;
+  rest-on = λ ph c. refl;
+  reset-limits = λ c. refl;
+  begin-limits = λ c x. refl;
+  end-limits = λ c ph. refl;
+  levels-limits = λ c x d. refl;
+}
 
--- 01, begin read at address x.
-abbrev pub readBegun : Chip → ℕ → Chip
-readBegun c x = onBus (Reading x) (begunRead (c .core) x)
+-- What an event gives, as the step's struct.
+abbrev pub asStepped : Given Chip → Stepped
+asStepped o = record { chip = o .state; number = o .number; byte = o .byte }
 
--- 02, end of the cycle.
-abbrev pub cycleEnded : Chip → Chip
-cycleEnded c = onBus Idle (afterEnd (c .core) (c .phase))
+-- One event, of kind k with operands x and d: the step of that device.
+unfoldable pub stepOf : Chip → ℕ → ℕ → ℕ → Stepped
+stepOf c k x d = asStepped (stepIn device c k x d)
 
--- 03, begin write of d at address x.
-abbrev pub writeBegun : Chip → ℕ → ℕ → Chip
-writeBegun c x d = onBus (Writing x d) (c .core)
-
--- 05, the outside levels on port x become d.
-abbrev pub levelsPut : Chip → ℕ → ℕ → Chip
-levelsPut c x d = onBus (c .phase) (levelled (c .core) x d)
-
--- The state after an accepted event of kind k with operands x and d.
-abbrev pub afterOf : Chip → ℕ → ℕ → ℕ → Chip
-afterOf c k x d =
-    cond (eqb k 0) (reset c)
-    (cond (eqb k 1) (readBegun c x)
-    (cond (eqb k 2) (cycleEnded c)
-    (cond (eqb k 3) (writeBegun c x d)
-    (levelsPut c x d))))
-
--- Only a read that begins has a byte to give.
-abbrev pub byteGiven : Chip → ℕ → ℕ → ℕ
-byteGiven c k x = cond (eqb k 1) (readOf c x) 0
-
--- An accepted event has the number 0.
-abbrev pub accepted : Chip → ℕ → Stepped
-accepted c b = record { chip = c; number = 0; byte = b }
+-- What the step makes of an event.
+abbrev pub stepped : Chip → Event → Stepped
+stepped c e = stepOf c (e .kind) (e .first) (e .second)
 
 -- A refusal gives its number, and the state back as it was.
 abbrev pub refused : Chip → ℕ → Stepped
 refused c n = record { chip = c; number = n; byte = 0 }
 
--- One event, of kind k with operands x and d.
-unfoldable pub stepOf : Chip → ℕ → ℕ → ℕ → Stepped
-stepOf c k x d =
-    cond (eqb (numberOf (c .phase) k x) 0) (accepted (afterOf c k x d) (byteGiven c k x)) (refused c (numberOf (c .phase) k x))
+-- An accepted event has the number 0.
+abbrev pub accepted : Chip → ℕ → Stepped
+accepted c b = record { chip = c; number = 0; byte = b }

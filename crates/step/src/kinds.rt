@@ -1,9 +1,11 @@
-// What an accepted event of each kind makes of the chip. Each kind stands alone, so that who has chosen one has to do with no other.
+// What an accepted event of each kind makes of the chip. Each kind stands alone, so that who has chosen one has to do with no other. The
+// whole core is passed by value, and to follow it the prover names the types that the crate channel declares.
 ghost use mathlib.Core.Path.{_≡_};
-ghost use Rattle.step.specs.Step.{onBus, afterEnd, reset, readBegun, cycleEnded, writeBegun, levelsPut};
+ghost use Rattle.bus.specs.Device.{resetIn, readBegunIn, cycleEndedIn, writeBegunIn, levelsPutIn};
+ghost use Rattle.step.specs.Step.{onBus, afterEnd, device};
+use bus::Phase;
 use chip::Chip;
 use chip::Core;
-use chip::Phase;
 
 fn on_bus(phase: Phase, core: Core) -> Chip
     ensures { λ r. ⌜ r ≡ onBus phase core ⌝ }
@@ -12,13 +14,13 @@ fn on_bus(phase: Phase, core: Core) -> Chip
 }
 
 pub fn reset(chip: Chip) -> Chip
-    ensures { λ r. ⌜ r ≡ reset chip ⌝ }
+    ensures { λ r. ⌜ r ≡ resetIn device chip ⌝ }
 {
-    on_bus(Phase::Idle, settings::renew(chip.core, 0x9b))
+    on_bus(Phase::Idle, settings::renew(chip.core, chip::POWER_UP_WORD))
 }
 
 pub fn begin_read(chip: Chip, port: u8) -> Chip
-    ensures { λ r. ⌜ r ≡ readBegun chip port ⌝ }
+    ensures { λ r. ⌜ r ≡ readBegunIn device chip port ⌝ }
 {
     on_bus(Phase::Reading(port), reads::begin(chip.core, port))
 }
@@ -36,21 +38,21 @@ fn end(core: Core, phase: Phase) -> Core
 
 // Whatever runs on the bus ends.
 pub fn end_cycle(chip: Chip) -> Chip
-    ensures { λ r. ⌜ r ≡ cycleEnded chip ⌝ }
+    ensures { λ r. ⌜ r ≡ cycleEndedIn device chip ⌝ }
 {
     let phase = chip.phase;
     on_bus(Phase::Idle, end(chip.core, phase))
 }
 
 pub fn begin_write(chip: Chip, address: u8, byte: u8) -> Chip
-    ensures { λ r. ⌜ r ≡ writeBegun chip address byte ⌝ }
+    ensures { λ r. ⌜ r ≡ writeBegunIn device chip address byte ⌝ }
 {
     on_bus(Phase::Writing(address, byte), chip.core)
 }
 
 // Levels leave the bus as it is.
 pub fn levels(chip: Chip, port: u8, levels: u8) -> Chip
-    ensures { λ r. ⌜ r ≡ levelsPut chip port levels ⌝ }
+    ensures { λ r. ⌜ r ≡ levelsPutIn device chip port levels ⌝ }
 {
     let phase = chip.phase;
     on_bus(phase, levels::set(chip.core, port, levels))

@@ -1,10 +1,13 @@
 // One event of the chip: refused by its number, and then nothing changes, or accepted, with its effect and the byte of a read.
 ghost use mathlib.Core.Path.{_≡_};
-ghost use Rattle.step.specs.Step.{afterOf, byteGiven, stepOf};
+ghost use Rattle.bus.specs.Refusals.{numberOf};
+ghost use Rattle.bus.specs.Device.{afterIn, byteIn};
+ghost use Rattle.step.specs.Step.{limits, device, stepOf};
+use bus::Limits;
+use bus::Phase;
 use chip::Chip;
 
 pub mod kinds;
-pub mod numbers;
 
 // What an event gives: the new state, the number, and the byte of an accepted read.
 pub struct Stepped {
@@ -13,23 +16,39 @@ pub struct Stepped {
     pub byte: u8,
 }
 
+// The number of an event while this runs on the bus. Control can be written alone, and has no levels.
+pub fn number(phase: Phase, kind: u8, first: u8) -> u8
+    ensures { λ r. ⌜ r ≡ numberOf limits phase kind first ⌝ }
+{
+    bus::number(
+        Limits {
+            addresses: 4,
+            readable: 3,
+            ports: 3,
+        },
+        phase,
+        kind,
+        first,
+    )
+}
+
 fn after(chip: Chip, kind: u8, first: u8, second: u8) -> Chip
-    ensures { λ r. ⌜ r ≡ afterOf chip kind first second ⌝ }
+    ensures { λ r. ⌜ r ≡ afterIn device chip kind first second ⌝ }
 {
     match kind {
-        0 => kinds::reset(chip),
-        1 => kinds::begin_read(chip, first),
-        2 => kinds::end_cycle(chip),
-        3 => kinds::begin_write(chip, first, second),
+        events::RESET => kinds::reset(chip),
+        events::BEGIN_READ => kinds::begin_read(chip, first),
+        events::END_CYCLE => kinds::end_cycle(chip),
+        events::BEGIN_WRITE => kinds::begin_write(chip, first, second),
         _ => kinds::levels(chip, first, second),
     }
 }
 
 // Only a read that begins has a byte to give.
 fn byte(chip: Chip, kind: u8, first: u8) -> u8
-    ensures { λ r. ⌜ r ≡ byteGiven chip kind first ⌝ }
+    ensures { λ r. ⌜ r ≡ byteIn device chip kind first ⌝ }
 {
-    if kind == 1 {
+    if kind == events::BEGIN_READ {
         return ports::read::value(chip, first);
     }
     0
@@ -40,8 +59,8 @@ pub fn step(chip: Chip, kind: u8, first: u8, second: u8) -> Stepped
     ensures { λ r. ⌜ r ≡ stepOf chip kind first second ⌝ }
 {
     let phase = chip.phase;
-    let number = numbers::number(phase, kind, first);
-    if number != 0 {
+    let number = number(phase, kind, first);
+    if number != bus::ACCEPTED {
         return Stepped {
             chip,
             number,
@@ -50,7 +69,7 @@ pub fn step(chip: Chip, kind: u8, first: u8, second: u8) -> Stepped
     }
     Stepped {
         chip: after(chip, kind, first, second),
-        number: 0,
+        number: bus::ACCEPTED,
         byte: byte(chip, kind, first),
     }
 }

@@ -16,7 +16,7 @@ fn more(count: u64, given: bool) -> u64 {
 // The counts, and one pair more.
 fn counted(counts: Counts, answer: u8, word: u8, pin: u8) -> Counts {
     let table = reading::answer(word, pin) == answer;
-    let lookup = published::lookup(word, pin) == answer;
+    let lookup = lookup::role(word, pin) == answer;
     Counts {
         table: more(counts.table, table),
         lookup: more(counts.lookup, lookup),

@@ -1,6 +1,6 @@
 // An answer read from the published table.
 ghost use mathlib.Core.Path.{_≡_};
-ghost use Rattle.published.specs.Published.{lookupOf};
+ghost use Rattle.lookup.specs.Lookup.{lookupOf};
 use super::entries;
 
 // The table's entry for a word and a pin; 255 where it has none. The contract is that of the lookup: so the two agree, at every word

@@ -1,5 +1,6 @@
 // The answers to a script.
 use super::output;
+use script::ANSWER_WIDTH;
 
 // The room for the answers is enough for all the lines that a script can have.
 pub(super) fn answer(text: &[u8]) {
@@ -9,6 +10,6 @@ pub(super) fn answer(text: &[u8]) {
         output::refuse(ran.number);
         return;
     }
-    let end = 11 * ran.lines;
+    let end = ANSWER_WIDTH * ran.lines;
     output::write(&out[..end]);
 }

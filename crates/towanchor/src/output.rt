@@ -1,7 +1,6 @@
 // Standard output: what the program says of a script, or the number of its refusal.
 use libc::STDOUT_FILENO;
-
-const LF: u8 = 10;
+use text::LF;
 
 // A part of what is said; whether it was written.
 pub(super) fn put(bytes: &[u8]) -> bool {
@@ -26,8 +25,8 @@ pub(super) fn write(bytes: &[u8]) {
 // Two digits and LF.
 pub(super) fn refuse(number: u8) {
     let line = [
-        frames::digits::code(number / 16),
-        frames::digits::code(number),
+        text::digits::code(number / 16),
+        text::digits::code(number),
         LF,
     ];
     write(&line);

@@ -4,13 +4,14 @@ use mathlib.Core.Path.{_≡_, _∙_}
 use mathlib.Core.Bool.{Bool, true, false, cond, _||_}
 use Prim.Native.Nat.{ℕ, _<_}
 use lib.Bits.{bitAnd}
-use lib.Dec.{eqb, ltb}
+use lib.Dec.{eqb}
 use Rattle.bits.specs.Bit.{bitOf, blendOf}
 use Rattle.bits.proofs.Tested.{bits}
 use Rattle.bits.proofs.BitLaws.{assembled-same}
 use Rattle.bits.proofs.MaskLaws.{bit-and, blend-assembled}
 use Rattle.control.specs.declared.Group.the-variants.{A}
 use Rattle.control.specs.Mode.{modeOf}
+use Rattle.roles.specs.Role.{inLowerHalf}
 use Rattle.roles.specs.Pins.{outputPins}
 use Rattle.roles.proofs.PinByMasks.{bit-of-outputs}
 use Rattle.writes.specs.Write.{writable, latchWritten}
@@ -19,10 +20,10 @@ use Rattle.writes.specs.Write.{writable, latchWritten}
 abbrev reached : Bool → ℕ
 reached all = cond all 0xff 0x0f
 
-bit-of-reached : (all : Bool) (n : ℕ) → n < 8 → bitOf (reached all) n ≡ (ltb n 4 || all)
+bit-of-reached : (all : Bool) (n : ℕ) → n < 8 → bitOf (reached all) n ≡ (inLowerHalf n || all)
 unfolding bitOf
-bit-of-reached true = bits 8 (λ n. bitOf (reached true) n) (λ n. ltb n 4 || true) tt
-bit-of-reached false = bits 8 (λ n. bitOf (reached false) n) (λ n. ltb n 4 || false) tt
+bit-of-reached true = bits 8 (λ n. bitOf (reached true) n) (λ n. inLowerHalf n || true) tt
+bit-of-reached false = bits 8 (λ n. bitOf (reached false) n) (λ n. inLowerHalf n || false) tt
 
 pub latch-by-masks : (w x d : ℕ)
     → blendOf (bitAnd (outputPins w) (reached (eqb (modeOf w A) 0))) d x ≡ latchWritten w x d

@@ -1,2 +1,2 @@
 pub mod ByMasks
-pub mod After
+pub mod PortsAfter

@@ -1,6 +1,6 @@
 // The end of a write, when the byte takes effect.
 ghost use mathlib.Core.Path.{_≡_};
-ghost use Rattle.writes.specs.Write.{storedIn, storedBy, latchWritten, written};
+ghost use Rattle.writes.specs.Write.{storedIn, storedBy, latchWritten, afterWriteEnds};
 use channel::Channel;
 use chip::Core;
 use chip::Port;
@@ -42,23 +42,23 @@ fn latch(word: u8, before: u8, byte: u8) -> u8
 
 // A write of the byte to the address ends.
 pub fn end(mut core: Core, address: u8, byte: u8) -> Core
-    ensures { λ r. ⌜ r ≡ written core address byte ⌝ }
+    ensures { λ r. ⌜ r ≡ afterWriteEnds core address byte ⌝ }
 {
     match address {
-        0 => {
+        chip::PORT_A => {
             core.a = store(core.a, core.word, Group::A, byte);
             core
         }
-        1 => {
+        chip::PORT_B => {
             core.b = store(core.b, core.word, Group::B, byte);
             core
         }
-        2 => {
+        chip::PORT_C => {
             let next = latch(core.word, core.c.latch, byte);
             core.c.latch = next;
             core
         }
-        3 => settings::command(core, byte),
+        chip::CONTROL => settings::command(core, byte),
         _ => core,
     }
 }

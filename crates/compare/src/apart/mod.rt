@@ -2,9 +2,9 @@
 // program around it, and keeps the chip in bytes and flat arrays with numbered places. Each function answers for every value of the
 // machine, reached or not.
 
-mod bus; // reset, the beginnings of reads and writes, and the end of either
 mod channels; // the four handshake channels by number
 mod commands; // mode words and bit set/reset
+mod cycles; // reset, the beginnings of reads and writes, and the end of either
 mod digits; // single bits of a byte
 mod edges; // new outside levels, the falls among them, and the latches that follow them
 mod handshake; // what happens to an offered byte, and the tallies
@@ -43,10 +43,10 @@ pub(super) struct Explanation {
 
 pub(super) fn power_up_with_levels(a: u8, b: u8, c: u8) -> Machine {
     Machine {
-        phase: bus::IDLE,
+        phase: cycles::IDLE,
         place: 0,
         data: 0,
-        word: bus::POWER_UP_WORD,
+        word: cycles::POWER_UP_WORD,
         outside_a: a,
         outside_b: b,
         outside_c: c,
@@ -73,10 +73,10 @@ pub(super) fn event(mut machine: Machine, kind: u8, first: u8, second: u8) -> An
         _ => 0,
     };
     match accepted {
-        0 => machine = bus::reset(machine),
-        1 => machine = bus::begin_read(machine, first),
-        2 => machine = bus::end_cycle(machine),
-        3 => machine = bus::on_bus(machine, bus::WRITING, first, second),
+        0 => machine = cycles::reset(machine),
+        1 => machine = cycles::begin_read(machine, first),
+        2 => machine = cycles::end_cycle(machine),
+        3 => machine = cycles::on_bus(machine, cycles::WRITING, first, second),
         5 => machine = edges::moved(machine, first, second),
         _ => {}
     }

@@ -1,6 +1,6 @@
 // The numbers by which an event is refused.
 
-use super::bus;
+use super::cycles;
 
 // The first number that applies, or 0 for an event that is accepted. What a kind has no operand for is not looked at.
 pub(super) fn refusal(phase: u8, kind: u8, first: u8) -> u8 {
@@ -14,10 +14,10 @@ pub(super) fn refusal(phase: u8, kind: u8, first: u8) -> u8 {
     if (kind == 1) & (first == 3) {
         return 3;
     }
-    if begins & (phase != bus::IDLE) {
+    if begins & (phase != cycles::IDLE) {
         return 4;
     }
-    if (kind == 2) & (phase == bus::IDLE) {
+    if (kind == 2) & (phase == cycles::IDLE) {
         return 5;
     }
     0

@@ -2,8 +2,8 @@
 // least of those that hold, in whatever order they are looked at.
 
 use super::Machine;
-use super::bus;
 use super::channels;
+use super::cycles;
 use super::digits;
 use super::signals;
 use super::words;
@@ -28,16 +28,16 @@ const HIGH: u8 = 6;
 
 pub(super) fn of_input(machine: Machine, group: u8) -> u8 {
     match group {
-        0 => of_half(machine, channels::A_IN, channels::A_OUT, 4, bus::READING),
-        1 => of_half(machine, channels::B_IN, channels::B_OUT, 2, bus::READING),
+        0 => of_half(machine, channels::A_IN, channels::A_OUT, 4, cycles::READING),
+        1 => of_half(machine, channels::B_IN, channels::B_OUT, 2, cycles::READING),
         _ => NO_SUCH_HALF,
     }
 }
 
 pub(super) fn of_output(machine: Machine, group: u8) -> u8 {
     match group {
-        0 => of_half(machine, channels::A_OUT, channels::A_IN, 6, bus::WRITING),
-        1 => of_half(machine, channels::B_OUT, channels::B_IN, 2, bus::WRITING),
+        0 => of_half(machine, channels::A_OUT, channels::A_IN, 6, cycles::WRITING),
+        1 => of_half(machine, channels::B_OUT, channels::B_IN, 2, cycles::WRITING),
         _ => NO_SUCH_HALF,
     }
 }

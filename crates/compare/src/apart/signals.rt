@@ -1,7 +1,7 @@
 // What the chip itself says on port C: IBF, OBF and INTR. They are worked out from the state each time and kept nowhere.
 
 use super::Machine;
-use super::bus;
+use super::cycles;
 use super::digits;
 use super::handshake;
 use super::words;
@@ -19,8 +19,8 @@ pub(super) fn buffer_flag(machine: Machine, channel: usize) -> bool {
 // holds nothing down.
 pub(super) fn requests(machine: Machine, channel: usize, pin: usize) -> bool {
     let own = match channel % 2 {
-        0 => bus::READING,
-        _ => bus::WRITING,
+        0 => cycles::READING,
+        _ => cycles::WRITING,
     };
     words::strobed(machine.word, channel)
         & buffer_flag(machine, channel)

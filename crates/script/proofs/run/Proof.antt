@@ -1,8 +1,8 @@
 -- `script::run` meets its contract: refused by length, refused for room, or answered.
--- Rests on Numbers, LineCount and the contracts of what it calls.
+-- Rests on text's LineCount, Numbers and the contracts of what it calls.
 use native.Mathlib.Omega.{arith}
 use borrow.Author.Needs.{needs}
-use Rattle.script.proofs.LineCount.{lines-at-most}
+use Rattle.text.proofs.LineCount.{lines-at-most}
 use Rattle.script.proofs.Numbers.{too-long, no-room, runs}
 use Rattle.script.proofs.run.Statement.{statement}
 use Rattle.script.proofs.run.Tie as tie

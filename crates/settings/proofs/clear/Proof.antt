@@ -1,5 +1,5 @@
 -- `settings::clear` meets its contract, by that of the channels.
-use Rattle.settings.specs.Renewed.{clearedPort}
+use Rattle.settings.specs.ModeWord.{clearedPort}
 use Rattle.settings.proofs.clear.Statement.{statement}
 use Rattle.settings.proofs.clear.Tie as tie
 

@@ -2,12 +2,12 @@
 use mathlib.Core.Path.{_∙_, ap, sym}
 use borrow.Author.Needs.{needs}
 use Rattle.control.proofs.PinNamed.{pin-named}
-use Rattle.settings.specs.Commanded.{obeyed, commanded}
+use Rattle.settings.specs.ControlWord.{obeyed, afterControlWord}
 use Rattle.settings.proofs.command.Statement.{statement}
 use Rattle.settings.proofs.command.Tie as tie
 
 pub command-spec : {M : Type 1} → statement M
-unfolding commanded
+unfolding afterControlWord
 command-spec = tie.close (tie.spec
     (λ c κs. tt) (λ c. search needs) (λ c κs. tt) (λ c. search needs)
     (λ c κs. pin-named (c .before .before .before .before .args .byte) (c .before .control2 .given .0 .0) (c .before .control2 .given .0 .1 .0)

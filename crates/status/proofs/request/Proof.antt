@@ -6,4 +6,4 @@ use Rattle.status.proofs.request.Tie as tie
 pub request-spec : {M : Type 1} → statement M
 unfolding requestOf
 request-spec = tie.close (tie.spec (λ c κs. tt) (λ c κs. tt) (λ c κs. tt) (λ c κs. tt) (λ c κs. tt) (λ c κs. tt)
-    (λ c. rw (c .running .ensures, c .before .bit .ensures, c .before .before .line .ensures, c .before .before .before .flag .ensures, c .before .before .before .before .enable .ensures, c .before .before .before .before .before .strobed .ensures)))
+    (λ c. rw (c .running .ensures, c .before .bit .ensures, c .before .before .line-pin .ensures, c .before .before .before .flag .ensures, c .before .before .before .before .enable .ensures, c .before .before .before .before .before .strobed .ensures)))

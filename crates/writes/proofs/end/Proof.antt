@@ -1,11 +1,11 @@
 -- `writes::end` meets its contract, address by address.
 use borrow.Author.Tests.{ne-eqb}
-use Rattle.writes.specs.Write.{written}
+use Rattle.writes.specs.Write.{afterWriteEnds}
 use Rattle.writes.proofs.end.Statement.{statement}
 use Rattle.writes.proofs.end.Tie as tie
 
 pub end-spec : {M : Type 1} → statement M
-unfolding written
+unfolding afterWriteEnds
 end-spec = tie.close (tie.spec (λ c κs. tt) (λ c κs. tt) (λ c κs. tt) (λ c κs. tt)
     (λ c. rw (c .store .ensures, c .before .match .keys1))
     (λ c. rw (c .store2 .ensures, c .before .match .keys2))

@@ -2,7 +2,7 @@
 -- Rests on the contract of step::step.
 use mathlib.Core.Path.{_∙_, ap, sym}
 use borrow.Author.Needs.{needs}
-use Rattle.frames.specs.declared.Frame.{Frame}
+use Rattle.text.specs.declared.Frame.{Frame}
 use Rattle.script.specs.Answers.{acted}
 use Rattle.script.proofs.answer.act.Statement.{statement}
 use Rattle.script.proofs.answer.act.Tie as tie

@@ -1,63 +1,39 @@
 -- `left::walk` meets its contract: at each turn the text is walked on, with a line less.
--- Rests on FirstLine, Past and Walking, and the contracts of what it calls.
+-- Rests on text's Turn, Walking, and the contracts of what it calls.
 use mathlib.Core.Path.{_∙_, ap}
-use mathlib.Core.Bool.{not}
+use Prim.Native.Nat.{_-_}
 use native.Mathlib.Omega.{arith}
-use lib.Dec.{eqb}
 use lib.ListN.{length}
 use borrow.Author.Needs.{needs}
-use Rattle.frames.specs.declared.Frame.{Frame}
-use Rattle.script.specs.Lines.{linesOf}
+use Rattle.text.specs.declared.Frame.{Frame}
+use Rattle.text.proofs.Turn.{linesFrom, Turn, turn, no-more}
 use Rattle.script.specs.Answers.{acted}
-use Rattle.script.proofs.FirstLine.{no-line}
-use Rattle.script.proofs.Past.{turn}
-use Rattle.script.proofs.Walking.{Walking, sets-out, one-at-most, goes-on, fits, arrives}
+use Rattle.script.proofs.Walking.{Walking, sets-out, goes-on, fits, arrives}
 use Rattle.script.proofs.left.walk.Statement.{statement}
 use Rattle.script.proofs.left.walk.Tie as tie
 
 abbrev Inv-loop : tie.InvT-loop
-Inv-loop text rest₀ chip₀ refused₀ rest chip refused = Walking text (linesOf rest) chip refused
+Inv-loop text chip₀ start₀ refused₀ chip start refused = Walking text (linesFrom text start) chip refused
 
 abbrev μ-loop : tie.MeasureT-loop
-μ-loop text rest₀ chip₀ refused₀ rest chip refused = length rest
+μ-loop text chip₀ start₀ refused₀ chip start refused = length text - start
 
-loop-holds : tie.Need-loop-holds Inv-loop μ-loop
-loop-holds c = rw (c .chip-at-start .ensures) (sets-out _)
-
-add-refused : tie.Need-add-refused Inv-loop μ-loop
-add-refused c =
-    let top = c .before .before .before .before .before .before .before in
-    let good = top .before .before .before .good in
-    omega (arith, fits _ _ _ _ (top .loop .inv), one-at-most (c .refusals .result) (not (eqb (c .before .before .act .result .number) 0)) (c .refusals .ensures))
-
-sub-rest : tie.Need-sub-rest Inv-loop μ-loop
-sub-rest c =
-    let past = c .before .before .before .before in
-    turn _ _ _ (past .before .first .ensures) (past .past .ensures) (search needs) .inside
-
-part-rest-start : tie.Need-part-rest-start Inv-loop μ-loop
-part-rest-start c = sub-rest c
-
-loop-less : tie.Need-loop-less Inv-loop μ-loop
-loop-less c =
-    let past = c .before .before .before .before .before in
-    turn _ _ _ (past .before .first .ensures) (past .past .ensures) (search needs) .fewer
+-- The turn, where the end of the line is found.
+here : (c : tie.After-end Inv-loop μ-loop)
+    → Turn (c .before .before .before .before .before .args .text .now) (c .before .before .loop .start) (c .end .result)
+here c = turn _ _ _ (c .end .ensures) (search needs)
 
 loop-again : tie.Need-loop-again Inv-loop μ-loop
 loop-again c =
-    let refusals = c .before in
-    let act = refusals .before .before in
-    let frame = act .before in
-    let past = frame .before in
-    let first = past .before in
-    let top = first .before .before in
-    let t = turn _ _ _ (first .first .ensures) (past .past .ensures) (search needs) in
-    goes-on _ _ _ _ (top .loop .chip) _ (act .act .result) (refusals .refusals .result) (t .lines)
-    (act .act .ensures ∙ ap (λ (f : Frame). acted (top .loop .chip) f) (frame .frame .ensures))
-    (refusals .refusals .ensures) (top .loop .inv)
+    let act = c .before .before in
+    let end = act .before .before in
+    let top = end .before .before in
+    goes-on _ _ _ (top .loop .chip) _ _ _
+    (act .act .ensures ∙ ap (λ (f : Frame). acted (top .loop .chip) f) (act .before .frame .ensures))
+    (c .refusals .ensures) (rw (here end .lines) at (top .loop .inv))
 
 returns : tie.Need-returns Inv-loop μ-loop
-returns c = let top = c .before in arrives _ _ _ _ (no-line (top .loop .rest .now) (search needs)) (top .loop .inv)
+returns c = let top = c .before in arrives _ _ _ (rw (no-more _ (top .loop .start) (c .loop-test .left)) at (top .loop .inv))
 
 pub walk-spec : {M : Type 1} → statement M
 walk-spec =
@@ -66,16 +42,13 @@ walk-spec =
     Inv-loop
     μ-loop
     (λ c κs. tt)
-    loop-holds
+    (λ c. rw (c .chip-at-start .ensures) (sets-out _))
     (λ c κs. tt)
     (λ c κs. tt)
     (λ c κs. tt)
+    (λ c. omega (arith, here (c .before .before) .inside))
     (λ c κs. tt)
-    (λ c κs. tt)
-    add-refused
-    sub-rest
-    part-rest-start
-    (λ c. search needs)
-    loop-less
+    (λ c. omega (arith, fits _ _ _ _ (loop-again c)))
+    (λ c. here (c .before .before .before .before) .onward)
     loop-again
     returns)

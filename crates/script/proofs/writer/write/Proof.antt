@@ -1,4 +1,4 @@
--- `writer::write` meets its contract: eleven stores, one behind the other.
+-- `writer::write` meets its contract: its bytes are stored one behind the other.
 -- Rests on the contract of writer::put.
 use mathlib.Core.Path.{_≡_, _∙_, ap}
 use mathlib.Core.List.{List, _++_}
@@ -8,14 +8,14 @@ use lib.ListN.{length, drop, length-drop}
 use lib.Seq.{sets-eq}
 use borrow.Author.Needs.{needs}
 use Rattle.script.specs.declared.Shown.{Shown}
-use Rattle.script.specs.Answers.{lineText}
+use Rattle.script.specs.Answers.{lineText, answerWidth}
 use Rattle.script.proofs.writer.write.Statement.{statement}
 use Rattle.script.proofs.writer.write.Tie as tie
 
 -- The output with an answer line in front has the length that it had.
-as-long : (answer : Shown) (out : List ℕ) → 11 ≤ length out → length (lineText answer ++ drop 11 out) ≡ length out
+as-long : (answer : Shown) (out : List ℕ) → answerWidth ≤ length out → length (lineText answer ++ drop answerWidth out) ≡ length out
 unfolding lineText
-as-long answer out h = omega (arith, h, length-drop 11 out)
+as-long answer out h = omega (arith, h, length-drop answerWidth out)
 
 returns : tie.Need-returns
 unfolding lineText

@@ -10,7 +10,7 @@ half-spec = tie.close (tie.spec (λ c κs. tt) (λ c κs. tt) (λ c κs. tt) (λ
       c .first .ensures,
       c .before .running .ensures,
       c .before .before .bit .ensures,
-      c .before .before .before .line .ensures,
+      c .before .before .before .line-pin .ensures,
       c .before .before .before .before .flag .ensures,
       c .before .before .before .before .before .enable .ensures,
     )))

@@ -1,9 +1,9 @@
 -- `table::reading::answer` meets its contract, which is the lookup's: 255 where there is no entry, and else the table's.
--- Rests on Place, published's InRange and the contract of entries::published.
+-- Rests on Place, lookup's InRange and the contract of entries::published.
 use native.Mathlib.Omega.{arith}
 use borrow.Author.Needs.{needs}
-use Rattle.published.specs.Published.{lookupOf}
-use Rattle.published.proofs.InRange.{in-range}
+use Rattle.lookup.specs.Lookup.{lookupOf}
+use Rattle.lookup.proofs.InRange.{in-range}
 use Rattle.table.proofs.Place.{entry-of}
 use Rattle.table.proofs.reading.answer.Statement.{statement}
 use Rattle.table.proofs.reading.answer.Tie as tie

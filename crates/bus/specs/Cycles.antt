@@ -1,0 +1,59 @@
+-- What the facts about cycles say of any device: places, beginnings, operands that a kind lacks, and the phase by the events alone
+-- ("Events and numbers", "State").
+use mathlib.Core.Path.{_≡_}
+use mathlib.Core.Bool.{cond}
+use mathlib.Core.List.{List, [], _∷_}
+use Prim.Native.Nat.{ℕ, _<_, _≤_}
+use lib.Dec.{eqb}
+use Rattle.events.specs.Kinds as kinds
+use Rattle.events.specs.Event.{Event}
+use Rattle.bus.specs.declared.Phase.{Phase}
+use Rattle.bus.specs.declared.Phase.the-variants.{Idle, Reading, Writing}
+use Rattle.bus.specs.declared.Limits.{Limits}
+use Rattle.bus.specs.Refusals.{numberOf}
+use Rattle.bus.specs.Device.{Device, Given, gives, stepIn}
+
+-- A refusal with number n: the state as it was, and the byte 00.
+abbrev pub refusedIn : {S : Type 0} → S → ℕ → Given S
+refusedIn s n = gives s n 0
+
+-- A cycle begins at address x, or levels come onto port x. Where there is no such place it is 2, whatever the bus does; a read where none is to
+-- be had is 3, whatever it does; at any other place a cycle is 4 while another runs, and accepted on an idle bus, and levels are accepted.
+pub record AtPlace {S R : Type 0} (dev : Device S R) (l : Limits) (s : S) (x d : ℕ) : Type 0 where
+  pub readNowhere : l .addresses ≤ x → stepIn dev s kinds.beginRead x d ≡ refusedIn s 2
+  pub writeNowhere : l .addresses ≤ x → stepIn dev s kinds.beginWrite x d ≡ refusedIn s 2
+  pub levelsNowhere : l .ports ≤ x → stepIn dev s kinds.outsideLevels x d ≡ refusedIn s 2
+  pub notReadable : x < l .addresses → l .readable ≤ x → stepIn dev s kinds.beginRead x d ≡ refusedIn s 3
+  pub readInCycle : x < l .addresses → x < l .readable → ¬ (dev .phase s ≡ Idle) → stepIn dev s kinds.beginRead x d ≡ refusedIn s 4
+  pub writeInCycle : x < l .addresses → ¬ (dev .phase s ≡ Idle) → stepIn dev s kinds.beginWrite x d ≡ refusedIn s 4
+  pub readBegins : x < l .addresses → x < l .readable → dev .phase s ≡ Idle → stepIn dev s kinds.beginRead x d .number ≡ 0
+  pub writeBegins : x < l .addresses → dev .phase s ≡ Idle → stepIn dev s kinds.beginWrite x d .number ≡ 0
+  pub levelsCome : x < l .ports → stepIn dev s kinds.outsideLevels x d .number ≡ 0
+
+-- A write that begins leaves all but the bus as it is. A read that is accepted answers what the device answers there, and no event of another kind
+-- answers anything but 00.
+pub record Begins {S R : Type 0} (dev : Device S R) (s : S) (x d : ℕ) : Type 0 where
+  pub writeHeld : dev .rest (stepIn dev s kinds.beginWrite x d .state) ≡ dev .rest s
+  pub readAnswers : stepIn dev s kinds.beginRead x d .number ≡ 0 → stepIn dev s kinds.beginRead x d .byte ≡ dev .answer s x
+  pub othersSilent : (k : ℕ) → ¬ (k ≡ kinds.beginRead) → stepIn dev s k x d .byte ≡ 0
+
+-- Operands that a kind lacks are ignored.
+pub record Ignored {S R : Type 0} (dev : Device S R) (s : S) (x d : ℕ) : Type 0 where
+  pub reset : stepIn dev s kinds.reset x d ≡ stepIn dev s kinds.reset 0 0
+  pub beginRead : stepIn dev s kinds.beginRead x d ≡ stepIn dev s kinds.beginRead x 0
+  pub endCycle : stepIn dev s kinds.endCycle x d ≡ stepIn dev s kinds.endCycle 0 0
+
+-- The phase after an accepted event: a cycle runs from its beginning to its end, and a reset drops it.
+abbrev pub phaseAfter : Phase → ℕ → ℕ → ℕ → Phase
+phaseAfter ph k x d =
+    cond (eqb k kinds.reset) Idle
+    (cond (eqb k kinds.beginRead) (Reading x)
+    (cond (eqb k kinds.endCycle) Idle
+    (cond (eqb k kinds.beginWrite) (Writing x d)
+    ph)))
+
+-- The phase after a history, by the limits and the events alone: a refused event changes nothing.
+abbrev pub phaseOver : Limits → Phase → List Event → Phase
+phaseOver l ph [] = ph
+phaseOver l ph (e ∷ es) =
+    phaseOver l (cond (eqb (numberOf l ph (e .kind) (e .first)) 0) (phaseAfter ph (e .kind) (e .first) (e .second)) ph) es

@@ -1,0 +1,4 @@
+pub mod Refusals
+pub mod Device
+pub mod Numbered
+pub mod Cycles

@@ -1,3 +1,0 @@
-pub mod KindLaws
-pub mod Leading
-pub mod Written

@@ -1,3 +1,0 @@
-pub mod Digits
-pub mod Kinds
-pub mod Frames

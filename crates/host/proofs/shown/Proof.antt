@@ -1,6 +1,0 @@
--- `host::shown` meets its contract, by what it calls.
-use Rattle.host.proofs.shown.Statement.{statement}
-use Rattle.host.proofs.shown.Tie as tie
-
-pub shown-spec : {M : Type 1} → statement M
-shown-spec = tie.close (tie.spec (λ c κs. tt) (λ c. rw (c .packed .ensures)))

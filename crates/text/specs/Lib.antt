@@ -1,0 +1,4 @@
+pub mod Digits
+pub mod Lines
+pub mod LineEnds
+pub mod Frames
