@@ -1,7 +1,7 @@
 -- Demand 1: the number of an event is n exactly when the first row of the table that applies has the number n, and 0 exactly when none applies
 -- ("Events and numbers").
--- Rests on Outcomes and bits' Logic.
-use mathlib.Core.Path.{_≡_, _∙_, refl, sym}
+-- Rests on bits' Logic.
+use mathlib.Core.Path.{_≡_, refl, sym}
 use mathlib.Core.Bool.{Bool, true, false, cond}
 use mathlib.Core.Logic.{_⊎_, inl, inr, ⊎-elim}
 use mathlib.Core.List.{List, [], _∷_}
@@ -16,7 +16,6 @@ use Rattle.bus.specs.Refusals.{Row, row, rows, firstOf, numberOf}
 use Rattle.bus.specs.Device.{Device, stepIn}
 use Rattle.bus.specs.Numbered.{First, NoneOf, Numbered}
 use Rattle.bus.specs.Cycles.{refusedIn}
-use Rattle.bus.proofs.Outcomes.{refuses}
 
 -- No row has the number 0.
 abbrev Positive : List Row → Type 0

@@ -1,6 +1,6 @@
 -- The two outcomes of an event on any device: accepted where its number is 0, and otherwise refused, which changes nothing.
 -- Rests on nothing.
-use mathlib.Core.Path.{_≡_, _∙_, refl, ap, sym, subst}
+use mathlib.Core.Path.{_≡_, _∙_, refl, sym, subst}
 use mathlib.Core.Bool.{Bool, true, false}
 use Prim.Native.Nat.{ℕ}
 use lib.Dec.{eqb}

@@ -1,16 +1,16 @@
 -- What the facts about cycles say of any device: places, beginnings, operands that a kind lacks, and the phase by the events alone
 -- ("Events and numbers", "State").
 use mathlib.Core.Path.{_≡_}
-use mathlib.Core.Bool.{cond}
+use mathlib.Core.Bool.{Bool, cond, not, _&&_, _||_}
 use mathlib.Core.List.{List, [], _∷_}
 use Prim.Native.Nat.{ℕ, _<_, _≤_}
-use lib.Dec.{eqb}
+use lib.Dec.{eqb, ltb}
 use Rattle.events.specs.Kinds as kinds
 use Rattle.events.specs.Event.{Event}
 use Rattle.bus.specs.declared.Phase.{Phase}
 use Rattle.bus.specs.declared.Phase.the-variants.{Idle, Reading, Writing}
 use Rattle.bus.specs.declared.Limits.{Limits}
-use Rattle.bus.specs.Refusals.{numberOf}
+use Rattle.bus.specs.Refusals.{isBusy}
 use Rattle.bus.specs.Device.{Device, Given, gives, stepIn}
 
 -- A refusal with number n: the state as it was, and the byte 00.
@@ -43,6 +43,16 @@ pub record Ignored {S R : Type 0} (dev : Device S R) (s : S) (x d : ℕ) : Type 
   pub beginRead : stepIn dev s kinds.beginRead x d ≡ stepIn dev s kinds.beginRead x 0
   pub endCycle : stepIn dev s kinds.endCycle x d ≡ stepIn dev s kinds.endCycle 0 0
 
+-- An event is accepted, kind by kind and apart from the table: a reset always; a cycle at an address that there is, for a read one that can be
+-- read, on an idle bus; an end while a cycle runs; levels on a port that there is.
+abbrev pub isAccepted : Limits → Phase → ℕ → ℕ → Bool
+isAccepted l ph k x =
+    eqb k kinds.reset
+    || ((eqb k kinds.beginRead && (ltb x (l .addresses) && (ltb x (l .readable) && not (isBusy ph))))
+    || ((eqb k kinds.endCycle && isBusy ph)
+    || ((eqb k kinds.beginWrite && (ltb x (l .addresses) && not (isBusy ph)))
+    || (eqb k kinds.outsideLevels && ltb x (l .ports)))))
+
 -- The phase after an accepted event: a cycle runs from its beginning to its end, and a reset drops it.
 abbrev pub phaseAfter : Phase → ℕ → ℕ → ℕ → Phase
 phaseAfter ph k x d =
@@ -56,4 +66,4 @@ phaseAfter ph k x d =
 abbrev pub phaseOver : Limits → Phase → List Event → Phase
 phaseOver l ph [] = ph
 phaseOver l ph (e ∷ es) =
-    phaseOver l (cond (eqb (numberOf l ph (e .kind) (e .first)) 0) (phaseAfter ph (e .kind) (e .first) (e .second)) ph) es
+    phaseOver l (cond (isAccepted l ph (e .kind) (e .first)) (phaseAfter ph (e .kind) (e .first) (e .second)) ph) es

@@ -1,12 +1,12 @@
 -- What each move leaves of a channel's condition, latch and tallies, for those who stand above ("Handshake").
 -- Rests on nothing.
 use mathlib.Core.Path.{_≡_, refl, ap}
-use mathlib.Core.Bool.{true}
+use mathlib.Core.Bool.{}
 use Prim.Native.Nat.{ℕ}
 use Rattle.channel.specs.declared.Fill.{Fill}
 use Rattle.channel.specs.declared.Fill.the-variants.{Empty, Waiting, Fetching}
 use Rattle.channel.specs.declared.Channel.{Channel}
-use Rattle.channel.specs.Channel.{isWaiting, offered, handed, overwritten, swallowed, cleared, counted}
+use Rattle.channel.specs.Channel.{isWaiting, handed, cleared, counted}
 use Rattle.channel.specs.Moves.{afterOffer, afterFollow, afterHandOver, afterEndRead, afterClear}
 
 -- A byte offered waits in the latch.
@@ -17,11 +17,6 @@ offer-waits ch b = refl
 pub offer-latches : (ch : Channel) (b : ℕ) → afterOffer ch b .latch ≡ b
 unfolding afterOffer
 offer-latches ch b = refl
-
-pub offer-counts : (ch : Channel) (b : ℕ)
-    → afterOffer ch b .tally ≡ counted overwritten (isWaiting (ch .fill)) (counted offered true (ch .tally))
-unfolding afterOffer
-offer-counts ch b = refl
 
 -- Levels that follow stand in the latch, and are all that changes.
 pub follow-stays : (ch : Channel) (b : ℕ) → afterFollow ch b .fill ≡ ch .fill
@@ -75,10 +70,6 @@ module _ (ch : Channel) where
   pub end-read-keeps : afterEndRead ch .latch ≡ ch .latch
   unfolding afterEndRead
   end-read-keeps = refl
-
-  pub end-read-counts : afterEndRead ch .tally ≡ counted swallowed (isWaiting (ch .fill)) (ch .tally)
-  unfolding afterEndRead
-  end-read-counts = refl
 
   pub clear-empties : afterClear ch .fill ≡ Empty
   unfolding afterClear

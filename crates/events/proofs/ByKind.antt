@@ -1,7 +1,7 @@
 -- The numbers that are kinds, and those that are none: what holds of each of the five, and of every number that is none, holds of every
 -- number.
 -- Rests on bits' Logic.
-use mathlib.Core.Path.{_≡_, refl}
+use mathlib.Core.Path.{_≡_, refl, subst}
 use mathlib.Core.Bool.{true, false, _||_}
 use Prim.Native.Nat.{ℕ, zero, suc, _<_}
 use native.Mathlib.Omega.{arith}
@@ -44,6 +44,10 @@ kinds-below (suc (suc (suc (suc (suc zero))))) = refl
 kinds-below (suc (suc (suc (suc (suc (suc k)))))) =
     let n = suc (suc (suc (suc (suc (suc k))))) in
     rw (none-above n (omega arith), lt-leb n 3 (omega arith), ne-eqb n 5 (λ e. omega (arith, e)))
+
+-- What is no kind is none of them.
+pub no-kind-differs : (k j : ℕ) → noKind k ≡ true → isKind j ≡ true → eqb k j ≡ false
+no-kind-differs k j none kind = ne-eqb k j (λ e. contrary (noKind j) (rw (kind)) (subst (λ (n : ℕ). noKind n ≡ true) e none))
 
 -- Every kind is below 06.
 pub kind-small : (k : ℕ) → isKind k ≡ true → k < 6

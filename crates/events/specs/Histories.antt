@@ -1,5 +1,5 @@
 -- The few shapes of which histories are made.
-use mathlib.Core.List.{List, [], _∷_, _++_}
+use mathlib.Core.List.{List, [], _∷_}
 use Prim.Native.Nat.{ℕ}
 use Rattle.events.specs.Kinds as kinds
 use Rattle.events.specs.Event.{Event, event}
@@ -16,7 +16,3 @@ levels p d = event kinds.outsideLevels p d ∷ []
 
 abbrev pub readFrom : ℕ → List Event
 readFrom a = event kinds.beginRead a 0 ∷ []
-
--- A byte put on port A, and its STB lowered and raised; port C is otherwise high.
-abbrev pub strobe : ℕ → List Event
-strobe d = levels 0 d ++ levels 2 0xef ++ levels 2 0xff

@@ -5,11 +5,11 @@ use Prim.Native.Nat.{ℕ, zero, suc, _%_}
 use native.Mathlib.Nat.{zero-add}
 use lib.ListN.{length}
 use Rattle.bits.specs.Bit.{bitOf}
-use Rattle.events.specs.Histories.{strobe}
 use Rattle.bus.specs.declared.Phase.the-variants.{Idle}
 use Rattle.control.specs.declared.Group.the-variants.{A}
 use Rattle.channel.specs.declared.Side.the-variants.{Input}
 use Rattle.chip.specs.State.{allHigh, powerUpWith, tallyOf}
+use Rattle.laws.specs.Marked.{strobe}
 use Rattle.fates.specs.Surroundings.{Surroundings}
 use Rattle.fates.specs.Effects.{effects}
 use Rattle.fates.specs.Bytes.{bytes}

@@ -2,7 +2,7 @@
 use mathlib.Core.List.{List, [], _∷_, _++_}
 use Prim.Native.Nat.{ℕ, zero, suc}
 use Rattle.events.specs.Event.{Event, event}
-use Rattle.events.specs.Histories.{write, levels, readFrom, cycleEnd, strobe}
+use Rattle.events.specs.Histories.{write, levels, readFrom, cycleEnd}
 use Rattle.control.specs.declared.Group.{Group}
 use Rattle.control.specs.declared.Group.the-variants.{A, B}
 use Rattle.channel.specs.declared.Side.{Side}
@@ -11,7 +11,7 @@ use Rattle.channel.specs.declared.Tally.{Tally}
 use Rattle.chip.specs.declared.Levels.{Levels}
 use Rattle.chip.specs.State.{allLow, allHigh}
 use Rattle.ports.specs.declared.Pins.{Pins}
-use Rattle.laws.specs.Marked.{P13}
+use Rattle.laws.specs.Marked.{strobe, P13}
 use Rattle.fates.specs.Bytes.{Fate, handedOver, overwritten, swallowed, cleared, waiting, Byte, offeredAt, decidedAt, bytesOf}
 
 -- The levels at power-up, a history, one of the four channels, and the bytes that it is said to have had.

@@ -49,6 +49,6 @@ at-place c x d = places.at-place device c x d
 pub cycle-begins : (c : Chip) (x d : ℕ) → Begins device c x d
 cycle-begins c x d = beginnings.cycle-begins device c x d
 
--- The phase after any history, from any state, by the events alone.
-pub phase-by-events : (c : Chip) (es : List Event) → runIn device c es .phase ≡ phaseOver limits (c .phase) es
+-- The phase after any history, from any state, by the same counts and the events alone.
+pub phase-by-events : (c : Chip) (es : List Event) → runIn device c es .phase ≡ phaseOver (limitsOf 4 3 3) (c .phase) es
 phase-by-events c es = phases.phase-by-events device limits c es refl

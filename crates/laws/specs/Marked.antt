@@ -3,7 +3,7 @@
 use mathlib.Core.List.{List, [], _∷_, _++_}
 use Prim.Native.Nat.{ℕ}
 use Rattle.events.specs.Event.{Event, event}
-use Rattle.events.specs.Histories.{write, levels, readFrom, cycleEnd, strobe}
+use Rattle.events.specs.Histories.{write, levels, readFrom, cycleEnd}
 use Rattle.control.specs.declared.Group.the-variants.{A}
 use Rattle.channel.specs.declared.Side.the-variants.{Input}
 use Rattle.chip.specs.State.{allHigh, powerUpWith, tallyOf}
@@ -11,6 +11,10 @@ use Rattle.ports.specs.Reads.{readOf}
 use Rattle.ports.specs.Pins.{pinsOf}
 use Rattle.step.specs.declared.Stepped.{Stepped}
 use Rattle.step.specs.Step.{accepted, stepped}
+
+-- A byte put on port A, and its STB lowered and raised; port C is otherwise high.
+abbrev pub strobe : ℕ → List Event
+strobe d = levels 0 d ++ levels 2 0xef ++ levels 2 0xff
 
 -- The last event's outcome, after a history.
 abbrev pub after : Stepped → List Event → Stepped

@@ -3,7 +3,6 @@
 use mathlib.Core.Path.{_≡_, ap}
 use Prim.Native.Nat.{ℕ}
 use Rattle.bus.specs.declared.Phase.the-variants.{Idle, Reading, Writing}
-use Rattle.bus.specs.Device.{stepIn}
 use Rattle.bus.proofs.ByPhase as bus
 use Rattle.chip.specs.declared.Chip.{Chip}
 use Rattle.reads.specs.Read.{afterReadEnds}

@@ -1,12 +1,11 @@
 -- The two outcomes of an event, for those who stand above the step: accepted where its number is 0, and otherwise refused.
 -- Rests on the bus's Outcomes.
-use mathlib.Core.Path.{_≡_, ap, subst}
+use mathlib.Core.Path.{_≡_, ap}
 use Prim.Native.Nat.{ℕ}
 use Rattle.bus.specs.Refusals.{numberOf}
-use Rattle.bus.specs.Device.{afterIn, byteIn, stepIn}
+use Rattle.bus.specs.Device.{afterIn, byteIn}
 use Rattle.bus.proofs.Outcomes as bus
 use Rattle.chip.specs.declared.Chip.{Chip}
-use Rattle.step.specs.declared.Stepped.{Stepped}
 use Rattle.step.specs.Step.{limits, device, asStepped, accepted, refused, stepOf}
 
 module _ (c : Chip) (k x d : ℕ) where
