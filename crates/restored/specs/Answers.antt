@@ -1,7 +1,7 @@
 -- What the calls answer along a host's whole run, in the host's own words: the bytes that it keeps, the answers, and what the events alone
 -- tell, which is the account and the bytes of each channel.
 use mathlib.Core.Path.{_≡_}
-use mathlib.Core.Bool.{Bool, _||_}
+use mathlib.Core.Bool.{Bool, cond, _||_}
 use mathlib.Core.List.{List, [], _∷_, _++_}
 use Prim.Native.Nat.{ℕ, zero, suc, _+_, _*_, _/_, _%_}
 use lib.Dec.{ltb}
@@ -25,7 +25,7 @@ use Rattle.account.specs.Views.{levelsShown, maskShown, byteAnswered}
 use Rattle.account.specs.Reasons.{explained}
 use Rattle.account.specs.Promise.{over, accountOf}
 use Rattle.image.specs.Loaded.{stateOf}
-use Rattle.calls.specs.Calls.{packed, orNone, lastPort, lastChannel, lastTally, stepAnswer, pinsAnswer, groupNumbered, sideNumbered, tallyAnswer, reasonsGiven, explainAnswer}
+use Rattle.calls.specs.Calls.{packed, stepAnswer, pinsAnswer, groupNumbered, sideNumbered, tallyAnswer, reasonsGiven, explainAnswer}
 use Rattle.restored.specs.Host.{passed, hostRun, powerUpIn}
 
 -- What a call of the step answers, where an event is passed to it,
@@ -36,9 +36,9 @@ answerTo l e = stepAnswer l (e .kind) (e .first) (e .second)
 abbrev pub answerBy : Account → Event → ℕ
 answerBy a e = packed (numberBy (a .surroundings .phase) (kindOf e)) (byteAnswered a e) 0
 
--- What the pins call answers of port p by the account: the levels, and the mask of those driven above them.
+-- What the pins call answers of port p by the account: the levels, and the mask of those driven above them; 2 above port 2.
 abbrev pub pinsBy : Account → ℕ → ℕ
-pinsBy a p = orNone (ltb lastPort p) (packed 0 (levelsShown a p) (maskShown a p))
+pinsBy a p = cond (ltb 2 p) 2 (packed 0 (levelsShown a p) (maskShown a p))
 
 -- What the explanation call answers of group n by the account: the number, and above it what is said of the input's half and of the output's.
 abbrev pub explainedBy : Account → ℕ → ℕ
@@ -49,12 +49,12 @@ explainedBy a n = reasonsGiven (explained a n)
 abbrev pub counts : List Byte → List Byte → List ℕ
 counts new all = length new ∷ count handedOver all ∷ count overwritten all ∷ count swallowed all ∷ count cleared all ∷ []
 
--- What the tally call answers of tally n of channel k by these counts, which go on from the tallies at the start.
+-- What the tally call answers of tally n of channel k by these counts, which go on from the tallies at the start; 2 above channel 3 and tally 4.
 abbrev pub tallyBy : (ℕ → ℕ → ℕ) → (Group → Side → List Byte) → (Group → Side → List Byte) → ℕ → ℕ → ℕ
 tallyBy start new all k n =
     let g = groupNumbered k in
     let s = sideNumbered k in
-    orNone (ltb lastChannel k || ltb lastTally n) (256 * ((start k n + getD (counts (new g s) (all g s)) n 0) % 65536))
+    cond (ltb 3 k || ltb 4 n) 2 (256 * ((start k n + getD (counts (new g s) (all g s)) n 0) % 65536))
 
 -- The call to which an event is passed shows the byte v: to the program, by the number 0 with that byte; to the device, by the number 0,
 -- and the pins call right after it answers that byte with all eight lines of the port driven.
