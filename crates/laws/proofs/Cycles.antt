@@ -17,6 +17,7 @@ use Rattle.bus.proofs.Places as places
 use Rattle.bus.proofs.Beginnings as beginnings
 use Rattle.bus.proofs.Phases as phases
 use Rattle.chip.specs.declared.Chip.{Chip}
+use Rattle.ports.specs.Reads.{readOf}
 use Rattle.step.specs.Step.{limits, device, asStepped, refused, stepOf}
 use Rattle.step.proofs.Outcome.{step-refuses, step-number}
 
@@ -48,6 +49,11 @@ at-place c x d = places.at-place device c x d
 -- What the beginning of a cycle does, and which events have a byte to give.
 pub cycle-begins : (c : Chip) (x d : ℕ) → Begins device c x d
 cycle-begins c x d = beginnings.cycle-begins device c x d
+
+-- So a read that is accepted answers what the port reads as before it.
+pub read-answers : (c : Chip) (x d : ℕ) → stepOf c 1 x d .number ≡ 0 → stepOf c 1 x d .byte ≡ readOf c x
+unfolding stepOf
+read-answers c x d = cycle-begins c x d .readAnswers
 
 -- The phase after any history, from any state, by the same counts and the events alone.
 pub phase-by-events : (c : Chip) (es : List Event) → runIn device c es .phase ≡ phaseOver (limitsOf 4 3 3) (c .phase) es
