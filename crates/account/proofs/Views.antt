@@ -1,13 +1,13 @@
 -- What is seen of a chip is what an account that agrees with it shows.
--- Rests on Agrees, Here, Interrupts, Columns and Signals, and on bits' BitLaws.
+-- Rests on Agrees, Here, Interrupts, Columns and Signals, and on bits' Sum.
 use mathlib.Core.Path.{_≡_, _∙_, refl, ap, ap₂, sym}
 use mathlib.Core.Bool.{Bool, true, false, cond, not}
-use Prim.Native.Nat.{ℕ, zero, suc, _+_, _*_, _<_}
+use Prim.Native.Nat.{ℕ, zero, suc, _<_}
 use native.Mathlib.Omega.{arith}
 use lib.Dec.{eqb, lit<}
 use borrow.Author.Tests.{ne-eqb}
-use Rattle.bits.specs.Bit.{bitOf, num, valueOf, assembled}
-use Rattle.bits.proofs.BitLaws.{assembled-same}
+use Rattle.bits.specs.Bit.{bitOf}
+use Rattle.bits.proofs.Sum.{byte-same}
 use Rattle.control.specs.declared.Group.{Group}
 use Rattle.control.specs.declared.Group.the-variants.{A, B}
 use Rattle.roles.specs.Role.{roleOf}
@@ -23,26 +23,13 @@ use Rattle.ports.specs.Pins.{drivesPort, pinsOfPort, isDriven, levelAs, pinsOfL
 use Rattle.fates.specs.Effects.{strobePin}
 use Rattle.account.specs.Summary.{Column, plainIn, plainOut, strobedIn, strobedOut, bothWays, columnOf, takes, keeps, Signal, io, INTR, IBF, OBF, STB, ACK, signalAt, isIn, driven}
 use Rattle.account.specs.Account.{Account}
-use Rattle.account.specs.Views.{portRead, drives, driving, portLevels, toldOf, told, pinDriven, pinLevel, byteBy, levelsShown, maskShown, readAnswer}
+use Rattle.account.specs.Views.{portRead, drives, driving, portLevels, toldOf, told, pinDriven, pinLevel, levelsShown, maskShown, readAnswer}
 use Rattle.account.specs.Promise.{bitHere}
 use Rattle.account.proofs.Columns.{takes-same, keeps-same, isTwo, two-same, columnB}
 use Rattle.account.proofs.Signals.{roleBy, role-same, by-signal}
 use Rattle.account.proofs.Agrees.{Agrees}
 use Rattle.account.proofs.Here.{column-here, signal-here, in-here, lines-here, levels-here}
 use Rattle.account.proofs.Interrupts.{intr-same}
-
--- Eight bits, as the chip's definitions put them together and as the account does.
-eight : (b₀ b₁ b₂ b₃ b₄ b₅ b₆ b₇ : ℕ)
-    → b₀ + 2 * (b₁ + 2 * (b₂ + 2 * (b₃ + 2 * (b₄ + 2 * (b₅ + 2 * (b₆ + 2 * (b₇ + 2 * 0)))))))
-    ≡ b₀ + 2 * b₁ + 4 * b₂ + 8 * b₃ + 16 * b₄ + 32 * b₅ + 64 * b₆ + 128 * b₇
-eight b₀ b₁ b₂ b₃ b₄ b₅ b₆ b₇ = omega arith
-
-byte-is : (f : ℕ → Bool) → assembled f ≡ byteBy f
-unfolding valueOf
-byte-is f = eight (num (f 0)) (num (f 1)) (num (f 2)) (num (f 3)) (num (f 4)) (num (f 5)) (num (f 6)) (num (f 7))
-
-byte-same : (f h : ℕ → Bool) → ((n : ℕ) → n < 8 → f n ≡ h n) → assembled f ≡ byteBy h
-byte-same f h same = assembled-same f h same ∙ byte-is h
 
 -- Above 2 there is no port.
 no-port : (p k : ℕ) → k < 3 → eqb (suc (suc (suc p))) k ≡ false

@@ -8,10 +8,11 @@ use lib.ListN.{length}
 use Rattle.bits.specs.Bit.{num}
 use Rattle.events.specs.Event.{Event}
 use Rattle.chip.specs.State.{allHigh}
-use Rattle.script.specs.Answers.{lineText, answersOf}
+use Rattle.text.specs.History.{historyOf}
+use Rattle.script.specs.declared.Device.the-variants.{I8255A}
+use Rattle.script.specs.Answers.{lineText, atStart, answersOf}
 use Rattle.script.specs.Run.{ranOf}
 use Rattle.fates.specs.Kinds.{kindOf}
-use Rattle.fates.specs.ScriptRun.{historyOf}
 use Rattle.account.specs.Acts.{numberBy}
 use Rattle.account.specs.Account.{Account, accountNext, opened}
 use Rattle.account.specs.Views.{levelsShown, byteAnswered}
@@ -34,7 +35,7 @@ linesBy a (e ∷ es) = lineBy a e ++ linesBy (accountNext a e) es
 
 -- What is promised of a text: its answers are the account's, from a power-up with every line high.
 abbrev pub AnsweredBy : List ℕ → Type 0
-AnsweredBy text = answersOf text ≡ linesBy (opened allHigh) (historyOf text)
+AnsweredBy text = answersOf (atStart I8255A) text ≡ linesBy (opened allHigh) (historyOf text)
 
 -- How many lines a text has, by its LFs: one for each, and one more where bytes follow the last.
 abbrev pub endings : List ℕ → ℕ

@@ -1,25 +1,6 @@
 -- Some scripts and their answers, as text: the rules' whole case, and what a line must be to be a frame ("Script and program").
 use mathlib.Core.List.{List, [], _∷_}
-use Prim.Native.Nat.{ℕ}
-use Prim.Native.Char.{code}
-use Prim.Native.String.{String}
-use Prim.Native.String
-use Rattle.script.specs.Answers.{answersOf}
-
--- The codes of a text's characters.
-abbrev pub codes : String → List ℕ
-codes String.[] = []
-codes (String._∷_ c text) = code c ∷ codes text
-
--- A script, and the rules' answers to it.
-pub record Text : Type 0 where
-  pub script : String
-  pub answers : String
-
--- It, in one line.
-infixl 60 _gives_
-abbrev pub _gives_ : String → String → Text
-script gives answers = record { script = script; answers = answers }
+use Rattle.text.specs.Quoted.{Text, _gives_}
 
 -- The whole case: group A in mode 1 as an input with its interrupt enabled; the byte 41 strobed in; a read begun, a second one refused, and
 -- the end; a read of control and an event of no kind, both refused.
@@ -42,12 +23,3 @@ texts =
     ∷ ("00\r\n 00\n00 \n" gives "0100FFFFFF\n0100FFFFFF\n0100FFFFFF\n")
     ∷ ("04\n06\n060000\n" gives "0100FFFFFF\n0100FFFFFF\n0100FFFFFF\n")
     ∷ []
-
--- The answers that the model gives to some scripts, and those that the rules list.
-abbrev pub given : List Text → List (List ℕ)
-given [] = []
-given (t ∷ ts) = answersOf (codes (t .script)) ∷ given ts
-
-abbrev pub listed : List Text → List (List ℕ)
-listed [] = []
-listed (t ∷ ts) = codes (t .answers) ∷ listed ts

@@ -1,9 +1,10 @@
 -- What an account shows: the pins and what drives them, the reads, INTR, and the byte of an event ("Reads and pins").
 use mathlib.Core.Bool.{Bool, true, false, cond, not, _||_}
 use mathlib.Core.List.{[], _∷_}
-use Prim.Native.Nat.{ℕ, _+_, _*_}
+use Prim.Native.Nat.{ℕ}
 use lib.ListN.{getD}
-use Rattle.bits.specs.Bit.{bitOf, num}
+use Rattle.bits.specs.Bit.{bitOf}
+use Rattle.bits.specs.Sum.{byteBy}
 use Rattle.events.specs.Event.{Event}
 use Rattle.control.specs.declared.Group.{Group}
 use Rattle.control.specs.declared.Group.the-variants.{A, B}
@@ -62,11 +63,6 @@ pinDriven a n = driven (signalAt (a .surroundings .word) n) (isIn (a .surroundin
 -- The level of pin n: driven, what a read tells of it; else what stands outside.
 abbrev pub pinLevel : Account → ℕ → Bool
 pinLevel a n = cond (pinDriven a n) (told a n) (bitOf (a .surroundings .levelsC) n)
-
--- The byte of eight bits.
-abbrev pub byteBy : (ℕ → Bool) → ℕ
-byteBy f =
-    num (f 0) + 2 * num (f 1) + 4 * num (f 2) + 8 * num (f 3) + 16 * num (f 4) + 32 * num (f 5) + 64 * num (f 6) + 128 * num (f 7)
 
 -- Ports A, B and C: the levels, the mask of driven pins, and what a read answers; where there is no port, nothing.
 abbrev pub levelsShown : Account → ℕ → ℕ

@@ -3,4 +3,7 @@ pub mod Numbering
 pub mod ByPhase
 pub mod Places
 pub mod Beginnings
+pub mod Endings
 pub mod Phases
+pub mod Begun
+pub mod Facts

@@ -28,5 +28,4 @@ at-place dev s x d = record {
   writeInCycle = λ there runs. rw (lt-ltb x _ there, busy (dev .phase s) runs);
   readBegins = λ there readable idle. rw (lt-ltb x _ there, lt-ltb x _ readable, idle);
   writeBegins = λ there idle. rw (lt-ltb x _ there, idle);
-  levelsCome = λ there. rw (lt-ltb x _ there);
 }

@@ -1,5 +1,5 @@
--- What the facts about cycles say of any device: places, beginnings, operands that a kind lacks, and the phase by the events alone
--- ("Events and numbers", "State").
+-- What the facts about cycles say of any device: places, beginnings and ends, what comes in any phase, operands that a kind lacks, and the phase
+-- by the events alone ("Events and numbers", "State").
 use mathlib.Core.Path.{_≡_}
 use mathlib.Core.Bool.{Bool, cond, not, _&&_, _||_}
 use mathlib.Core.List.{List, [], _∷_}
@@ -18,7 +18,7 @@ abbrev pub refusedIn : {S : Type 0} → S → ℕ → Given S
 refusedIn s n = gives s n 0
 
 -- A cycle begins at address x, or levels come onto port x. Where there is no such place it is 2, whatever the bus does; a read where none is to
--- be had is 3, whatever it does; at any other place a cycle is 4 while another runs, and accepted on an idle bus, and levels are accepted.
+-- be had is 3, whatever it does; at any other place a cycle is 4 while another runs, and accepted on an idle bus.
 pub record AtPlace {S R : Type 0} (dev : Device S R) (l : Limits) (s : S) (x d : ℕ) : Type 0 where
   pub readNowhere : l .addresses ≤ x → stepIn dev s kinds.beginRead x d ≡ refusedIn s 2
   pub writeNowhere : l .addresses ≤ x → stepIn dev s kinds.beginWrite x d ≡ refusedIn s 2
@@ -28,7 +28,6 @@ pub record AtPlace {S R : Type 0} (dev : Device S R) (l : Limits) (s : S) (x d :
   pub writeInCycle : x < l .addresses → ¬ (dev .phase s ≡ Idle) → stepIn dev s kinds.beginWrite x d ≡ refusedIn s 4
   pub readBegins : x < l .addresses → x < l .readable → dev .phase s ≡ Idle → stepIn dev s kinds.beginRead x d .number ≡ 0
   pub writeBegins : x < l .addresses → dev .phase s ≡ Idle → stepIn dev s kinds.beginWrite x d .number ≡ 0
-  pub levelsCome : x < l .ports → stepIn dev s kinds.outsideLevels x d .number ≡ 0
 
 -- A write that begins leaves all but the bus as it is. A read that is accepted answers what the device answers there, and no event of another kind
 -- answers anything but 00.
@@ -36,6 +35,21 @@ pub record Begins {S R : Type 0} (dev : Device S R) (s : S) (x d : ℕ) : Type 0
   pub writeHeld : dev .rest (stepIn dev s kinds.beginWrite x d .state) ≡ dev .rest s
   pub readAnswers : stepIn dev s kinds.beginRead x d .number ≡ 0 → stepIn dev s kinds.beginRead x d .byte ≡ dev .answer s x
   pub othersSilent : (k : ℕ) → ¬ (k ≡ kinds.beginRead) → stepIn dev s k x d .byte ≡ 0
+
+-- An end is accepted exactly while a cycle runs, and is 5 on an idle bus; after it the bus is idle.
+pub record Ends {S R : Type 0} (dev : Device S R) (s : S) (x d : ℕ) : Type 0 where
+  pub whileOneRuns : ¬ (dev .phase s ≡ Idle) → stepIn dev s kinds.endCycle x d .number ≡ 0
+  pub onlyThen : stepIn dev s kinds.endCycle x d .number ≡ 0 → ¬ (dev .phase s ≡ Idle)
+  pub idle : dev .phase s ≡ Idle → stepIn dev s kinds.endCycle x d ≡ refusedIn s 5
+  pub over : dev .phase (stepIn dev s kinds.endCycle x d .state) ≡ Idle
+
+-- What comes in the middle of a cycle as on an idle bus: a reset is accepted, and drops the cycle; levels on a port that there is are accepted, and
+-- leave the cycle running.
+pub record InAnyPhase {S R : Type 0} (dev : Device S R) (l : Limits) (s : S) (x d : ℕ) : Type 0 where
+  pub reset : stepIn dev s kinds.reset x d .number ≡ 0
+  pub resetDrops : dev .phase (stepIn dev s kinds.reset x d .state) ≡ Idle
+  pub levels : x < l .ports → stepIn dev s kinds.outsideLevels x d .number ≡ 0
+  pub levelsHold : dev .phase (stepIn dev s kinds.outsideLevels x d .state) ≡ dev .phase s
 
 -- Operands that a kind lacks are ignored.
 pub record Ignored {S R : Type 0} (dev : Device S R) (s : S) (x d : ℕ) : Type 0 where

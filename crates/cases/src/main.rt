@@ -1,9 +1,14 @@
-// Runs the compiled model through the cases that stand on its standard input. Their text is copied out as it is; the signs in it,
-// which signs.rt explains, run events and show what the chip then is.
+// Runs the compiled models through the cases that stand on standard input. Their text is copied out as it is; the signs in it,
+// which signs.rt explains, run events and show what the device then is.
+mod devices;
+mod letters;
+mod phases;
 mod print;
 mod show;
+mod show_8355;
 mod signs;
 mod states;
+mod states_8355;
 
 use libc::STDIN_FILENO;
 

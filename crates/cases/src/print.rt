@@ -15,6 +15,11 @@ pub(super) fn byte(n: u8) {
     word(&digits);
 }
 
+// The sign for what a device does not have.
+pub(super) fn nothing() {
+    word(b"-");
+}
+
 pub(super) fn number(n: u16) {
     io::print_decimal(STDOUT_FILENO, n as u64);
 }

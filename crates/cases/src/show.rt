@@ -1,4 +1,5 @@
-// What a letter names of the chip and of its last answer.
+// What a letter names of the 8255A and of its last answer.
+use super::letters;
 use super::print;
 use channel::Fill;
 use channel::Side;
@@ -35,19 +36,9 @@ fn channel(chip: Chip, group: Group, side: Side) {
     counts(chip::channels::tally(chip, group, side));
 }
 
-// A capital letter is a port's levels, a small one its driven pins.
 fn pins(chip: Chip, name: u8) {
-    let port = match name {
-        b'A' | b'a' => 0,
-        b'B' | b'b' => 1,
-        b'C' | b'c' => 2,
-        _ => 3,
-    };
-    let pins = ports::view::pins(chip, port);
-    match name {
-        b'a' | b'b' | b'c' | b'd' => print::byte(pins.driven),
-        _ => print::byte(pins.levels),
-    }
+    let pins = ports::view::pins(chip, letters::port(name));
+    letters::show(name, pins.levels, pins.driven);
 }
 
 fn half(reason: Reason) {
@@ -95,6 +86,7 @@ pub(super) fn field(last: Stepped, name: u8) {
         b'i' => said(status::reasons::explain(last.chip, 0)),
         b'j' => said(status::reasons::explain(last.chip, 1)),
         b'k' => said(status::reasons::explain(last.chip, 2)),
-        _ => pins(last.chip, name),
+        b'A'..=b'D' | b'a'..=b'd' => pins(last.chip, name),
+        _ => print::nothing(),
     }
 }

@@ -3,14 +3,21 @@
 //     <030309>   runs an event: a kind and two operands, in six hexadecimal digits
 //     %A %a      the levels and the driven pins of port A; so for B and C, and with D and d for a port that there is not
 //     %n %y      the number and the byte of the last event
+//     !P !Q      another device: an 8255A at power-up with every line high, and an 8355 at power-up
+//     !R         by any other letter, the same device in another state: as states.rt, states_8355.rt and phases.rt have it
+//
+// Of the 8255A alone, where the 8355 has a '-':
+//
 //     %r %w      a read of port C, and the stored mode word
 //     %0 to %3   a channel and its tallies: A in, A out, B in, B out
 //     %i %j %k   what is said of the INTR of group A, of B, and of a group that there is not
-//     !P         another chip: at power-up with every line high, or as states.rt has it
+//
+// Of the 8355 alone, where the 8255A has a '-':
+//
+//     %E %e      the latch and the direction of port A as they are stored; so with F and f for B
+use super::devices;
+use super::devices::Last;
 use super::print;
-use super::show;
-use super::states;
-use step::Stepped;
 
 // The sign that stands open after a byte; a plain byte stands for itself, and opens none.
 fn open_after(sign: u8, code: u8) -> u8 {
@@ -42,20 +49,20 @@ fn copy(code: u8) {
     }
 }
 
-fn act(last: Stepped, sign: u8, digits: u32, code: u8) -> Stepped {
+fn act(last: Last, sign: u8, digits: u32, code: u8) -> Last {
     match sign {
         b'<' => if code == b'>' {
-            return states::event(last.chip, digits);
+            return devices::event(last, digits);
         },
-        b'!' => return states::other(last.chip, code),
-        b'%' => show::field(last, code),
+        b'!' => return devices::other(last, code),
+        b'%' => devices::field(last, code),
         _ => copy(code),
     }
     last
 }
 
 pub(super) fn follow(text: &[u8]) {
-    let mut last = states::at_power_up();
+    let mut last = devices::at_power_up();
     let mut sign = b' ';
     let mut digits = 0u32;
     for at in 0..text.len() {

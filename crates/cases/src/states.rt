@@ -1,5 +1,5 @@
-// How the chip comes to be in a state: by an event, by very many strobes, or by hand, where no history leads there.
-use bus::Phase;
+// The 8255A in a state that no single event gives it: at power-up, after very many strobes, or by hand, where no history leads there.
+use super::phases;
 use channel::Channel;
 use channel::Fill;
 use chip::Chip;
@@ -7,15 +7,6 @@ use chip::Core;
 use chip::Levels;
 use chip::Port;
 use step::Stepped;
-
-pub(super) fn event(chip: Chip, digits: u32) -> Stepped {
-    step::step(
-        chip,
-        (digits / 65536 % 256) as u8,
-        (digits / 256 % 256) as u8,
-        (digits % 256) as u8,
-    )
-}
 
 fn put(chip: Chip) -> Stepped {
     Stepped {
@@ -36,8 +27,8 @@ pub(super) fn at_power_up() -> Stepped {
 
 // The STB of port A falls and rises.
 fn strobe(chip: Chip) -> Chip {
-    let fallen = event(chip, 0x0502ef);
-    let risen = event(fallen.chip, 0x0502ff);
+    let fallen = step::step(chip, 5, 2, 0xef);
+    let risen = step::step(fallen.chip, 5, 2, 0xff);
     risen.chip
 }
 
@@ -81,26 +72,16 @@ fn core_by_hand(mut core: Core, name: u8) -> Core {
     core
 }
 
-// A read of a port and a write to an address that there are not.
-fn phase_by_hand(phase: Phase, name: u8) -> Phase {
-    match name {
-        b'R' => Phase::Reading(7),
-        b'T' => Phase::Writing(9, 0x55),
-        _ => phase,
-    }
-}
-
 fn by_hand(chip: Chip, name: u8) -> Chip {
     let phase = chip.phase;
     Chip {
-        phase: phase_by_hand(phase, name),
+        phase: phases::by_hand(phase, name),
         core: core_by_hand(chip.core, name),
     }
 }
 
 pub(super) fn other(chip: Chip, name: u8) -> Stepped {
     match name {
-        b'P' => at_power_up(),
         b'S' => put(strobes(chip)),
         _ => put(by_hand(chip, name)),
     }

@@ -4,8 +4,11 @@ use super::counts::Counts;
 use super::print;
 use super::views::View;
 
-fn same(one: [u8; 23], other: [u8; 23]) -> bool {
-    for at in 0..23 {
+pub(super) fn same(one: &[u8], other: &[u8]) -> bool {
+    if one.len() != other.len() {
+        return false;
+    }
+    for at in 0..one.len() {
         if one[at] != other[at] {
             return false;
         }
@@ -27,25 +30,29 @@ fn agree(one: View, other: View) -> bool {
     let its_shown = other.shown;
     let tally = one.tally;
     let its_tally = other.tally;
-    same(shown, its_shown) & same_tallies(tally, its_tally)
+    same(&shown, &its_shown) & same_tallies(tally, its_tally)
 }
 
 fn report(view: View) {
     let shown = view.shown;
     let tally = view.tally;
-    print::bytes(shown);
+    print::bytes(&shown);
     print::tallies(tally);
     print::word(b"\n");
 }
 
-// The first difference: the history, the place in it and the event as one number; then, of the proved model and of the second one,
-// all that was compared.
-fn show(history: u64, place: u64, event: u64, one: View, other: View) {
+// Where the first difference is: the history, the place in it and the event as one number.
+pub(super) fn found(history: u64, place: u64, event: u64) {
     print::word(b"first difference:");
     print::item(history);
     print::item(place);
     print::item(event);
     print::word(b"\n");
+}
+
+// And then, of the proved model and of the second one, all that was compared.
+fn show(history: u64, place: u64, event: u64, one: View, other: View) {
+    found(history, place, event);
     report(one);
     report(other);
 }

@@ -4,16 +4,20 @@
 //     14 to 33 what became of bytes, in the order of the tallies; 34 bit words, 35 mode words
 //     36 to 42 what was said of the halves of INTR, by its number; 43 and 44 levels that went through to the input latches of A and B,
 //     where they were others than stood there; 45 differences
+//
+// The 8355 has a row of its own, of which the first fourteen are the same.
 use super::views::View;
 
 pub(super) type Counts = [u64; 46];
 
 pub(super) const DIFFERENCES: usize = 45;
 
-// Adds to the count that stands so far behind the first of its kind.
-pub(super) fn add(counts: &mut Counts, first: usize, behind: u8, by: u16) {
-    let place = (first % 46 + behind as usize) % 46;
-    counts[place] = std::num::wrapping_add_u64(counts[place], by as u64);
+// Adds to the count that stands so far behind the first of its kind, if the row has it.
+pub(super) fn add(counts: &mut [u64], first: usize, behind: u8, by: u16) {
+    let place = std::num::wrapping_add_usize(first, behind as usize);
+    if place < counts.len() {
+        counts[place] = std::num::wrapping_add_u64(counts[place], by as u64);
+    }
 }
 
 fn flag(on: bool) -> u16 {
@@ -29,7 +33,7 @@ fn order(kind: u8) -> u8 {
     }
 }
 
-fn event(counts: &mut Counts, kind: u8, number: u8) {
+pub(super) fn event(counts: &mut [u64], kind: u8, number: u8) {
     add(counts, 1, 0, 1);
     add(counts, 2, order(kind), 1);
     add(counts, 8, number, 1);

@@ -10,9 +10,9 @@ pub(super) fn exchange(number: u64, before: u64, place: u64) -> u64 {
     before
 }
 
-// The event at a place of an exchange, both of which count from 0. By itself it is anything at all, a reset, which is rare as
-// it undoes so much, or most often something about the limits of kinds and operands, so that every refusal occurs.
-pub(super) fn draw(number: u64, exchange: u64, place: u64) -> u64 {
+// An event by itself: anything at all, a reset, which is rare as it undoes so much, or most often something about the limits of kinds
+// and operands, so that every refusal occurs.
+pub(super) fn alone(number: u64) -> u64 {
     let chance = number >> 56;
     if chance < 6 {
         return number % 0x1000000;
@@ -20,11 +20,20 @@ pub(super) fn draw(number: u64, exchange: u64, place: u64) -> u64 {
     if chance < 8 {
         return 0;
     }
-    if chance < 32 {
-        return 0x10000 + (number >> 16) % 6 * 0x10000 + (number >> 32) % 6 * 0x100 + number % 0x100;
-    }
-    let at = exchange % exchanges::COUNT * 6 + place % 6;
-    let event = exchanges::EVENTS[at as usize];
+    0x10000 + (number >> 16) % 6 * 0x10000 + (number >> 32) % 6 * 0x100 + number % 0x100
+}
+
+// An event as it stands in an exchange, with the bits that are drawn.
+pub(super) fn planned(event: u64, number: u64) -> u64 {
     let fixed = ((event >> 8) & 0xffff00) | (event & 0xff);
     fixed | (number & (event >> 8) & 0xff)
+}
+
+// The event at a place of an exchange, both of which count from 0.
+pub(super) fn draw(number: u64, exchange: u64, place: u64) -> u64 {
+    if number >> 56 < 32 {
+        return alone(number);
+    }
+    let at = exchange % exchanges::COUNT * 6 + place % 6;
+    planned(exchanges::EVENTS[at as usize], number)
 }

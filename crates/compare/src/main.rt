@@ -1,11 +1,12 @@
-// Runs two models of the chip over the same pseudo-random histories, the proved one and a second one that was written apart
-// from it, and compares what they show and count after every event.
+// Runs two models of a chip over the same pseudo-random histories, the proved one and a second one that was written apart
+// from it, and compares what they show and count after every event: first of the 8255A, then of the 8355.
 mod agree;
 mod apart; // the second model
 mod counts;
 mod events;
 mod exchanges;
 mod history;
+mod ports_8355; // the 8355
 mod print;
 mod random;
 mod runs;
@@ -15,17 +16,36 @@ mod views;
 
 use libc::STDIN_FILENO;
 
-// What is printed of each run stands on standard input, with a sign for each count in their order.
+// The runs of the 8255A, each behind a word by the first part of the text. Leaves where the next part begins.
+fn runs_8255a(text: &[u8]) -> usize {
+    let reached = runs::from_power_up();
+    print::word(b"from power-up");
+    print::filled(text, 0, &reached);
+    let strange = runs::from_arbitrary_states();
+    print::word(b"from arbitrary states");
+    print::filled(text, 0, &strange);
+    let levelled = runs::from_other_levels();
+    print::word(b"from power-up under other levels");
+    print::filled(text, 0, &levelled)
+}
+
+// Those of the 8355, by the part of the text that begins there.
+fn runs_8355(text: &[u8], first: usize) {
+    let reached = ports_8355::from_power_up();
+    print::word(b"the 8355 from power-up");
+    print::filled(text, first, &reached);
+    let strange = ports_8355::from_arbitrary_states();
+    print::word(b"the 8355 from arbitrary states");
+    print::filled(text, first, &strange);
+}
+
+fn both(text: &[u8]) {
+    runs_8355(text, runs_8255a(text));
+}
+
+// What is printed of each run stands on standard input, a part for each chip, with a sign for each count in their order.
 fn main() {
     let mut room = io::large_buffer();
     let length = io::read_full(STDIN_FILENO, &mut room);
-    let reached = runs::from_power_up();
-    print::word(b"from power-up");
-    print::filled(&room[..length], &reached);
-    let strange = runs::from_arbitrary_states();
-    print::word(b"from arbitrary states");
-    print::filled(&room[..length], &strange);
-    let levelled = runs::from_other_levels();
-    print::word(b"from power-up under other levels");
-    print::filled(&room[..length], &levelled);
+    both(&room[..length]);
 }

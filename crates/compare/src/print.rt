@@ -21,12 +21,19 @@ fn sign(code: u8, numbers: &[u64], next: usize) -> usize {
     next
 }
 
-// The text, with the numbers put in one after the other.
-pub(super) fn filled(text: &[u8], numbers: &[u64]) {
+// Stands between the parts of a text.
+const SEPARATOR: u8 = b'%';
+
+// The part of a text that begins at a place, with the numbers put in one after the other. Leaves the place where the next part begins.
+pub(super) fn filled(text: &[u8], first: usize, numbers: &[u64]) -> usize {
     let mut next = 0usize;
-    for at in 0..text.len() {
+    for at in first..text.len() {
+        if text[at] == SEPARATOR {
+            return at + 1;
+        }
         next = sign(text[at], numbers, next);
     }
+    text.len()
 }
 
 pub(super) fn item(n: u64) {
@@ -42,8 +49,8 @@ fn wide_tally(tally: u16) -> u64 {
     tally as u64
 }
 
-pub(super) fn bytes(row: [u8; 23]) {
-    for at in 0..23 {
+pub(super) fn bytes(row: &[u8]) {
+    for at in 0..row.len() {
         item(wide(row[at]));
     }
 }

@@ -54,7 +54,7 @@ fn port(seed: u64) -> Port {
 }
 
 // No cycle, or one on any port or address at all: in one of two on one that there is.
-fn phase(number: u64) -> Phase {
+pub(super) fn phase(number: u64) -> Phase {
     let place = byte(number >> 8);
     let there = if number % 2 == 0 { place % 4 } else { place };
     match (number >> 2) % 3 {

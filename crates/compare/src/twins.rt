@@ -5,6 +5,13 @@ use channel::Channel;
 use channel::Fill;
 use chip::Chip;
 
+// The phases of the bus.
+pub(super) const IDLE: u8 = 0;
+
+pub(super) const READING: u8 = 1;
+
+pub(super) const WRITING: u8 = 2;
+
 pub(super) struct Bus {
     pub(super) phase: u8,
     pub(super) place: u8,
@@ -14,17 +21,17 @@ pub(super) struct Bus {
 pub(super) fn running(phase: Phase) -> Bus {
     match phase {
         Phase::Idle => Bus {
-            phase: 0,
+            phase: IDLE,
             place: 0,
             data: 0,
         },
         Phase::Reading(port) => Bus {
-            phase: 1,
+            phase: READING,
             place: port,
             data: 0,
         },
         Phase::Writing(address, byte) => Bus {
-            phase: 2,
+            phase: WRITING,
             place: address,
             data: byte,
         },

@@ -3,9 +3,11 @@
 -- Rests on bits' Logic.
 use mathlib.Core.Path.{_≡_, refl, subst}
 use mathlib.Core.Bool.{true, false, _||_}
+use mathlib.Core.List.{[], _∷_}
 use Prim.Native.Nat.{ℕ, zero, suc, _<_}
 use native.Mathlib.Omega.{arith}
 use lib.Dec.{eqb, leb}
+use lib.ListN.{getD}
 use borrow.Author.Tests.{ne-eqb, lt-leb}
 use Rattle.bits.proofs.Logic.{contrary}
 use Rattle.events.specs.Kinds.{isKind, noKind}
@@ -48,6 +50,18 @@ kinds-below (suc (suc (suc (suc (suc (suc k)))))) =
 -- What is no kind is none of them.
 pub no-kind-differs : (k j : ℕ) → noKind k ≡ true → isKind j ≡ true → eqb k j ≡ false
 no-kind-differs k j none kind = ne-eqb k j (λ e. contrary (noKind j) (rw (kind)) (subst (λ (n : ℕ). noKind n ≡ true) e none))
+
+-- In a table with a row for each number from 00 to 05, what is no kind has the row of 04, which is none.
+pub no-row : {A : Type 0} (reset begin end write none levels : A) (k : ℕ) → noKind k ≡ true
+    → getD (reset ∷ begin ∷ end ∷ write ∷ none ∷ levels ∷ []) k none ≡ none
+unfolding isKind
+no-row reset begin end write none levels zero other = cc
+no-row reset begin end write none levels (suc zero) other = cc
+no-row reset begin end write none levels (suc (suc zero)) other = cc
+no-row reset begin end write none levels (suc (suc (suc zero))) other = cc
+no-row reset begin end write none levels (suc (suc (suc (suc zero)))) other = refl
+no-row reset begin end write none levels (suc (suc (suc (suc (suc zero))))) other = cc
+no-row reset begin end write none levels (suc (suc (suc (suc (suc (suc k)))))) other = refl
 
 -- Every kind is below 06.
 pub kind-small : (k : ℕ) → isKind k ≡ true → k < 6

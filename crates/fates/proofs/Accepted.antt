@@ -2,13 +2,13 @@
 -- Rests on bits' Logic, events' ByKind and the step's Outcome.
 use mathlib.Core.Path.{_≡_, _∙_, refl, ap, sym}
 use mathlib.Core.Bool.{Bool, true, false, not, cond, _&&_, _||_}
-use Prim.Native.Nat.{ℕ, zero, suc}
+use Prim.Native.Nat.{ℕ}
 use native.Mathlib.Omega.{arith}
 use lib.Dec.{eqb, ltb}
 use borrow.Author.Tests.{ltb-true, ltb-false, eqb-true, eqb-false}
 use Rattle.bits.proofs.Logic.{contrary}
 use Rattle.events.specs.Kinds.{isKind, noKind}
-use Rattle.events.proofs.ByKind.{by-kind}
+use Rattle.events.proofs.ByKind.{by-kind, no-row}
 use Rattle.events.specs.Event.{Event, event}
 use Rattle.bus.specs.Device.{afterIn, byteIn}
 use Rattle.bus.specs.Refusals.{isBusy, numberOf}
@@ -52,14 +52,7 @@ end-accepts (Writing a d) = refl
 
 -- What is no kind is named as such.
 pub no-name : (k x d : ℕ) → noKind k ≡ true → kindOf (event k x d) ≡ unknown
-unfolding isKind
-no-name zero x d none = cc
-no-name (suc zero) x d none = cc
-no-name (suc (suc zero)) x d none = cc
-no-name (suc (suc (suc zero))) x d none = cc
-no-name (suc (suc (suc (suc zero)))) x d none = refl
-no-name (suc (suc (suc (suc (suc zero))))) x d none = cc
-no-name (suc (suc (suc (suc (suc (suc k)))))) x d none = refl
+no-name k x d none = no-row _ _ _ _ unknown _ k none
 
 accepts-number : (ph : Phase) (k x d : ℕ) → accepts ph (kindOf (event k x d)) ≡ eqb (numberOf limits ph k x) 0
 unfolding numberOf isKind

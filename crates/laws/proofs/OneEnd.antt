@@ -4,9 +4,9 @@
 use mathlib.Core.Path.{_≡_, refl}
 use mathlib.Core.Bool.{false}
 use Prim.Native.Nat.{ℕ}
+use native.Mathlib.Omega.{arith}
 use Rattle.bits.proofs.Logic.{contrary}
 use Rattle.events.specs.Kinds.{isKind}
-use Rattle.bus.specs.declared.Phase.{Phase}
 use Rattle.bus.specs.declared.Phase.the-variants.{Idle, Reading, Writing}
 use Rattle.control.specs.declared.Group.{Group}
 use Rattle.channel.specs.declared.Side.the-variants.{Input, Output}
@@ -21,16 +21,16 @@ use Rattle.step.specs.Step.{refused, stepOf}
 use Rattle.step.proofs.Ends.{read-ends, write-ends}
 use Rattle.laws.specs.Seen.{makesAnew}
 use Rattle.laws.specs.Anew.{Freed}
-use Rattle.laws.proofs.Cycles.{no-kind-refused}
+use Rattle.laws.proofs.Cycles.{facts, no-kind-refused}
 
--- The end of whatever runs is accepted. The idle bus itself refuses with 5: idle-ends-nothing, in the step's Ends.
+-- The end of whatever runs is accepted, as on any device. The idle bus itself refuses with 5: idle-ends-nothing, in the step's Ends.
 pub cycle-ends : (c : Chip) (x d : ℕ) → ¬ (c .phase ≡ Idle) → Freed (stepOf c 2 x d)
-cycle-ends c x d runs = go (c .phase) refl
-  where
-    go : (ph : Phase) → c .phase ≡ ph → Freed (stepOf c 2 x d)
-    go Idle phase = absurd (runs phase)
-    go (Reading p) phase = rw (read-ends c p x d phase) (record { taken = refl; silent = refl; idle = refl })
-    go (Writing a b) phase = rw (write-ends c a b x d phase) (record { taken = refl; silent = refl; idle = refl })
+unfolding stepOf
+cycle-ends c x d runs = record {
+  taken = facts c .ends x d .whileOneRuns runs;
+  silent = facts c .begins x d .othersSilent 2 (λ e. absurd (omega (arith, e)));
+  idle = facts c .ends x d .over;
+}
 
 -- A read that ends leaves every output channel as it was.
 pub read-end-spares-outputs : (c : Chip) (p x d : ℕ) → c .phase ≡ Reading p → (g : Group)

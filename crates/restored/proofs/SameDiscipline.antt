@@ -6,6 +6,7 @@ use mathlib.Core.List.{List, [], _∷_}
 use Prim.Native.Nat.{ℕ, _/_, _%_, _<_}
 use native.Mathlib.Omega.{arith}
 use Rattle.bits.specs.Bit.{num}
+use Rattle.bits.specs.Sum.{byteBy}
 use Rattle.events.specs.Event.{Event}
 use Rattle.control.specs.declared.Group.{Group}
 use Rattle.channel.specs.declared.Side.the-variants.{Input}
@@ -15,7 +16,7 @@ use Rattle.fates.specs.Surroundings.{Surroundings, surroundingsNext}
 use Rattle.fates.specs.Effects.{effect}
 use Rattle.fates.specs.Discipline.{ibf, Minds, Disciplined}
 use Rattle.fates.proofs.Followed.{after}
-use Rattle.account.specs.Views.{pinLevel, byteBy}
+use Rattle.account.specs.Views.{pinLevel}
 use Rattle.account.specs.Promise.{accountOf}
 use Rattle.account.proofs.Account.{account-from}
 use Rattle.calls.specs.Calls.{packed}

@@ -4,6 +4,7 @@ ghost use Prim.Native.Nat.{_≤_};
 ghost use lib.ListN.{length};
 use super::show;
 use libc::STDOUT_FILENO;
+use script::Device;
 
 fn is_dot(byte: u8) -> usize
     ensures { λ r. ⌜ r ≤ 1 ⌝ }
@@ -35,7 +36,7 @@ fn dots() -> [u8; 45056]
 }
 
 fn into(text: &[u8], out: &mut [u8]) {
-    show::ran(script::run(text, out));
+    show::ran(script::run(Device::I8255A, text, out));
     io::print_decimal(STDOUT_FILENO, untouched(out) as u64);
     io::write_all(STDOUT_FILENO, b" bytes of the output as they were\n");
 }

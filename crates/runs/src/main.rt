@@ -1,5 +1,6 @@
 // Runs the compiled library over texts and outputs of chosen lengths, and shows what each run gave back and left in the output.
 mod long;
+mod ports_8355;
 mod show;
 mod whole;
 
@@ -26,4 +27,5 @@ fn main() {
     show::run(b"", 0);
     show::run(b"", 10);
     long::all();
+    ports_8355::all();
 }

@@ -2,6 +2,7 @@
 ghost use mathlib.Core.Path.{_≡_};
 ghost use lib.ListN.{length};
 use libc::STDOUT_FILENO;
+use script::Device;
 
 fn print(text: &[u8]) {
     io::write_all(STDOUT_FILENO, text);
@@ -21,8 +22,8 @@ pub(super) fn ran(ran: script::Ran) {
     print(b"\n");
 }
 
-fn into(text: &[u8], out: &mut [u8]) {
-    ran(script::run(text, out));
+fn into(device: Device, text: &[u8], out: &mut [u8]) {
+    ran(script::run(device, text, out));
     print(out);
     print(b"|\n");
 }
@@ -34,8 +35,16 @@ fn dots() -> [u8; 256]
 }
 
 // A text run into an output of that size, 256 bytes at most.
-pub(super) fn run(text: &[u8], size: usize) {
+fn on(device: Device, text: &[u8], size: usize) {
     let mut out = dots();
     let size = size % 257;
-    into(text, &mut out[..size]);
+    into(device, text, &mut out[..size]);
+}
+
+pub(super) fn run(text: &[u8], size: usize) {
+    on(Device::I8255A, text, size);
+}
+
+pub(super) fn run_8355(text: &[u8], size: usize) {
+    on(Device::I8355, text, size);
 }

@@ -7,11 +7,11 @@ use native.Mathlib.Nat.{zero-add, add-zero}
 use native.Mathlib.Omega.{arith}
 use lib.ListN.{length, take, drop, length-drop, take-append-drop}
 use borrow.Rule.Slice.PartAt.{part-to-end}
-use Rattle.chip.specs.declared.Chip.{Chip}
-use Rattle.step.specs.declared.Stepped.{Stepped}
 use Rattle.text.specs.Lines.{Line, linesOf}
+use Rattle.script.specs.declared.Answerer.{Answerer}
+use Rattle.script.specs.declared.Acted.{Acted}
 use Rattle.script.specs.declared.Shown.{Shown}
-use Rattle.script.specs.Answers.{atLine, shownAfter, lineText, answerWidth, answersFrom, chipAtStart}
+use Rattle.script.specs.Answers.{atLine, shownAfter, lineText, answerWidth, answersFrom}
 use Rattle.script.specs.Run.{roomFor, filled}
 use Rattle.script.proofs.Filling.{back, back-front, back-behind, back-length}
 
@@ -20,56 +20,59 @@ unfolding lineText
 line-length r = refl
 
 -- What the output will hold: what stands before `at`, the answers to the lines that are left, and what stands behind these.
-abbrev toCome : Chip → List Line → ℕ → List ℕ → List ℕ
-toCome c ls at out = take at out ++ (answersFrom c ls ++ drop (at + answerWidth * length ls) out)
+abbrev toCome : Answerer → List Line → ℕ → List ℕ → List ℕ
+toCome m ls at out = take at out ++ (answersFrom m ls ++ drop (at + answerWidth * length ls) out)
 
-one-answered : (c : Chip) (l : Line) (ls : List Line) (at : ℕ) (out : List ℕ) → at + answerWidth * suc (length ls) ≤ length out
-    → toCome (atLine c l .chip) ls (at + answerWidth) (back at answerWidth (lineText (shownAfter (atLine c l))) out) ≡ toCome c (l ∷ ls) at out
+one-answered : (m : Answerer) (l : Line) (ls : List Line) (at : ℕ) (out : List ℕ) → at + answerWidth * suc (length ls) ≤ length out
+    → toCome (atLine m l .answerer) ls (at + answerWidth) (back at answerWidth (lineText (shownAfter (atLine m l))) out) ≡ toCome m (l ∷ ls) at out
 unfolding answersFrom
-one-answered c l ls at out room =
-    let line : List ℕ = lineText (shownAfter (atLine c l)) in
-    let later : List ℕ = answersFrom (atLine c l .chip) ls in
-    let wide : length line ≡ answerWidth = line-length (shownAfter (atLine c l)) in
+one-answered m l ls at out room =
+    let line : List ℕ = lineText (shownAfter (atLine m l)) in
+    let later : List ℕ = answersFrom (atLine m l .answerer) ls in
+    let wide : length line ≡ answerWidth = line-length (shownAfter (atLine m l)) in
     let fits : at + answerWidth ≤ length out = omega (arith, room) in
     let behind : at + answerWidth + answerWidth * length ls ≡ at + answerWidth * suc (length ls) = omega arith in
     rw (back-front at answerWidth line out wide fits, back-behind at answerWidth line out wide fits (answerWidth * length ls), behind)
     (append-assoc (take at out) line (later ++ drop (at + answerWidth * suc (length ls)) out)
     ∙ ap (λ (l : List ℕ). take at out ++ l) (sym (append-assoc line later (drop (at + answerWidth * suc (length ls)) out))))
 
--- A text under way into an output that began as `first`: its lines ls are left, and the chip c will answer them from `at` on.
-pub record UnderWay (text first out : List ℕ) (ls : List Line) (c : Chip) (at : ℕ) : Type 0 where
+-- A text under way, from whoever met it, into an output that began as `first`: its lines ls are left, and the answerer m will answer them from
+-- `at` on.
+pub record UnderWay (start : Answerer) (text first out : List ℕ) (ls : List Line) (m : Answerer) (at : ℕ) : Type 0 where
   pub long : length out ≡ length first
   pub room : at + answerWidth * length ls ≤ length out
-  pub comes : toCome c ls at out ≡ filled text first
+  pub comes : toCome m ls at out ≡ filled start text first
 
-pub starts : (text out : List ℕ) → roomFor text ≤ length out → UnderWay text out out (linesOf text) chipAtStart 0
-starts text out room = record {
+pub starts : (start : Answerer) (text out : List ℕ) → roomFor text ≤ length out → UnderWay start text out out (linesOf text) start 0
+starts start text out room = record {
   long = refl;
   room = omega (arith, room);
   comes = rw (zero-add (roomFor text));
 }
 
--- A turn answers the line l, and there is room for that: s is what the chip makes of it, and `part` is the part of the output that is lent,
--- as it comes back.
-module _ (text first out : List ℕ) (l : Line) (ls : List Line) (c : Chip) (at : ℕ) (way : UnderWay text first out (l ∷ ls) c at) where
+-- A turn answers the line l, and there is room for that: s is what the answerer makes of it, and `part` is the part of the output that is
+-- lent, as it comes back.
+module _ (start : Answerer) (text first out : List ℕ) (l : Line) (ls : List Line) (m : Answerer) (at : ℕ)
+    (way : UnderWay start text first out (l ∷ ls) m at) where
   pub room-for-one : answerWidth ≤ length (take (length out - at) (drop at out))
   room-for-one = rw (part-to-end out at, length-drop at out) (omega (arith, way .room))
 
-  pub goes-on : (part : List ℕ) (s : Stepped) → s ≡ atLine c l
+  pub goes-on : (part : List ℕ) (s : Acted) → s ≡ atLine m l
       → part ≡ lineText (shownAfter s) ++ drop answerWidth (take (length out - at) (drop at out))
-      → UnderWay text first (take at out ++ (part ++ drop (length out - at) (drop at out))) ls (s .chip) (at + answerWidth)
+      → UnderWay start text first (take at out ++ (part ++ drop (length out - at) (drop at out))) ls (s .answerer) (at + answerWidth)
   goes-on part s made written =
-      let line : List ℕ = lineText (shownAfter (atLine c l)) in
-      let same = back-length at answerWidth line out (line-length (shownAfter (atLine c l))) (omega (arith, way .room)) in
+      let line : List ℕ = lineText (shownAfter (atLine m l)) in
+      let same = back-length at answerWidth line out (line-length (shownAfter (atLine m l))) (omega (arith, way .room)) in
       rw (written, made) (record {
         long = same ∙ way .long;
         room = omega (arith, way .room, same);
-        comes = one-answered c l ls at out (way .room) ∙ way .comes;
+        comes = one-answered m l ls at out (way .room) ∙ way .comes;
       })
 
 -- When no line is left the output holds all that it will.
-pub arrives : (text first out : List ℕ) (c : Chip) (at : ℕ) → UnderWay text first out [] c at → out ≡ filled text first
+pub arrives : (start : Answerer) (text first out : List ℕ) (m : Answerer) (at : ℕ)
+    → UnderWay start text first out [] m at → out ≡ filled start text first
 unfolding answersFrom
-arrives text first out c at way =
-    let whole : toCome c [] at out ≡ out = rw (add-zero at) (take-append-drop at out) in
+arrives start text first out m at way =
+    let whole : toCome m [] at out ≡ out = rw (add-zero at) (take-append-drop at out) in
     sym whole ∙ way .comes

@@ -17,9 +17,9 @@ frame-determined c x y = equation-determines
 pub count-determined : Determines text.lines.count.ended text.lines.count.Reads.Learnt
 count-determined c x y = equation-determines
 
--- Before the output stands the text, which is not written.
+-- Before the output of a run stand the device and the text, which are not written.
 pub run-determined : Determines script.run.ended script.run.Reads.Learnt
-run-determined c x y p q = ap (λ z. (z .0, (tt, z .1))) (equations-determine p q)
+run-determined c x y p q = ap (λ z. (z .0, (tt, (tt, z .1)))) (equations-determine p q)
 
 pub chip-after-determined : Determines script.left.chip_after.ended script.left.chip_after.Reads.Learnt
 chip-after-determined c x y = equation-determines

@@ -4,4 +4,5 @@ pub mod Answering
 pub mod Numbers
 pub mod Pieces
 pub mod Outcome
+pub mod History
 pub mod Determined

@@ -13,8 +13,8 @@ use Rattle.chip.specs.declared.Chip.{Chip}
 use Rattle.step.specs.declared.Stepped.{Stepped}
 use Rattle.text.specs.Lines.{Line, linesOf}
 use Rattle.text.proofs.LineCount.{lines-at-most}
-use Rattle.script.specs.Answers.{atLine, chipAtStart}
-use Rattle.script.specs.Left.{chipAfter, refusedAmong, chipLeft, walkedThrough}
+use Rattle.script.specs.Answers.{chipAtStart}
+use Rattle.script.specs.Left.{chipAtLine, chipAfter, refusedAmong, chipLeft, walkedThrough}
 
 -- The lines ls are left; they lead from the chip c, with n lines refused so far, to what the whole text leaves.
 pub record Walking (text : List ℕ) (ls : List Line) (c : Chip) (n : ℕ) : Type 0 where
@@ -26,7 +26,7 @@ sets-out text = record { leads = refl; counts = zero-add (refusedAmong chipAtSta
 
 -- A turn takes the line l: s is what the chip makes of it, and k what it adds to the count.
 pub goes-on : (text : List ℕ) (l : Line) (ls : List Line) (c : Chip) (n : ℕ) (s : Stepped) (k : ℕ)
-    → s ≡ atLine c l → k ≡ num (not (eqb (s .number) 0)) → Walking text (l ∷ ls) c n → Walking text ls (s .chip) (n + k)
+    → s ≡ chipAtLine c l → k ≡ num (not (eqb (s .number) 0)) → Walking text (l ∷ ls) c n → Walking text ls (s .chip) (n + k)
 goes-on text l ls c n s k made added way = rw (added, made) (record { leads = way .leads; counts = omega (arith, way .counts) })
 
 -- No more lines are refused than there are, and so the count fits: there are no more lines than bytes.
@@ -36,7 +36,7 @@ one-at-most false = omega arith
 
 refused-at-most : (c : Chip) (ls : List Line) → refusedAmong c ls ≤ length ls
 refused-at-most c [] = omega arith
-refused-at-most c (l ∷ ls) = omega (arith, one-at-most (not (eqb (atLine c l .number) 0)), refused-at-most (atLine c l .chip) ls)
+refused-at-most c (l ∷ ls) = omega (arith, one-at-most (not (eqb (chipAtLine c l .number) 0)), refused-at-most (chipAtLine c l .chip) ls)
 
 pub fits : (text : List ℕ) (ls : List Line) (c : Chip) (n : ℕ) → Walking text ls c n → n ≤ length text
 fits text ls c n way = omega (arith, way .counts, refused-at-most chipAtStart (linesOf text), lines-at-most text)

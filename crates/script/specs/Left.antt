@@ -5,20 +5,26 @@ use Prim.Native.Nat.{ℕ, _+_}
 use lib.Dec.{eqb}
 use Rattle.bits.specs.Bit.{num}
 use Rattle.chip.specs.declared.Chip.{Chip}
+use Rattle.step.specs.declared.Stepped.{Stepped}
 use Rattle.text.specs.Lines.{Line, linesOf}
+use Rattle.text.specs.Frames.{frameIn}
 use Rattle.script.specs.declared.left.Left.{Left}
-use Rattle.script.specs.Answers.{atLine, chipAtStart}
+use Rattle.script.specs.Answers.{acted, chipAtStart}
 use Rattle.script.specs.Run.{tooLong, tooLongNumber}
+
+-- What becomes of the chip at a line.
+abbrev pub chipAtLine : Chip → Line → Stepped
+chipAtLine c l = acted c (frameIn l)
 
 -- The chip that some lines leave: each meets the chip that the one before it left.
 abbrev pub chipAfter : Chip → List Line → Chip
 chipAfter c [] = c
-chipAfter c (l ∷ ls) = chipAfter (atLine c l .chip) ls
+chipAfter c (l ∷ ls) = chipAfter (chipAtLine c l .chip) ls
 
 -- How many of some lines are refused, each by the chip that the one before it left.
 abbrev pub refusedAmong : Chip → List Line → ℕ
 refusedAmong c [] = 0
-refusedAmong c (l ∷ ls) = num (not (eqb (atLine c l .number) 0)) + refusedAmong (atLine c l .chip) ls
+refusedAmong c (l ∷ ls) = num (not (eqb (chipAtLine c l .number) 0)) + refusedAmong (chipAtLine c l .chip) ls
 
 -- The chip that the lines of a text leave.
 abbrev pub chipLeft : List ℕ → Chip

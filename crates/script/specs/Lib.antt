@@ -1,3 +1,4 @@
 pub mod Answers
 pub mod Run
 pub mod Left
+pub mod History

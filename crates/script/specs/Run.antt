@@ -6,6 +6,7 @@ use Prim.Native.Nat.{ℕ, _*_}
 use lib.Dec.{eqb, ltb}
 use lib.ListN.{length, drop}
 use Rattle.text.specs.Lines.{lineCount}
+use Rattle.script.specs.declared.Answerer.{Answerer}
 use Rattle.script.specs.declared.Ran.{Ran}
 use Rattle.script.specs.Answers.{answerWidth, answersOf}
 
@@ -45,10 +46,10 @@ ranBy n text = cond (eqb n 0) (acceptedRun text) (refusedRun n)
 abbrev pub ranOf : List ℕ → ℕ → Ran
 ranOf text room = ranBy (runNumber text room) text
 
--- The output after an accepted run: the answers, and the bytes that stood behind them.
-abbrev pub filled : List ℕ → List ℕ → List ℕ
-filled text out = answersOf text ++ drop (roomFor text) out
+-- The output after an accepted run: the answers of whoever meets the text, and the bytes that stood behind them.
+abbrev pub filled : Answerer → List ℕ → List ℕ → List ℕ
+filled m text out = answersOf m text ++ drop (roomFor text) out
 
 -- The output after a run: a refused one leaves it as it was.
-abbrev pub outputLeft : List ℕ → List ℕ → List ℕ
-outputLeft text out = cond (eqb (runNumber text (length out)) 0) (filled text out) out
+abbrev pub outputLeft : Answerer → List ℕ → List ℕ → List ℕ
+outputLeft m text out = cond (eqb (runNumber text (length out)) 0) (filled m text out) out

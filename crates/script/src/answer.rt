@@ -1,31 +1,34 @@
-// The chip that a script meets, what it makes of a line, and what is shown of that. The whole chip is passed by value, and to follow it the
-// prover names the types that the crate channel declares.
+// Whoever answers a script, the 8255A or the 8355: how it begins, what it makes of a line, and what is shown of that.
 ghost use mathlib.Core.Path.{_≡_};
-ghost use Rattle.script.specs.Answers.{chipAtStart, acted, shownAfter};
+ghost use Rattle.script.specs.Answers.{atStart, acted8355, actedBy, levelsOf, shownAfter};
+use super::Acted;
+use super::Answerer;
+use super::Device;
 use super::Shown;
-use chip::Chip;
-use chip::Levels;
-use step::Stepped;
+use super::on_8255a;
+use chip::PORT_A;
+use chip::PORT_B;
+use chip::PORT_C;
+use i8355::Chip8355;
 use text::Frame;
 
-// The chip that a script meets. Scripts were written for lines that idle high, so the run names these levels.
-pub(super) fn chip_at_start() -> Chip
-    ensures { λ r. ⌜ r ≡ chipAtStart ⌝ }
+// The device as it is powered up for a script.
+pub(super) fn start(device: Device) -> Answerer
+    ensures { λ r. ⌜ r ≡ atStart device ⌝ }
 {
-    chip::power_up_with_levels(Levels {
-        a: 0xff,
-        b: 0xff,
-        c: 0xff,
-    })
+    match device {
+        Device::I8255A => Answerer::I8255A(on_8255a::chip_at_start()),
+        Device::I8355 => Answerer::I8355(i8355::power_up()),
+    }
 }
 
-// A frame is an event; what is no frame has the number of an event of no kind, and leaves the chip as it was.
-pub(super) fn act(chip: Chip, frame: Frame) -> Stepped
-    ensures { λ r. ⌜ r ≡ acted chip frame ⌝ }
+// The 8355 does as the 8255A: a frame is an event, and what is no frame is refused.
+fn act_8355(chip: Chip8355, frame: Frame) -> i8355::step::Stepped
+    ensures { λ r. ⌜ r ≡ acted8355 chip frame ⌝ }
 {
     match frame {
-        Frame::Event(kind, first, second) => step::step(chip, kind, first, second),
-        Frame::NoFrame => Stepped {
+        Frame::Event(kind, first, second) => i8355::step::step(chip, kind, first, second),
+        Frame::NoFrame => i8355::step::Stepped {
             chip,
             number: bus::NO_SUCH_KIND,
             byte: 0,
@@ -33,18 +36,58 @@ pub(super) fn act(chip: Chip, frame: Frame) -> Stepped
     }
 }
 
-// What the answer to a line shows.
-pub(super) fn show(last: Stepped) -> Shown
-    ensures { λ r. ⌜ r ≡ shownAfter last ⌝ }
+// What the answerer makes of a frame, each by its own step.
+pub(super) fn act(answerer: Answerer, frame: Frame) -> Acted
+    ensures { λ r. ⌜ r ≡ actedBy answerer frame ⌝ }
 {
-    let a = ports::view::pins(last.chip, 0);
-    let b = ports::view::pins(last.chip, 1);
-    let c = ports::view::pins(last.chip, 2);
+    match answerer {
+        Answerer::I8255A(chip) => {
+            let stepped = on_8255a::act(chip, frame);
+            let chip = stepped.chip;
+            Acted {
+                answerer: Answerer::I8255A(chip),
+                number: stepped.number,
+                byte: stepped.byte,
+            }
+        }
+        Answerer::I8355(chip) => {
+            let stepped = act_8355(chip, frame);
+            let chip = stepped.chip;
+            Acted {
+                answerer: Answerer::I8355(chip),
+                number: stepped.number,
+                byte: stepped.byte,
+            }
+        }
+    }
+}
+
+// The levels of a port. The 8355 has no port C, and shows 00 there.
+fn levels(answerer: Answerer, port: u8) -> u8
+    ensures { λ r. ⌜ r ≡ levelsOf answerer port ⌝ }
+{
+    match answerer {
+        Answerer::I8255A(chip) => {
+            let pins = ports::view::pins(chip, port);
+            pins.levels
+        }
+        Answerer::I8355(chip) => {
+            let pins = i8355::view::pins(chip, port);
+            pins.levels
+        }
+    }
+}
+
+// What the answer to a line shows.
+pub(super) fn show(acted: Acted) -> Shown
+    ensures { λ r. ⌜ r ≡ shownAfter acted ⌝ }
+{
+    let answerer = acted.answerer;
     Shown {
-        number: last.number,
-        byte: last.byte,
-        a: a.levels,
-        b: b.levels,
-        c: c.levels,
+        number: acted.number,
+        byte: acted.byte,
+        a: levels(answerer, PORT_A),
+        b: levels(answerer, PORT_B),
+        c: levels(answerer, PORT_C),
     }
 }

@@ -1,4 +1,4 @@
-// What a script leaves: the chip after its last line, and how many of its lines were refused.
+// What a script leaves on the 8255A: the chip after its last line, and how many of its lines were refused.
 ghost use mathlib.Core.Path.{_≡_};
 ghost use mathlib.Core.Bool.{not};
 ghost use lib.Dec.{eqb};
@@ -6,7 +6,7 @@ ghost use Rattle.bits.specs.Bit.{num};
 ghost use Rattle.script.specs.Left.{walkedThrough, leftBy};
 use super::LONGEST;
 use super::TOO_LONG;
-use super::answer;
+use super::on_8255a;
 use chip::Chip;
 use text::lines;
 
@@ -28,12 +28,12 @@ fn refusals(number: u8) -> usize
 fn walk(text: &[u8]) -> Left
     ensures { λ r. ⌜ r ≡ walkedThrough (now (text .entry)) ⌝ }
 {
-    let mut chip = answer::chip_at_start();
+    let mut chip = on_8255a::chip_at_start();
     let mut start = 0;
     let mut refused = 0;
     while start < text.len() {
         let end = lines::end(text, start);
-        let last = answer::act(chip, lines::frame(text, start, end));
+        let last = on_8255a::act(chip, lines::frame(text, start, end));
         start = end + 1;
         chip = last.chip;
         refused = refused + refusals(last.number);
@@ -52,7 +52,7 @@ pub fn chip_after(text: &[u8]) -> Left
     if LONGEST < text.len() {
         return Left {
             number: TOO_LONG,
-            chip: answer::chip_at_start(),
+            chip: on_8255a::chip_at_start(),
             refused: 0,
         };
     }

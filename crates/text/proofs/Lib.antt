@@ -5,3 +5,4 @@ pub mod FirstLine
 pub mod LineCount
 pub mod Pieces
 pub mod Turn
+pub mod Quoted

@@ -1,11 +1,12 @@
 // The answers to a script.
 use super::output;
 use script::ANSWER_WIDTH;
+use script::Device;
 
 // The room for the answers is enough for all the lines that a script can have.
-pub(super) fn answer(text: &[u8]) {
+pub(super) fn answer(device: Device, text: &[u8]) {
     let mut out = io::large_buffer();
-    let ran = script::run(text, &mut out);
+    let ran = script::run(device, text, &mut out);
     if ran.number != 0 {
         output::refuse(ran.number);
         return;

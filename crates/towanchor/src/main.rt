@@ -1,14 +1,37 @@
-// The program: answers the script that stands on standard input or, by the word --quiet, says why the interrupts are quiet after it.
+// The program: answers the script that stands on standard input, as an 8255A or, by the word --8355, as an 8355; or, by the word --quiet, says why
+// the interrupts are quiet after it.
 mod answers;
 mod input;
 mod output;
 mod quiet;
 
-// The room is just that word's: a longer one does not fit, and comes as none.
-fn asked_why() -> bool {
+use script::Device;
+
+// What the first word asks for.
+enum Asked {
+    Answers(Device),
+    WhyQuiet,
+}
+
+// The room is just that of the longer word: a longer one does not fit, and comes as none. Any other word is as none.
+fn first_word() -> Asked {
     let mut word = [0u8; 7];
     let length = os::arg(1, &mut word);
-    check::same(&word[..length], b"--quiet")
+    if check::same(&word[..length], b"--quiet") {
+        return Asked::WhyQuiet;
+    }
+    if check::same(&word[..length], b"--8355") {
+        return Asked::Answers(Device::I8355);
+    }
+    Asked::Answers(Device::I8255A)
+}
+
+fn answer(text: &[u8]) {
+    let asked = first_word();
+    match asked {
+        Asked::Answers(device) => answers::answer(device, text),
+        Asked::WhyQuiet => quiet::explain(text),
+    }
 }
 
 // The room for the text is more than a script may have, so that a longer one shows.
@@ -20,9 +43,5 @@ fn main() {
         return;
     }
     let length = input.length;
-    if asked_why() {
-        quiet::explain(&text[..length]);
-    } else {
-        answers::answer(&text[..length]);
-    }
+    answer(&text[..length]);
 }

@@ -1,44 +1,28 @@
--- `script::run` meets its contract: refused by length, refused for room, or answered.
--- Rests on text's LineCount, Numbers and the contracts of what it calls.
-use native.Mathlib.Omega.{arith}
+-- `script::run` meets its contract: refused, and the output is left, or accepted, and it is filled.
+-- Rests on Numbers, Outcome and the contracts of judge, answer::start and answer_all.
+use mathlib.Core.Path.{_∙_, sym}
 use borrow.Author.Needs.{needs}
-use Rattle.text.proofs.LineCount.{lines-at-most}
-use Rattle.script.proofs.Numbers.{too-long, no-room, runs}
+use Rattle.script.proofs.Numbers.{number-given, has-room}
+use Rattle.script.proofs.Outcome.{refused-leaves, accepted-fills}
 use Rattle.script.proofs.run.Statement.{statement}
 use Rattle.script.proofs.run.Tie as tie
 
 returns : tie.Need-returns
-returns c = rw (c .refuse .ensures) (too-long _ _ (c .before .if1 .taken))
+returns c =
+    let judged = c .before .before .judge .ensures in
+    (judged, sym (refused-leaves _ _ _ (λ e. c .if1 .taken (number-given _ _ _ judged ∙ e))))
 
-mul-if2 : tie.Need-mul-if2
-mul-if2 c = omega (arith, c .count .ensures, lines-at-most (c .before .before .before .before .args .text .now), c .before .if1 .left)
+answer-all-requires : tie.Need-answer-all-requires
+answer-all-requires c κs =
+    let accepted = c .before .before in
+    has-room _ _ (sym (number-given _ _ _ (accepted .before .before .judge .ensures)) ∙ accepted .if1 .left)
 
 returns-2 : tie.Need-returns-2
 returns-2 c =
-    let count = c .before .before in
-    rw (c .refuse2 .ensures) (no-room _ _ (count .before .if1 .left) (rw (← count .count .ensures) (c .before .if2 .taken)))
-
-answer-all-requires : tie.Need-answer-all-requires
-answer-all-requires c κs = let count = c .before .before in rw (← count .count .ensures) (c .before .if2 .left)
-
-returns-3 : tie.Need-returns-3
-returns-3 c =
-    let all = c .before .before in
-    let room = all .before .before in
-    let count = room .before in
-    rw (all .answer-all .ensures, count .count .ensures)
-    (runs _ _ (count .before .if1 .left) (rw (← count .count .ensures) (room .if2 .left)))
+    let filled = c .before .before in
+    let accepted = filled .before .before .before in
+    let judged = accepted .before .before .judge .ensures in
+    (judged, rw (filled .before .before .start .ensures) at (filled .answer-all .ensures) ∙ sym (accepted-fills _ _ _ (sym (number-given _ _ _ judged) ∙ accepted .if1 .left)))
 
 pub run-spec : {M : Type 1} → statement M
-run-spec =
-    tie.close
-    (tie.spec
-    (λ c κs. tt)
-    returns
-    (λ c κs. tt)
-    mul-if2
-    (λ c κs. tt)
-    returns-2
-    answer-all-requires
-    (λ c. search needs)
-    returns-3)
+run-spec = tie.close (tie.spec (λ c κs. tt) returns (λ c κs. tt) answer-all-requires (λ c. search needs) returns-2)

@@ -1,5 +1,5 @@
 -- `answer::show` meets its contract.
--- Rests on the contract of ports' view::pins.
+-- Rests on the contract of answer::levels.
 use Rattle.script.proofs.answer.show.Statement.{statement}
 use Rattle.script.proofs.answer.show.Tie as tie
 
@@ -10,4 +10,4 @@ show-spec =
     (λ c κs. tt)
     (λ c κs. tt)
     (λ c κs. tt)
-    (λ c. rw (c .pins3 .ensures, c .before .pins2 .ensures, c .before .before .pins .ensures)))
+    (λ c. rw (c .levels3 .ensures, c .before .levels2 .ensures, c .before .before .levels .ensures)))

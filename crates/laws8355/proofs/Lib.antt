@@ -1,0 +1,13 @@
+pub mod Cycles
+pub mod Ports
+pub mod ByEvent
+pub mod Pins
+pub mod Written
+pub mod EveryState
+pub mod Lasts
+pub mod Unreached
+pub mod Numbers
+pub mod Agrees
+pub mod Account
+pub mod Script
+pub mod Determined
