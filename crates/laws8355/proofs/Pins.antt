@@ -3,7 +3,8 @@
 use mathlib.Core.Path.{_≡_, _∙_, refl, ap, sym}
 use mathlib.Core.Bool.{Bool, true, false, cond}
 use mathlib.Core.List.{List, [], _++_}
-use Prim.Native.Nat.{ℕ, _<_}
+use Prim.Native.Nat.{ℕ, _+_, _<_}
+use native.Mathlib.Omega.{arith}
 use borrow.Author.Tests.{lt-ltb}
 use Rattle.bits.specs.Bit.{bitOf, valueOf}
 use Rattle.bits.proofs.BitLaws.{bit-of-value}
@@ -18,12 +19,12 @@ use Rattle.i8355.specs.declared.Port.{Port}
 use Rattle.i8355.specs.declared.Ports.{Ports}
 use Rattle.i8355.specs.declared.Pins.{Pins}
 use Rattle.i8355.specs.declared.Chip8355.{Chip8355}
-use Rattle.i8355.specs.Registers.{afterReset, afterWriteEnds, afterLevels}
+use Rattle.i8355.specs.Registers.{withDirection, afterReset, afterWriteEnds, afterLevels}
 use Rattle.i8355.specs.Views.{shownBy}
 use Rattle.i8355.specs.Step.{onBus}
 use Rattle.laws8355.specs.Promise.{run}
-use Rattle.laws8355.specs.Sheet.{level, drives, reset}
-use Rattle.laws8355.proofs.Ports.{portAt, at-pins}
+use Rattle.laws8355.specs.Sheet.{level, drives, directionOf, reset}
+use Rattle.laws8355.proofs.Ports.{portAt, at-pins, at-reset, at-direction}
 
 -- The device after a whole write on an idle bus, under new levels, and after a reset; other events may follow.
 pub write-runs : (s : Ports) (x d : ℕ) (es : List Event) → x < 4 → run (onBus Idle s) (write x d ++ es) ≡ run (onBus Idle (afterWriteEnds s x d)) es
@@ -65,3 +66,10 @@ module _ (p n : ℕ) (there : p < 2) (small : n < 8) where
 
   pub output-shows : (c : Chip8355) → drives c p n ≡ true → level c p n ≡ bitOf (portAt (c .ports) p .latch) n
   output-shows c on = level-is c ∙ rw (sym (drives-is c) ∙ on)
+
+  -- After a reset and a direction m the port is what it was, with that direction.
+  pub after-reset : (c : Chip8355) (m : ℕ) → level (run c (reset ++ write (directionOf p) m)) p n ≡ shows (withDirection (portAt (c .ports) p) m) n
+  after-reset c m =
+      level-then _ (afterWriteEnds (afterReset (c .ports)) (p + 2) m) _
+      (reset-runs c (write (p + 2) m) ∙ write-runs (afterReset (c .ports)) (p + 2) m [] (omega (arith, there)))
+      (at-direction (afterReset (c .ports)) m p there ∙ ap (λ (q : Port). withDirection q m) (at-reset (c .ports) p there))

@@ -13,12 +13,12 @@ use Rattle.bus.specs.declared.Phase.the-variants.{Idle}
 use Rattle.i8355.specs.declared.Port.{Port}
 use Rattle.i8355.specs.declared.Ports.{Ports}
 use Rattle.i8355.specs.declared.Chip8355.{Chip8355}
-use Rattle.i8355.specs.Registers.{withDirection, withLatch, withOutside, afterReset, afterWriteEnds, afterLevels}
+use Rattle.i8355.specs.Registers.{withDirection, withLatch, withOutside, afterWriteEnds, afterLevels}
 use Rattle.i8355.specs.Step.{onBus}
 use Rattle.laws8355.specs.Promise.{run}
 use Rattle.laws8355.specs.Sheet.{level, drives, directionOf, reset, Written}
-use Rattle.laws8355.proofs.Ports.{portAt, at-write, at-direction, at-levels, at-reset}
-use Rattle.laws8355.proofs.Pins.{write-runs, levels-run, reset-runs, drives-is, level-then}
+use Rattle.laws8355.proofs.Ports.{portAt, at-write, at-direction, at-levels}
+use Rattle.laws8355.proofs.Pins.{write-runs, levels-run, drives-is, level-then, after-reset}
 
 module _ (p n : ℕ) (there : p < 2) (small : n < 8) where
   module _ (s : Ports) where
@@ -46,19 +46,20 @@ module _ (p n : ℕ) (there : p < 2) (small : n < 8) where
     at-once-in : (m d : ℕ) → bitOf m n ≡ true → level (run (onBus Idle s) (write (directionOf p) m ++ write p d)) p n ≡ bitOf d n
     at-once-in m d on = level-then p n there small _ (twice (p + 2) m p d) _ (twice-runs (p + 2) m p d [] next own) (turned m d) ∙ rw (on)
 
+    -- A direction that makes the pin an output, on ports of which this one is q, brings out what q has in its latch.
+    enabled : (t : Ports) (q : Port) → portAt t p ≡ q → (m : ℕ) → bitOf m n ≡ true → level (run (onBus Idle t) (write (directionOf p) m)) p n ≡ bitOf (q .latch) n
+    enabled t q is m on =
+        level-then p n there small _ (afterWriteEnds t (p + 2) m) _ (write-runs t (p + 2) m [] next)
+        (at-direction t m p there ∙ ap (λ (q : Port). withDirection q m) is)
+        ∙ rw (on)
+
     affected-in : (m d m′ : ℕ) → bitOf m′ n ≡ true → level (run (onBus Idle s) (write (directionOf p) m ++ write p d ++ write (directionOf p) m′)) p n ≡ bitOf d n
     affected-in m d m′ on =
-        level-then p n there small _ (afterWriteEnds (twice (p + 2) m p d) (p + 2) m′) _
-        (twice-runs (p + 2) m p d (write (p + 2) m′) next own ∙ write-runs (twice (p + 2) m p d) (p + 2) m′ [] next)
-        (at-direction (twice (p + 2) m p d) m′ p there ∙ ap (λ (q : Port). withDirection q m′) (turned m d))
-        ∙ rw (on)
+        ap (λ (c : Chip8355). level c p n) (twice-runs (p + 2) m p d (write (p + 2) m′) next own) ∙ enabled (twice (p + 2) m p d) _ (turned m d) m′ on
 
     shown-in : (d m m′ : ℕ) → bitOf m′ n ≡ true → level (run (onBus Idle s) (write p d ++ write (directionOf p) m ++ write (directionOf p) m′)) p n ≡ bitOf d n
     shown-in d m m′ on =
-        level-then p n there small _ (afterWriteEnds (twice p d (p + 2) m) (p + 2) m′) _
-        (twice-runs p d (p + 2) m (write (p + 2) m′) own next ∙ write-runs (twice p d (p + 2) m) (p + 2) m′ [] next)
-        (at-direction (twice p d (p + 2) m) m′ p there ∙ ap (λ (q : Port). withDirection q m′) (loaded d m))
-        ∙ rw (on)
+        ap (λ (c : Chip8355). level c p n) (twice-runs p d (p + 2) m (write (p + 2) m′) own next) ∙ enabled (twice p d (p + 2) m) _ (loaded d m) m′ on
 
     kept-in : (d m v : ℕ) → bitOf m n ≡ false → level (run (onBus Idle s) (write p d ++ write (directionOf p) m ++ levels p v)) p n ≡ bitOf v n
     kept-in d m v off =
@@ -75,9 +76,7 @@ module _ (p n : ℕ) (there : p < 2) (small : n < 8) where
     -- The port after a reset and a direction is what it is after the direction alone.
     reset-in : (m : ℕ) → level (run (onBus Idle s) (reset ++ write (directionOf p) m)) p n ≡ level (run (onBus Idle s) (write (directionOf p) m)) p n
     reset-in m =
-        level-then p n there small _ (afterWriteEnds (afterReset s) (p + 2) m) _
-        (reset-runs (onBus Idle s) (write (p + 2) m) ∙ write-runs (afterReset s) (p + 2) m [] next)
-        (at-direction (afterReset s) m p there ∙ ap (λ (q : Port). withDirection q m) (at-reset s p there))
+        after-reset p n there small (onBus Idle s) m
         ∙ sym (level-then p n there small _ (afterWriteEnds s (p + 2) m) _ (write-runs s (p + 2) m [] next) (at-direction s m p there))
 
   pub written : (c : Chip8355) → c .phase ≡ Idle → Written c p n
