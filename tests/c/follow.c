@@ -85,7 +85,7 @@ static void on_lines(unsigned char port, unsigned char levels)
 /* One more in a tally of the expected image; after 65,535 comes 0. */
 static void count_one(unsigned char channel, unsigned char which)
 {
-    unsigned char *bytes = expected + 10 * channel + 2 * which;
+    unsigned char *bytes = expected + TALLY_BYTES * channel + 2 * which;
 
     if (++bytes[0] == 0)
         ++bytes[1];

@@ -3,6 +3,7 @@
 #ifndef TESTS_LAYOUT_H
 #define TESTS_LAYOUT_H
 
+#define TALLY_BYTES 10 /* of a channel */
 #define LEVELS_A 40
 #define LEVELS_C 42
 #define LATCH_C 43

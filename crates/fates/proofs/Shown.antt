@@ -12,13 +12,11 @@ use Rattle.bits.proofs.Logic.{both}
 use Rattle.events.proofs.ByKind.{by-kind}
 use Rattle.events.specs.Event.{Event, event}
 use Rattle.control.specs.declared.Group.{Group}
-use Rattle.control.specs.declared.Group.the-variants.{A, B}
 use Rattle.control.specs.Mode.{strobedOutput}
 use Rattle.channel.specs.declared.Side.{Side}
 use Rattle.channel.specs.declared.Side.the-variants.{Input, Output}
 use Rattle.chip.specs.declared.Chip.{Chip}
 use Rattle.chip.specs.State.{portOf}
-use Rattle.chip.specs.Handshakes.{ownAddress}
 use Rattle.levels.specs.Levels.{afterLevels}
 use Rattle.levels.proofs.PortsAfter.{levels-word, levels-lines}
 use Rattle.ports.specs.Reads.{readOf}
@@ -33,7 +31,7 @@ use Rattle.fates.specs.Surroundings.{brought}
 use Rattle.fates.specs.Effects.{Effect, offered, followed, taken, ended, clearedAway, portNumber, levelsOn, strobePin, strobes, readRuns, writeRuns, falls, underLow, when, ownEffect, clears, effect}
 use Rattle.fates.specs.Bytes.{handedOver, same}
 use Rattle.fates.specs.Promise.{surroundingsOf, Shows}
-use Rattle.fates.proofs.Tables.{own-same, line-same, strobes-same}
+use Rattle.fates.proofs.Tables.{own-same, own-port, line-same, strobes-same}
 use Rattle.fates.proofs.Accepted.{no-kind-accepted, accepted-number}
 use Rattle.fates.proofs.Shapes.{shapeOf, fateBy}
 use Rattle.fates.proofs.Followed.{after, latch}
@@ -91,11 +89,6 @@ module _ (c : Chip) (g : Group) where
       (λ ok on. levels-take-none _ (falls g Input (surroundingsOf c) x d) (underLow g (surroundingsOf c) x) (levelsOn g (surroundingsOf c)) d)
       (λ k none ok on. absurd (no-kind-accepted (c .phase) k x d none ok))
       k
-
-  -- A port's number is its own address.
-  own-port : (g : Group) → ownAddress (portNumber g) g ≡ true
-  own-port A = refl
-  own-port B = refl
 
   -- The fall of ACK.
   module _ (x d : ℕ) (ok : accepts (c .phase) (kindOf (event 5 x d)) ≡ true) (on : strobes word g Output ≡ true)

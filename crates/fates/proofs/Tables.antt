@@ -1,6 +1,7 @@
 -- The history's table of the four channels is the chip's: the same port, the same pin, and strobed under the same mode words.
 -- Rests on control's ByBits.
 use mathlib.Core.Path.{_≡_, refl, sym}
+use mathlib.Core.Bool.{true}
 use Prim.Native.Nat.{ℕ}
 use lib.Dec.{eqb}
 use Rattle.control.specs.declared.Group.{Group}
@@ -14,6 +15,10 @@ use Rattle.fates.specs.Effects.{portNumber, strobePin, strobes}
 pub own-same : (x : ℕ) (g : Group) → eqb x (portNumber g) ≡ ownAddress x g
 own-same x A = refl
 own-same x B = refl
+
+pub own-port : (g : Group) → ownAddress (portNumber g) g ≡ true
+own-port A = refl
+own-port B = refl
 
 pub line-same : (g : Group) (s : Side) → strobePin g s ≡ linePin g s
 line-same A Input = refl

@@ -1,9 +1,10 @@
 -- Without a handshake of either group the chip drives what the mode 0 chart has as outputs, in every state ("Mode words").
--- Rests on PlainBits, OneWay and PortC.
+-- Rests on PlainBits, OneWay, PortC and bits' Logic.
 use mathlib.Core.Path.{_≡_, _∙_, refl, ap}
 use mathlib.Core.Bool.{Bool, true, false, cond, not, _&&_, _||_, or-false}
 use Prim.Native.Nat.{ℕ, _<_}
 use Rattle.bits.specs.Bit.{bitOf}
+use Rattle.bits.proofs.Logic.{neither}
 use Rattle.control.specs.declared.Group.{Group}
 use Rattle.control.specs.declared.Group.the-variants.{A, B}
 use Rattle.control.specs.Mode.{inputOf, upperInput, lowerInput, directionsOf}
@@ -17,12 +18,8 @@ use Rattle.laws.proofs.PlainBits.{by-pin}
 use Rattle.laws.proofs.OneWay.{output-drives, input-undriven}
 use Rattle.laws.proofs.PortC.{line-driven}
 
-neither : (six five : Bool) → (six || five) ≡ false → six ≡ false
-neither true five none = none
-neither false five none = refl
-
 one-way : (w : ℕ) (g : Group) → handshake w g ≡ false → goesBothWays w g ≡ false
-one-way w A none = neither (bitOf w 6) (bitOf w 5) none
+one-way w A none = neither (bitOf w 6) (bitOf w 5) none .0
 one-way w B none = refl
 
 -- No handshake uses a pin.

@@ -68,7 +68,7 @@ write-to-lines c b x d phase = rw (write-ends c 2 b x d phase) (record {
 })
 
 -- Which pins are driven, and what each shows.
-driven-by-role : (c : Chip) (n : ℕ) → n < 8 → driven c n ≡ isDriven (roleOf (c .core .word) n)
+pub driven-by-role : (c : Chip) (n : ℕ) → n < 8 → driven c n ≡ isDriven (roleOf (c .core .word) n)
 unfolding pinsOf pinsOfLines
 driven-by-role c = bit-of-assembled (λ n. isDriven (roleOf (c .core .word) n))
 

@@ -18,7 +18,7 @@ use Rattle.chip.specs.Handshakes.{ownAddress}
 use Rattle.chip.proofs.OnPort.{lines-not-own, port-on, word-on, lines-on, enables-on}
 use Rattle.levels.specs.Levels.{edged, lineFalls, edgesOn, letsThrough, portAfterLevels, afterLevelsOnC, afterLevels}
 
-edges-of : (c : Core) (d : ℕ) (g : Group) → portOf (afterLevelsOnC c d) g ≡ edgesOn c d g
+pub edges-of : (c : Core) (d : ℕ) (g : Group) → portOf (afterLevelsOnC c d) g ≡ edgesOn c d g
 unfolding afterLevelsOnC
 edges-of c d A = refl
 edges-of c d B = refl
