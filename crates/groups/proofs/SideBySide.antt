@@ -21,7 +21,7 @@ side-by-side = record {
 
 pub read-in-the-way : ReadInTheWay
 unfolding bitOf
-read-in-the-way = record { withIt = refl; withoutIt = refl; notOutOfTheWay = refl }
+read-in-the-way = record { withIt = refl; withoutIt = refl; notOutOfTheWay = refl; othersOutOfTheWay = refl }
 
 pub status-read : StatusRead
 unfolding bitOf

@@ -39,6 +39,10 @@ printerAlone = setUp ++ write 1 0x33 ++ levels 2 0xeb ++ levels 2 0xef ++ write 
 abbrev pub readRefused : List Event
 readRefused = setUp ++ strobe 0x41 ++ (event 3 1 0x33 ∷ []) ++ readFrom 0 ++ cycleEnd
 
+-- Other refusals: while 34 is written to port B, of an unknown kind and of a read of that port; while port A is read, of a read of port C.
+abbrev pub otherRefusals : List Event
+otherRefusals = setUp ++ (event 3 1 0x34 ∷ event 4 0 0 ∷ []) ++ readFrom 1 ++ cycleEnd ++ readFrom 0 ++ readFrom 2 ++ cycleEnd
+
 -- A digit waits. Port C is read for the status, and the read of port A that begins before that has ended is refused.
 abbrev pub statusRead : List Event
 statusRead = setUp ++ strobe 0x41 ++ readFrom 2 ++ readFrom 0 ++ cycleEnd
@@ -84,11 +88,13 @@ pub record SideBySide : Type 0 where
   pub prints : bytesIn B Output bothAtWork ≡ printed
   pub printsAlone : bytesIn B Output printerAlone ≡ printed
 
--- A write to port B that is in the way of a read of port A makes a difference: without it the read has the digit.
+-- A write to port B that is in the way of a read of port A makes a difference: without it the read has the digit. Other refusals do not
+-- count: those that an idle bus gives too, those of group B's own events, and those while no cycle of group B runs.
 pub record ReadInTheWay : Type 0 where
   pub withIt : bytesIn A Input readRefused ≡ (0x41 is waiting) ∷ []
   pub withoutIt : bytesIn A Input (leavingOut B readRefused) ≡ digit
   pub notOutOfTheWay : outOfTheWay B start readRefused ≡ false
+  pub othersOutOfTheWay : outOfTheWay B start otherRefusals ≡ true
 
 -- A read of port C is no group's: it stays in the history, where it refuses what it refused.
 pub record StatusRead : Type 0 where
