@@ -1,5 +1,6 @@
 /* Counts the instructions that a program runs, exactly, by running it one instruction at a time. x86-64 Linux alone.
-   usage: count PROGRAM ARGUMENTS..    The program raises SIGCONT where the count is to begin; it ends with the program. */
+   usage: count PROGRAM ARGUMENTS..           The program raises SIGCONT where the count is to begin; it ends with the program.
+          count -whole PROGRAM ARGUMENTS..    The count begins with the program. */
 
 int printf(const char *format, ...);
 int fork(void);
@@ -29,8 +30,12 @@ static int go_on(int request, int process)
 int main(int count, char **arguments)
 {
     long instructions = 0;
-    int process, status;
+    int process, status, whole;
     if (count < 2)
+        return 2;
+    whole = arguments[1][0] == '-';
+    arguments += whole;
+    if (count < 2 + whole)
         return 2;
     process = fork();
     if (process == 0) {
@@ -43,9 +48,9 @@ int main(int count, char **arguments)
     if (process < 0 || waitpid(process, &status, 0) != process)
         return 2;
     /* The program's start is a trap too. Any other signal, or an end before its time, means that there is nothing to count. */
-    if (stopped_by(status, SIGTRAP))
+    if (stopped_by(status, SIGTRAP) && !whole)
         status = go_on(PTRACE_CONT, process);
-    if (!stopped_by(status, SIGCONT))
+    if (!stopped_by(status, whole ? SIGTRAP : SIGCONT))
         return 2;
     do {
         status = go_on(PTRACE_SINGLESTEP, process);

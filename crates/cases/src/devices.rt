@@ -10,11 +10,11 @@ pub(super) enum Last {
     I8355(i8355::step::Stepped),
 }
 
-fn low_byte(digits: u32) -> u8 {
+fn low_byte(digits: u64) -> u8 {
     (digits % 256) as u8
 }
 
-pub(super) fn event(last: Last, digits: u32) -> Last {
+pub(super) fn event(last: Last, digits: u64) -> Last {
     let kind = low_byte(digits / 65536);
     let first = low_byte(digits / 256);
     let second = low_byte(digits);

@@ -4,6 +4,7 @@ mod devices;
 mod letters;
 mod phases;
 mod print;
+mod racks;
 mod show;
 mod show_8355;
 mod signs;

@@ -10,7 +10,7 @@ use status::reasons::Explained;
 use status::reasons::Reason;
 use step::Stepped;
 
-fn counts(tally: Tally) {
+pub(super) fn counts(tally: Tally) {
     print::word(b", offered ");
     print::number(tally.offered);
     print::word(b", handed over ");
@@ -23,8 +23,8 @@ fn counts(tally: Tally) {
     print::number(tally.cleared);
 }
 
-// Whether a byte waits in the channel, and its tallies.
-fn channel(chip: Chip, group: Group, side: Side) {
+// Whether a byte waits in the channel.
+pub(super) fn fill(chip: Chip, group: Group, side: Side) {
     let core = chip.core;
     let channel = chip::channels::find(core, group, side);
     let fill = channel.fill;
@@ -33,6 +33,11 @@ fn channel(chip: Chip, group: Group, side: Side) {
         Fill::Waiting => print::word(b"waiting"),
         Fill::Fetching => print::word(b"fetching"),
     }
+}
+
+// That, and its tallies.
+fn channel(chip: Chip, group: Group, side: Side) {
+    fill(chip, group, side);
     counts(chip::channels::tally(chip, group, side));
 }
 
@@ -52,7 +57,7 @@ fn half(reason: Reason) {
 }
 
 // What is said of a group's INTR.
-fn said(explained: Explained) {
+pub(super) fn said(explained: Explained) {
     match explained {
         Explained::NoGroup => print::word(b"no such group"),
         Explained::ModeZero => print::word(b"mode 0"),

@@ -25,7 +25,7 @@ fn same_tallies(one: [u16; 20], other: [u16; 20]) -> bool {
     true
 }
 
-fn agree(one: View, other: View) -> bool {
+pub(super) fn agree(one: View, other: View) -> bool {
     let shown = one.shown;
     let its_shown = other.shown;
     let tally = one.tally;
@@ -51,7 +51,7 @@ pub(super) fn found(history: u64, place: u64, event: u64) {
 }
 
 // And then, of the proved model and of the second one, all that was compared.
-fn show(history: u64, place: u64, event: u64, one: View, other: View) {
+pub(super) fn show(history: u64, place: u64, event: u64, one: View, other: View) {
     found(history, place, event);
     report(one);
     report(other);

@@ -20,12 +20,12 @@ pub(super) fn add(counts: &mut [u64], first: usize, behind: u8, by: u16) {
     }
 }
 
-fn flag(on: bool) -> u16 {
+pub(super) fn flag(on: bool) -> u16 {
     if on { 1 } else { 0 }
 }
 
 // The place of a kind among the counts.
-fn order(kind: u8) -> u8 {
+pub(super) fn order(kind: u8) -> u8 {
     match kind {
         0 | 1 | 2 | 3 => kind,
         5 => 4,
@@ -48,13 +48,13 @@ fn fates(counts: &mut Counts, before: [u16; 20], after: [u16; 20]) {
 }
 
 // The control word that the event brought into effect, if it did: the end of a write to address 3.
-fn word(counts: &mut Counts, kind: u8, before: [u8; 23]) {
+fn word(counts: &mut Counts, kind: u8, before: [u8; 25]) {
     let ended = (kind == 2) & (before[8] == 2) & (before[9] == 3);
     add(counts, 34, before[10] / 128, flag(ended));
 }
 
 // What is said of each half after the event.
-fn reasons(counts: &mut Counts, after: [u8; 23]) {
+fn reasons(counts: &mut Counts, after: [u8; 25]) {
     add(counts, 36, after[13], 1);
     add(counts, 36, after[14], 1);
     add(counts, 36, after[16], 1);

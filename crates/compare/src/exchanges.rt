@@ -2,6 +2,9 @@
 // kind, its first operand, the bits of its second operand that are drawn, and the bits that are set.
 pub(super) const COUNT: u64 = 19;
 
+// The first of the two that set modes and enables.
+pub(super) const SETTINGS: u64 = 10;
+
 pub(super) const EVENTS: [u64; 114] = [
     // A byte comes in at A and is read.
     0x0500ff00, // any levels

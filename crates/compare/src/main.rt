@@ -1,5 +1,5 @@
 // Runs two models of a chip over the same pseudo-random histories, the proved one and a second one that was written apart
-// from it, and compares what they show and count after every event: first of the 8255A, then of the 8355.
+// from it, and compares what they show and count after every event: first of the 8255A, then of the 8355 and of racks of cards.
 mod agree;
 mod apart; // the second model
 mod counts;
@@ -8,6 +8,7 @@ mod exchanges;
 mod history;
 mod ports_8355; // the 8355
 mod print;
+mod racks; // racks of cards
 mod random;
 mod runs;
 mod states;
@@ -29,23 +30,37 @@ fn runs_8255a(text: &[u8]) -> usize {
     print::filled(text, 0, &levelled)
 }
 
-// Those of the 8355, by the part of the text that begins there.
-fn runs_8355(text: &[u8], first: usize) {
+// Those of the 8355, by the part of the text that begins there. Leaves where the next part begins.
+fn runs_8355(text: &[u8], first: usize) -> usize {
     let reached = ports_8355::from_power_up();
     print::word(b"the 8355 from power-up");
     print::filled(text, first, &reached);
     let strange = ports_8355::from_arbitrary_states();
     print::word(b"the 8355 from arbitrary states");
+    print::filled(text, first, &strange)
+}
+
+// Those of racks, in the same way.
+fn runs_of_racks(text: &[u8], first: usize) {
+    let good = racks::from_good_bases();
+    print::word(b"racks with good bases");
+    print::filled(text, first, &good);
+    let any = racks::from_any_bases();
+    print::word(b"racks with any bases");
+    print::filled(text, first, &any);
+    let strange = racks::from_arbitrary_states();
+    print::word(b"racks in arbitrary states");
     print::filled(text, first, &strange);
 }
 
-fn both(text: &[u8]) {
-    runs_8355(text, runs_8255a(text));
+fn all(text: &[u8]) {
+    runs_of_racks(text, runs_8355(text, runs_8255a(text)));
 }
 
-// What is printed of each run stands on standard input, a part for each chip, with a sign for each count in their order.
+// What is printed of each run stands on standard input, a part for each chip and one for racks, with a sign for each count in their
+// order.
 fn main() {
     let mut room = io::large_buffer();
     let length = io::read_full(STDIN_FILENO, &mut room);
-    both(&room[..length]);
+    all(&room[..length]);
 }

@@ -8,6 +8,9 @@ use Rattle.script.proofs as script
 pub code-determined : Determines text.digits.code.ended text.digits.code.Reads.Learnt
 code-determined c x y = equation-determines
 
+pub byte-at-determined : Determines text.line.byte_at.ended text.line.byte_at.Reads.Learnt
+byte-at-determined c x y = equation-determines
+
 pub end-determined : Determines text.lines.end.ended text.lines.end.Reads.Learnt
 end-determined c x y = equation-determines
 

@@ -15,7 +15,7 @@ mod on_8255a;
 mod writer;
 
 // How many bytes a script may have.
-const LONGEST: usize = 4096;
+pub const LONGEST: usize = 4096;
 
 // How many bytes the answer to a line has.
 pub const ANSWER_WIDTH: usize = 11;

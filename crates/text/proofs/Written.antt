@@ -14,7 +14,7 @@ use Rattle.text.specs.Digits.{noByte, digitValue, digitCode, pairValue, 
 use Rattle.text.specs.Frames.{leadingByte, isFrame, frameOf}
 
 -- Two digits that write a byte are read as that byte.
-pair-written : (v : ℕ) → v < noByte → pairValue (digitCode (v / 16)) (digitCode v) ≡ v
+pub pair-written : (v : ℕ) → v < noByte → pairValue (digitCode (v / 16)) (digitCode v) ≡ v
 unfolding pairValue digitCode digitValue
 pair-written v h = numbers noByte (λ v. pairValue (digitCode (v / 16)) (digitCode v)) (λ v. v) tt v h
 

@@ -3,7 +3,7 @@ ghost use mathlib.Core.Path.{_≡_};
 ghost use Rattle.text.specs.Digits.{digitValue, digitCode, pairValue};
 
 // What stands where no byte was written: every byte is below it.
-pub(super) const NO_BYTE: u16 = 256;
+pub const NO_BYTE: u16 = 256;
 
 // What a code is worth as a digit; 16 where it is none.
 fn value(code: u8) -> u8

@@ -1,6 +1,6 @@
 // A script as text: a byte is two digits, a frame is a kind and its operands, and a line ends with LF.
 pub mod digits;
-mod line;
+pub mod line;
 pub mod lines;
 
 // What ends a line.

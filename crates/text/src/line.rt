@@ -8,7 +8,7 @@ use super::digits;
 use super::digits::NO_BYTE;
 
 // The byte that two digits make at that place of the line; NO_BYTE where they are no two digits, 0 where the line is over.
-fn byte_at(line: &[u8], at: usize) -> u16
+pub fn byte_at(line: &[u8], at: usize) -> u16
     ensures { λ r. ⌜ r ≡ leadingByte (drop at (now (line .entry))) ⌝ }
 {
     if line.len() <= at {

@@ -1,19 +1,21 @@
-// The program: answers the script that stands on standard input, as an 8255A or, by the word --8355, as an 8355; or, by the word --quiet, says why
-// the interrupts are quiet after it.
+// The program: answers the script that stands on standard input, as an 8255A, by the word --8355 as an 8355, or by the word --rack as a
+// rack of cards; or, by the word --quiet, says why the interrupts are quiet after it.
 mod answers;
 mod input;
 mod output;
 mod quiet;
+mod racks;
 
 use script::Device;
 
 // What the first word asks for.
 enum Asked {
     Answers(Device),
+    RackAnswers,
     WhyQuiet,
 }
 
-// The room is just that of the longer word: a longer one does not fit, and comes as none. Any other word is as none.
+// The room is just that of the longest word: a longer one does not fit, and comes as none. Any other word is as none.
 fn first_word() -> Asked {
     let mut word = [0u8; 7];
     let length = os::arg(1, &mut word);
@@ -23,6 +25,9 @@ fn first_word() -> Asked {
     if check::same(&word[..length], b"--8355") {
         return Asked::Answers(Device::I8355);
     }
+    if check::same(&word[..length], b"--rack") {
+        return Asked::RackAnswers;
+    }
     Asked::Answers(Device::I8255A)
 }
 
@@ -30,6 +35,7 @@ fn answer(text: &[u8]) {
     let asked = first_word();
     match asked {
         Asked::Answers(device) => answers::answer(device, text),
+        Asked::RackAnswers => racks::answer(text),
         Asked::WhyQuiet => quiet::explain(text),
     }
 }

@@ -6,10 +6,10 @@ use Rattle.cases.proofs.signs.follow.Statement.{statement}
 use Rattle.cases.proofs.signs.follow.Tie as tie
 
 abbrev Inv-loop : tie.InvT-loop
-Inv-loop text last₀ sign₀ digits₀ at₀ at-end last sign digits at = (at ≤ at-end) × (at-end ≤ length text)
+Inv-loop text last₀ held₀ sign₀ digits₀ at₀ at-end last held sign digits at = (at ≤ at-end) × (at-end ≤ length text)
 
 abbrev μ-loop : tie.MeasureT-loop
-μ-loop text last₀ sign₀ digits₀ at₀ at-end last sign digits at = at-end - at
+μ-loop text last₀ held₀ sign₀ digits₀ at₀ at-end last held sign digits at = at-end - at
 
 pub follow-spec : {M : Type 1} → statement M
 follow-spec =
@@ -17,5 +17,5 @@ follow-spec =
     (tie.spec
     Inv-loop
     μ-loop
-    (λ c κs. tt) (λ c. search needs) (λ c. search needs) (λ c κs. tt) (λ c κs. tt) (λ c κs. tt)
-    (λ c. search needs) (λ c. search needs) (λ c. search needs) (λ c. search needs))
+    (λ c κs. tt) (λ c κs. tt) (λ c. search needs) (λ c. search needs) (λ c κs. tt) (λ c κs. tt)
+    (λ c κs. tt) (λ c κs. tt) (λ c. search needs) (λ c. search needs) (λ c. search needs) (λ c. search needs))

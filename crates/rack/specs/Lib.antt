@@ -1,0 +1,5 @@
+pub mod Bases
+pub mod State
+pub mod Targets
+pub mod Step
+pub mod Views

@@ -1,0 +1,15 @@
+pub mod Seek
+pub mod Seen
+pub mod OneCard
+pub mod AllCards
+pub mod Accesses
+pub mod Followed
+pub mod Projected
+pub mod Cards
+pub mod Refusals
+pub mod Building
+pub mod Locations
+pub mod Numbers
+pub mod Cycles
+pub mod Examples
+pub mod Determined

@@ -1,0 +1,1 @@
+// Theorems about a rack of cards, in specs/ and proofs/. This crate has no function.

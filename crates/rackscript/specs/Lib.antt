@@ -1,0 +1,4 @@
+pub mod Bases
+pub mod Frames
+pub mod Answers
+pub mod Run
