@@ -8,7 +8,8 @@ int memcmp(const void *left, const void *right, size_t length);
 
 /* A slice of any length up to 255 is lent now and then, so each image lies in a room of that size. */
 enum { IMAGE = TOWANCHOR_IMAGE_SIZE, ROOM = 255, EVENTS = 200000, DAMAGED = 200000, HISTORY = 50 };
-enum { CONDITIONS = 48, WORD = 52, ENABLES = 53, BUS = 54, ADDRESS = 55, DATA = 56, UNUSED = 57 };
+enum { TALLIES_END = 56, CONDITIONS = 64, WORD = 68, ENABLES = 69, BUS = 70, DATA = 71, UNUSED = 72 };
+enum { KEPT_FOR_LATER = 3, WRITING = 4, IDLE = 8 };
 
 /* Pseudo-random numbers, the same in every run: high bits of a linear congruential sequence. */
 static unsigned char random_byte(void)
@@ -48,14 +49,15 @@ static void make_good(unsigned char *image)
 {
     int i;
     for (i = 0; i < IMAGE; i++)
-        image[i] = i < 40 && random_byte() & 1 ? 0xff : random_byte();
+        image[i] = i < TALLIES_END && random_byte() & 1 ? 0xff : random_byte();
     image[WORD] |= 0x80;
     for (i = 0; i < 4; i++)
         image[CONDITIONS + i] %= last_condition(image, i) + 1;
     image[ENABLES] &= 0x54;
-    image[BUS] %= 3;
-    image[ADDRESS] %= image[BUS] == 0 ? 1 : image[BUS] == 1 ? 3 : 4;
-    if (image[BUS] != 2)
+    image[BUS] %= IDLE + 1;
+    if (image[BUS] == KEPT_FOR_LATER)
+        image[BUS] = IDLE;
+    if (image[BUS] < WRITING || image[BUS] == IDLE)
         image[DATA] = 0;
     for (i = UNUSED; i < IMAGE; i++)
         image[i] = 0;
@@ -70,10 +72,10 @@ static void damage(unsigned char *image)
     case 0: image[CONDITIONS + channel] = above(last_condition(image, channel)); break;
     case 1: image[WORD] &= 0x7f; break;
     case 2: image[ENABLES] |= no_enable[random_byte() % sizeof no_enable]; break;
-    case 3: image[BUS] = above(2); break;
+    case 3: image[BUS] = random_byte() & 1 ? KEPT_FOR_LATER : above(IDLE); break;
     case 4:
-        if (image[BUS] == 2 || random_byte() & 1)
-            image[ADDRESS] = above(image[BUS] == 0 ? 0 : image[BUS] + 1);
+        if (image[BUS] >= WRITING && image[BUS] < IDLE)
+            image[BUS] = random_byte() & 1 ? 0 : IDLE, image[DATA] |= 1;
         else
             image[DATA] = above(0);
         break;
@@ -163,7 +165,7 @@ static int same_explain(const unsigned char *image, size_t length, unsigned char
 /* Both groups are explained, and one that is none. */
 static int same_views(const unsigned char *image, size_t length)
 {
-    return same_pins(image, length, mostly_below(4)) && same_tally(image, length, mostly_below(4), mostly_below(5))
+    return same_pins(image, length, mostly_below(4)) && same_tally(image, length, mostly_below(4), mostly_below(7))
         && same_explain(image, length, TOWANCHOR_GROUP_A) && same_explain(image, length, TOWANCHOR_GROUP_B)
         && same_explain(image, length, above(TOWANCHOR_GROUP_B));
 }

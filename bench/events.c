@@ -73,6 +73,7 @@ static const struct {
     { "end write to C", STEP, SCALE_AND_PRINTER "0302FF", "02", 0 },
     { "end write of a mode word", STEP, A_BYTE_WAITS "0303B4", "02", 0 },
     { "end write of a bit set/reset", STEP, SCALE_AND_PRINTER "030308", "02", 0 },
+    { "end write that forces IBF", STEP, SCALE_AND_PRINTER "03030B", "02", 0 },
     { "levels on A", STEP, SCALE_AND_PRINTER, "050041", 0 },
     { "levels on A, STB low", STEP, SCALE_AND_PRINTER "0502EF", "050041", 0 },
     { "levels on C, STB falls", STEP, SCALE_AND_PRINTER, "0502EF", 0 },

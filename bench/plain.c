@@ -6,8 +6,11 @@ enum { PORT_A, PORT_B, PORT_C, CONTROL };
 enum { GROUP_A, GROUP_B };
 enum { A_IN, A_OUT, B_IN, B_OUT, CHANNELS };
 enum { EMPTY, WAITING, FETCHING };
-enum { OFFERED, HANDED_OVER, OVERWRITTEN, SWALLOWED, CLEARED, TALLIES };
-enum { IDLE, READING, WRITING };
+enum { OFFERED, HANDED_OVER, OVERWRITTEN, SWALLOWED, CLEARED, PLANTED, STRUCK, TALLIES };
+
+/* What runs on the bus: a read at its port, or a write at WRITING and its address, or nothing. */
+enum { READING, WRITING = 4, IDLE = 8 };
+
 enum { RESET, BEGIN_READ, END_CYCLE, BEGIN_WRITE, OUTSIDE_LEVELS = 5 };
 
 /* The numbers of the answers, 8 being the one for the image. */
@@ -25,9 +28,10 @@ enum { WORD_AFTER_RESET = MODE_WORD | INPUT_A | INPUT_C_UPPER | INPUT_B | INPUT_
 enum { OBF_A = 0x80, ACK_A = 0x40, IBF_A = 0x20, STB_A = 0x10, INTR_A = 0x08 };
 enum { STB_ACK_B = 0x04, IBF_OBF_B = 0x02, INTR_B = 0x01 };
 enum { FROM_OUTSIDE = STB_A | ACK_A | STB_ACK_B };
+enum { FLAGS = OBF_A | IBF_A | IBF_OBF_B };
 
 /* The image as x86-64 sees it, which has the low byte of a number first, as the image has. Packed and may_alias because a caller
-   may lend any 64 bytes, and the functions in place look at them as a chip. */
+   may lend any 96 bytes, and the functions in place look at them as a chip. */
 struct __attribute__((packed, may_alias)) chip {
     unsigned short tallies[CHANNELS][TALLIES];
     unsigned char outside[3];
@@ -37,12 +41,11 @@ struct __attribute__((packed, may_alias)) chip {
     unsigned char word;
     unsigned char enables;
     unsigned char bus;
-    unsigned char address;
     unsigned char data;
-    unsigned char unused[7];
+    unsigned char unused[24];
 };
 
-enum { IMAGE = 64 };
+enum { IMAGE = 96 };
 _Static_assert(sizeof(struct chip) == IMAGE, "a chip lies in memory as the image does");
 
 int memcmp(const void *left, const void *right, size_t length);
@@ -80,14 +83,14 @@ static unsigned char input_pins(unsigned char word)
 
 /* What an image must be. */
 
+static int writes(const struct chip *chip)
+{
+    return chip->bus >= WRITING && chip->bus < IDLE;
+}
+
 static int good_bus(const struct chip *chip)
 {
-    switch (chip->bus) {
-    case IDLE: return chip->address == 0 && chip->data == 0;
-    case READING: return chip->address <= PORT_C && chip->data == 0;
-    case WRITING: return chip->address <= CONTROL;
-    default: return 0;
-    }
+    return chip->bus <= IDLE && chip->bus != READING + CONTROL && (writes(chip) || chip->data == 0);
 }
 
 static int good_condition(const struct chip *chip, int channel, unsigned char last)
@@ -111,9 +114,9 @@ static unsigned char blend(unsigned char mask, unsigned char in_mask, unsigned c
     return (in_mask & mask) | (elsewhere & ~mask);
 }
 
-static int runs(const struct chip *chip, unsigned char bus, unsigned char address)
+static int runs(const struct chip *chip, unsigned char cycle, unsigned char address)
 {
-    return chip->bus == bus && chip->address == address;
+    return chip->bus == cycle + address;
 }
 
 static int input_full(const struct chip *chip, int channel)
@@ -273,6 +276,21 @@ static void hand_over(struct chip *chip, int channel, unsigned char afterwards)
     }
 }
 
+/* The flag is forced: a byte is planted where there is room for one, with what the latch has, or one that waits is struck. */
+static void plant(struct chip *chip, int channel)
+{
+    chip->tallies[channel][PLANTED]++;
+    chip->conditions[channel] = WAITING;
+}
+
+static void strike(struct chip *chip, int channel)
+{
+    if (chip->conditions[channel] == WAITING) {
+        chip->tallies[channel][STRUCK]++;
+        chip->conditions[channel] = EMPTY;
+    }
+}
+
 static void end_fetch(struct chip *chip, int channel)
 {
     if (chip->conditions[channel] == WAITING)
@@ -285,7 +303,6 @@ static void end_fetch(struct chip *chip, int channel)
 static void go_idle(struct chip *chip)
 {
     chip->bus = IDLE;
-    chip->address = 0;
     chip->data = 0;
 }
 
@@ -334,16 +351,15 @@ static unsigned int begin_read(struct chip *chip, unsigned char address)
         answer = read_port(chip, B_IN, B_OUT, chip->outside[PORT_B], chip->word & INPUT_B);
     else
         answer = read_c(chip);
-    chip->bus = READING;
-    chip->address = address;
+    chip->bus = READING + address;
     return ACCEPTED | (unsigned int)answer << 8;
 }
 
 static void end_read(struct chip *chip)
 {
-    if (chip->address == PORT_A && strobed(chip->word, A_IN))
+    if (chip->bus == READING + PORT_A && strobed(chip->word, A_IN))
         end_fetch(chip, A_IN);
-    if (chip->address == PORT_B && strobed(chip->word, B_IN))
+    if (chip->bus == READING + PORT_B && strobed(chip->word, B_IN))
         end_fetch(chip, B_IN);
 }
 
@@ -353,8 +369,7 @@ static unsigned int begin_write(struct chip *chip, unsigned char address, unsign
         return OUT_OF_RANGE;
     if (chip->bus != IDLE)
         return CYCLE_RUNS;
-    chip->bus = WRITING;
-    chip->address = address;
+    chip->bus = WRITING + address;
     chip->data = data;
     return ACCEPTED;
 }
@@ -376,12 +391,43 @@ static void write_c(struct chip *chip, unsigned char data)
     chip->latch_c = blend(stored, data, chip->latch_c);
 }
 
+static void force_input(struct chip *chip, int in, unsigned char level)
+{
+    if (!level)
+        strike(chip, in);
+    else if (!input_full(chip, in))
+        plant(chip, in);
+}
+
+static void force_output(struct chip *chip, int out, unsigned char level)
+{
+    if (level)
+        strike(chip, out);
+    else if (output_free(chip, out))
+        plant(chip, out);
+}
+
+static void force(struct chip *chip, unsigned char pin, unsigned char level)
+{
+    switch (pin) {
+    case IBF_A: force_input(chip, A_IN, level); break;
+    case OBF_A: force_output(chip, A_OUT, level); break;
+    default:
+        if (chip->word & INPUT_B)
+            force_input(chip, B_IN, level);
+        else
+            force_output(chip, B_OUT, level);
+    }
+}
+
 static void set_bit(struct chip *chip, unsigned char control)
 {
     unsigned char pin = 1 << (control >> 1 & 7), level = control & 1 ? pin : 0;
     if (handshake_pins(chip->word) & pin) {
         if (FROM_OUTSIDE & pin)
             chip->enables = blend(pin, level, chip->enables);
+        else if (FLAGS & pin)
+            force(chip, pin, level);
     } else if (!(input_pins(chip->word) & pin)) {
         chip->latch_c = blend(pin, level, chip->latch_c);
     }
@@ -390,10 +436,10 @@ static void set_bit(struct chip *chip, unsigned char control)
 static void end_write(struct chip *chip)
 {
     unsigned char data = chip->data;
-    switch (chip->address) {
-    case PORT_A: write_port(chip, A_OUT, data, chip->word & INPUT_A); break;
-    case PORT_B: write_port(chip, B_OUT, data, chip->word & INPUT_B); break;
-    case PORT_C: write_c(chip, data); break;
+    switch (chip->bus) {
+    case WRITING + PORT_A: write_port(chip, A_OUT, data, chip->word & INPUT_A); break;
+    case WRITING + PORT_B: write_port(chip, B_OUT, data, chip->word & INPUT_B); break;
+    case WRITING + PORT_C: write_c(chip, data); break;
     default:
         if (data & MODE_WORD)
             set_mode(chip, data);
@@ -406,10 +452,10 @@ static unsigned int end_cycle(struct chip *chip)
 {
     if (chip->bus == IDLE)
         return NO_CYCLE_RUNS;
-    if (chip->bus == READING)
-        end_read(chip);
-    else
+    if (writes(chip))
         end_write(chip);
+    else
+        end_read(chip);
     go_idle(chip);
     return ACCEPTED;
 }
@@ -487,15 +533,15 @@ unsigned int plain_explain(const unsigned char *image, size_t length, unsigned c
 
 /* Loaded. The image's numbers of two bytes have the low byte first. */
 
-enum { TALLIES_AT = 0, OUTSIDE_AT = 40, LATCH_C_AT = 43, LATCHES_AT = 44, CONDITIONS_AT = 48, WORD_AT = 52, ENABLES_AT, BUS_AT,
-       ADDRESS_AT, DATA_AT, UNUSED_AT };
+enum { TALLIES_AT = 0, TALLIES_EACH = 14, OUTSIDE_AT = 56, LATCH_C_AT = 59, LATCHES_AT = 60, CONDITIONS_AT = 64, WORD_AT = 68, ENABLES_AT,
+       BUS_AT, DATA_AT, UNUSED_AT };
 
 static void load(struct chip *chip, const unsigned char *image)
 {
     int channel, tally, port, i;
     for (channel = 0; channel < CHANNELS; channel++) {
         for (tally = 0; tally < TALLIES; tally++) {
-            const unsigned char *at = image + TALLIES_AT + 10 * channel + 2 * tally;
+            const unsigned char *at = image + TALLIES_AT + TALLIES_EACH * channel + 2 * tally;
             chip->tallies[channel][tally] = at[0] | at[1] << 8;
         }
         chip->latches[channel] = image[LATCHES_AT + channel];
@@ -507,9 +553,8 @@ static void load(struct chip *chip, const unsigned char *image)
     chip->word = image[WORD_AT];
     chip->enables = image[ENABLES_AT];
     chip->bus = image[BUS_AT];
-    chip->address = image[ADDRESS_AT];
     chip->data = image[DATA_AT];
-    for (i = 0; i < 7; i++)
+    for (i = 0; i < IMAGE - UNUSED_AT; i++)
         chip->unused[i] = image[UNUSED_AT + i];
 }
 
@@ -518,7 +563,7 @@ static void save(const struct chip *chip, unsigned char *image)
     int channel, tally, port;
     for (channel = 0; channel < CHANNELS; channel++) {
         for (tally = 0; tally < TALLIES; tally++) {
-            unsigned char *at = image + TALLIES_AT + 10 * channel + 2 * tally;
+            unsigned char *at = image + TALLIES_AT + TALLIES_EACH * channel + 2 * tally;
             at[0] = chip->tallies[channel][tally] & 0xff;
             at[1] = chip->tallies[channel][tally] >> 8;
         }
@@ -531,7 +576,6 @@ static void save(const struct chip *chip, unsigned char *image)
     image[WORD_AT] = chip->word;
     image[ENABLES_AT] = chip->enables;
     image[BUS_AT] = chip->bus;
-    image[ADDRESS_AT] = chip->address;
     image[DATA_AT] = chip->data;
 }
 

@@ -5,9 +5,8 @@
 
 #include <string.h>
 
-/* Where an image says what runs on the bus, and what stands there while a read does: docs/IMAGE.md. */
-#define BUS 54
-#define READING 1
+/* Where an image says what runs on the bus; while a read does, its port stands there: docs/IMAGE.md. */
+#define BUS 70
 
 unsigned int old_card_pins(const unsigned char *image, size_t length, unsigned char port)
 {
@@ -17,7 +16,7 @@ unsigned int old_card_pins(const unsigned char *image, size_t length, unsigned c
     /* The fault: while a read runs, IBF is shown as a copy of the card has it after the end. The end of a write is no part of it: a mode
      * word would show before its time. */
     memcpy(ended, image, sizeof ended);
-    if (ended[BUS] == READING)
+    if (ended[BUS] <= TOWANCHOR_C)
         towanchor_step(ended, sizeof ended, TOWANCHOR_END_CYCLE, 0, 0);
     return (towanchor_pins(image, length, port) & ~ibf) | (towanchor_pins(ended, sizeof ended, port) & ibf);
 }

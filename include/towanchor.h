@@ -1,10 +1,13 @@
 /*
- * Towanchor: a proved model of Intel's 8255A, as C functions over an image of 64 bytes.
+ * Towanchor: a proved model of Intel's 8255A, as C functions over an image of 96 bytes.
  *
  * An image is the whole state of one chip. The host owns it: it may lie at any address, be copied, saved, moved and restored
  * byte by byte, and there may be as many as the host likes, one for each chip. The host need not look inside. A new image is
  * made by towanchor_power_up or towanchor_power_up_with_levels; one that came from elsewhere, a file perhaps, is judged by every
  * function that is given it, and refused with TOWANCHOR_NO_STATE where it is the image of no state.
+ *
+ * A machine that was saved by an earlier version may have an older image, of 64 bytes. towanchor_convert makes an image of it; every
+ * other function refuses it.
  *
  * Saved machines: the outside levels are part of an image, so that a restored machine goes on under the levels that it was saved
  * with; restoring is no power-up. A machine that was made for lines which idle high, as they did on the old backplane, names them
@@ -24,21 +27,22 @@
 extern "C" {
 #endif
 
-/* The bytes of an image. */
-#define TOWANCHOR_IMAGE_SIZE 64
+/* The bytes of an image, and of an older one. */
+#define TOWANCHOR_IMAGE_SIZE 96
+#define TOWANCHOR_OLDER_IMAGE_SIZE 64
 
 /* The number of an answer. Where several would apply, TOWANCHOR_NO_STATE comes first, and then the lowest. */
 #define TOWANCHOR_ACCEPTED 0       /* nothing was refused */
 #define TOWANCHOR_NO_SUCH_KIND 1   /* the kind of an event is none of those below */
-#define TOWANCHOR_OUT_OF_RANGE 2   /* an address above 3, a port above 2, a channel above 3, a tally above 4 or a group above 1 */
+#define TOWANCHOR_OUT_OF_RANGE 2   /* an address above 3, a port above 2, a channel above 3, a tally above 6 or a group above 1 */
 #define TOWANCHOR_NOT_READABLE 3   /* a read was begun at the control address */
 #define TOWANCHOR_CYCLE_RUNS 4     /* a read or a write was begun while one runs */
 #define TOWANCHOR_NO_CYCLE_RUNS 5  /* a cycle was ended while none runs */
-#define TOWANCHOR_NO_STATE 8       /* the length is not TOWANCHOR_IMAGE_SIZE, or the image is of no state */
+#define TOWANCHOR_NO_STATE 8       /* a length is not that of an image, or the image, or older image, is of no state */
 
 /* Kinds of events, with the operands that each takes; those that a kind lacks are ignored.
  *
- * Reads and writes end by the same kind, which stands where earlier editions had one for each, 2 for reads and 4 for writes. There is no
+ * Reads and writes end by the same kind, which stands where earlier versions had one for each, 2 for reads and 4 for writes. There is no
  * kind 4 now: it is refused with TOWANCHOR_NO_SUCH_KIND, and the write goes on until TOWANCHOR_END_CYCLE ends it. */
 #define TOWANCHOR_RESET 0          /* the reset pin; outside levels and tallies stay, and a running cycle is dropped */
 #define TOWANCHOR_BEGIN_READ 1     /* first: the address; the answer has the byte that is read */
@@ -50,13 +54,17 @@ extern "C" {
 #define TOWANCHOR_A 0              /* port A, of group A */
 #define TOWANCHOR_B 1              /* port B, of group B */
 #define TOWANCHOR_C 2              /* port C, whose pins serve the handshakes of the others */
-#define TOWANCHOR_CONTROL 3        /* for writes alone: mode words, and the setting of one pin of port C or of one enable */
+#define TOWANCHOR_CONTROL 3        /* for writes alone: mode words, and bit set/reset of one pin of port C, of one enable or of one flag */
 
 /* The pins of port C that handshakes use, as numbers of pins; see TOWANCHOR_PIN. STB and ACK come from outside, and act when they
  * fall; the chip drives the others. While STB is low, levels put on its port go through to the port's input latch, and a byte that waits
- * there has that value from then on; in earlier editions it kept what stood there at the fall. So a device that has sent its byte raises STB
+ * there has that value from then on; in earlier versions it kept what stood there at the fall. So a device that has sent its byte raises STB
  * before it changes the lines. STB, ACK and OBF are low when they say something, IBF and INTR are high. Which of them are in use depends on
- * the mode word: the input pins of A in mode 1 input, its output pins in mode 1 output, all five in mode 2. */
+ * the mode word: the input pins of A in mode 1 input, its output pins in mode 1 output, all five in mode 2.
+ *
+ * Bit set/reset of the pin of IBF or OBF forces the flag. IBF set or OBF reset, on an empty channel, plants a byte there: it has the value
+ * of the latch, and waits as one that was offered does. IBF reset or OBF set, on a channel in which a byte waits, strikes that byte, and the
+ * channel is empty. Otherwise nothing happens, nor does it on the pins of INTR, which are not forced. */
 #define TOWANCHOR_INTR_A 3         /* port A asks the processor: a byte has come in, or the last one was taken */
 #define TOWANCHOR_STB_A 4          /* the outside puts a byte on port A */
 #define TOWANCHOR_IBF_A 5          /* that byte has not been fetched yet; it is high until the read ends */
@@ -77,13 +85,15 @@ extern "C" {
 #define TOWANCHOR_B_IN 2           /* into port B by STB: mode 1 input */
 #define TOWANCHOR_B_OUT 3          /* out of port B by ACK: mode 1 output */
 
-/* Tallies: what became of the bytes of a channel since power-up. Each byte that was offered is in one of the other four, unless
+/* Tallies: what became of the bytes of a channel since power-up. Each byte that was offered or planted is in one of the other five, unless
  * it waits. A tally at 65,535 goes on to 0. */
 #define TOWANCHOR_OFFERED 0        /* strobed in from outside, or written by the processor */
 #define TOWANCHOR_HANDED_OVER 1    /* read by the processor, or taken by the outside */
 #define TOWANCHOR_OVERWRITTEN 2    /* lost to the next byte, which came while this one waited */
 #define TOWANCHOR_SWALLOWED 3      /* lost to the end of a read that had begun before the byte came */
 #define TOWANCHOR_CLEARED 4        /* lost to a reset or a mode word */
+#define TOWANCHOR_PLANTED 5        /* put there by a flag that was forced, and not offered */
+#define TOWANCHOR_STRUCK 6         /* lost to a flag that was forced */
 
 /* Groups: a port with its pins of port C. A group's INTR has two halves: one asks for a read of the port, the other for a write. Mode 1
  * has one of them, by the port's direction; mode 2 has both, and either raises the pin; mode 0 has none, and the pin is a plain one. */
@@ -113,7 +123,7 @@ extern "C" {
 /* Makes the image that of a chip just powered up: all ports inputs in mode 0, outside levels low, all tallies 0. What stood in it
  * does not matter. Refuses nothing but a wrong length.
  *
- * Outside levels are low since the backplane pulls idle lines down; before this edition they were high. STB and ACK then start low,
+ * Outside levels are low since the backplane pulls idle lines down; in earlier versions they were high. STB and ACK then start low,
  * and only a fall counts: the outside has to raise such a line before it can use it. Until then its channel does not raise INTR, and
  * in mode 2 port A is driven, as it is whenever ACK is low. A host that counts on high lines calls towanchor_power_up_with_levels. */
 unsigned int towanchor_power_up(unsigned char *image, size_t length);
@@ -122,6 +132,11 @@ unsigned int towanchor_power_up(unsigned char *image, size_t length);
  * as if TOWANCHOR_OUTSIDE_LEVELS had come for each port after towanchor_power_up. */
 unsigned int towanchor_power_up_with_levels(unsigned char *image, size_t length, unsigned char levels_a, unsigned char levels_b,
                                             unsigned char levels_c);
+
+/* Makes an image of an older one: the image of the same state, in which nothing was planted or struck. 'older' points to
+ * 'older_length' bytes, which must be TOWANCHOR_OLDER_IMAGE_SIZE and are not written to; it shares none with 'image', in which it does not
+ * matter what stood. Refuses, with TOWANCHOR_NO_STATE, a wrong length of either, and bytes that are no older image. */
+unsigned int towanchor_convert(const unsigned char *older, size_t older_length, unsigned char *image, size_t length);
 
 /* Lets one event happen to the chip. Answers the number, and the byte (TOWANCHOR_BYTE) where the event is the beginning of a read
  * and is accepted; else that byte is 0. */

@@ -5,7 +5,8 @@
 #define GIVES(name, answer, value) typedef char name##_gives[name(answer) == (value) ? 1 : -1]
 #define GIVES_OF(name, answer, half, value) typedef char name##_gives_of_##half[name(answer, half) == (value) ? 1 : -1]
 
-IS(TOWANCHOR_IMAGE_SIZE, 64);
+IS(TOWANCHOR_IMAGE_SIZE, 96);
+IS(TOWANCHOR_OLDER_IMAGE_SIZE, 64);
 
 IS(TOWANCHOR_ACCEPTED, 0);
 IS(TOWANCHOR_NO_SUCH_KIND, 1);
@@ -47,6 +48,8 @@ IS(TOWANCHOR_HANDED_OVER, 1);
 IS(TOWANCHOR_OVERWRITTEN, 2);
 IS(TOWANCHOR_SWALLOWED, 3);
 IS(TOWANCHOR_CLEARED, 4);
+IS(TOWANCHOR_PLANTED, 5);
+IS(TOWANCHOR_STRUCK, 6);
 
 IS(TOWANCHOR_GROUP_A, 0);
 IS(TOWANCHOR_GROUP_B, 1);

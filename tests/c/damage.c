@@ -79,7 +79,7 @@ static int is_taken(const unsigned char *good, unsigned char kind)
 
     return towanchor_step(image, SIZE, 9, 0, 0) == TOWANCHOR_NO_SUCH_KIND &&
            TOWANCHOR_NUMBER(towanchor_pins(image, SIZE, TOWANCHOR_C)) == TOWANCHOR_ACCEPTED &&
-           TOWANCHOR_NUMBER(towanchor_tally(image, SIZE, TOWANCHOR_B_OUT, TOWANCHOR_CLEARED)) == TOWANCHOR_ACCEPTED &&
+           TOWANCHOR_NUMBER(towanchor_tally(image, SIZE, TOWANCHOR_B_OUT, TOWANCHOR_STRUCK)) == TOWANCHOR_ACCEPTED &&
            TOWANCHOR_NUMBER(towanchor_explain(image, SIZE, TOWANCHOR_GROUP_B)) == TOWANCHOR_ACCEPTED &&
            towanchor_explain(image, SIZE, 9) == TOWANCHOR_OUT_OF_RANGE && guarded_untouched(&guarded) &&
            TOWANCHOR_NUMBER(towanchor_step(image, SIZE, kind, 0, 0)) != TOWANCHOR_NO_STATE && is_image(image) &&

@@ -12,20 +12,19 @@
 
 static void each_phase(void (*judge)(void))
 {
-    static const unsigned char phases[][2] = {{IDLE, 0},
-                                              {READ_RUNS, TOWANCHOR_A},
-                                              {READ_RUNS, TOWANCHOR_B},
-                                              {READ_RUNS, TOWANCHOR_C},
-                                              {WRITE_RUNS, TOWANCHOR_A},
-                                              {WRITE_RUNS, TOWANCHOR_B},
-                                              {WRITE_RUNS, TOWANCHOR_C},
-                                              {WRITE_RUNS, TOWANCHOR_CONTROL}};
+    static const unsigned char phases[] = {IDLE,
+                                           READS + TOWANCHOR_A,
+                                           READS + TOWANCHOR_B,
+                                           READS + TOWANCHOR_C,
+                                           WRITES + TOWANCHOR_A,
+                                           WRITES + TOWANCHOR_B,
+                                           WRITES + TOWANCHOR_C,
+                                           WRITES + TOWANCHOR_CONTROL};
     size_t each;
 
-    for (each = 0; each < sizeof phases / sizeof phases[0]; each++) {
-        image[BUS] = phases[each][0];
-        image[BUS_PLACE] = phases[each][1];
-        image[BUS_BYTE] = image[BUS] == WRITE_RUNS ? image[0] : 0;
+    for (each = 0; each < sizeof phases; each++) {
+        image[BUS] = phases[each];
+        image[BUS_BYTE] = image[BUS] >= WRITES && image[BUS] < IDLE ? image[0] : 0;
         judge();
     }
 }

@@ -5,7 +5,7 @@
 #include <stddef.h>
 
 #define GUARD 32
-#define GUARDED_MOST 96
+#define GUARDED_MOST 128
 
 struct guarded {
     unsigned char bytes[GUARD + GUARDED_MOST + GUARD];

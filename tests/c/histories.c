@@ -1,5 +1,7 @@
 /* histories FOLDER COUNT: writes COUNT pseudo-random scripts to FOLDER, always the same ones: the traffic of scales and printers
  * under every mode word, and events of every kind, in order and out of it, good and bad, among lines that are no frames. */
+#include "drawn.h"
+
 #include <stdio.h>
 #include <stdlib.h>
 #include <string.h>
@@ -15,25 +17,9 @@ struct history {
     unsigned char outside; /* the levels last put on port C */
 };
 
-/* A number below 'bound', from a shift register with a fixed beginning. */
-static unsigned int any(unsigned int bound)
-{
-    static unsigned int state = 0x8255A;
-
-    state ^= state << 13;
-    state ^= state >> 17;
-    state ^= state << 5;
-    return state % bound;
-}
-
 static int one_in(unsigned int chances)
 {
     return any(chances) == 0;
-}
-
-static unsigned char any_byte(void)
-{
-    return (unsigned char)any(256);
 }
 
 static void put(struct history *history, const char *line, size_t length)

@@ -1,4 +1,4 @@
-/* Which of all images are good. Tallies (0 to 39), outside levels and latches (40 to 47) may have any value; the rest is judged. */
+/* Which of all images are good. Tallies (0 to 55), outside levels and latches (56 to 63) may have any value; the rest is judged. */
 #include "judgement.h"
 
 #include "layout.h"
@@ -23,12 +23,16 @@ static int good_settings(const unsigned char *image)
 static int good_bus(const unsigned char *image)
 {
     switch (image[BUS]) {
+    case READS + TOWANCHOR_A:
+    case READS + TOWANCHOR_B:
+    case READS + TOWANCHOR_C:
     case IDLE:
-        return image[BUS_PLACE] == 0 && image[BUS_BYTE] == 0;
-    case READ_RUNS:
-        return image[BUS_PLACE] <= 2 && image[BUS_BYTE] == 0;
-    case WRITE_RUNS:
-        return image[BUS_PLACE] <= 3;
+        return image[BUS_BYTE] == 0;
+    case WRITES + TOWANCHOR_A:
+    case WRITES + TOWANCHOR_B:
+    case WRITES + TOWANCHOR_C:
+    case WRITES + TOWANCHOR_CONTROL:
+        return 1;
     default:
         return 0;
     }
@@ -38,7 +42,7 @@ static int good_rest(const unsigned char *image)
 {
     int each;
 
-    for (each = FIRST_UNUSED; each < END; each++)
+    for (each = UNUSED; each < END; each++)
         if (image[each] != 0)
             return 0;
     return 1;

@@ -2,7 +2,7 @@
 #ifndef TESTS_JUDGEMENT_H
 #define TESTS_JUDGEMENT_H
 
-/* Whether 64 bytes are the image of a state. */
+/* Whether 96 bytes are the image of a state. */
 int is_image(const unsigned char *image);
 
 /* What an image of a state shows: whether a cycle runs, and whether some channel has a condition. */

@@ -3,22 +3,21 @@
 #ifndef TESTS_LAYOUT_H
 #define TESTS_LAYOUT_H
 
-#define TALLY_BYTES 10 /* of a channel */
-#define LEVELS_A 40
-#define LEVELS_C 42
-#define LATCH_C 43
-#define LATCH_A_IN 44
-#define CONDITION_A_IN 48
-#define CONDITION_A_OUT 49
-#define CONDITION_B_IN 50
-#define CONDITION_B_OUT 51
-#define MODE_WORD 52
-#define ENABLES 53
-#define BUS 54
-#define BUS_PLACE 55
-#define BUS_BYTE 56
-#define FIRST_UNUSED 57
-#define END 64
+#define TALLY_BYTES 14 /* of a channel */
+#define LEVELS_A 56
+#define LEVELS_C 58
+#define LATCH_C 59
+#define LATCH_A_IN 60
+#define CONDITION_A_IN 64
+#define CONDITION_A_OUT 65
+#define CONDITION_B_IN 66
+#define CONDITION_B_OUT 67
+#define MODE_WORD 68
+#define ENABLES 69
+#define BUS 70
+#define BUS_BYTE 71
+#define UNUSED 72 /* the first of those that are 0 */
+#define END 96
 
 /* The conditions of a channel. */
 #define EMPTY 0
@@ -30,9 +29,9 @@
 #define INTE_OUT_A 0x40
 #define INTE_B 0x04
 
-/* What the bus does. */
-#define IDLE 0
-#define READ_RUNS 1
-#define WRITE_RUNS 2
+/* What the bus does: a read at READS and its port, a write at WRITES and its address, nothing. A read of control is no image's. */
+#define READS 0
+#define WRITES 4
+#define IDLE 8
 
 #endif

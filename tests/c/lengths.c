@@ -1,5 +1,5 @@
-/* Every length from 0 to 96 but 64 is refused by number 8 by each function, and nothing is written; with 64, power-up makes the
- * one image of a chip just powered up of whatever stood there, with levels and without. */
+/* Every length from 0 to 128 but 96, that of older images among them, is refused by number 8 by each function, and nothing is written; with
+ * 96, power-up makes the one image of a chip just powered up of whatever stood there, with levels and without. */
 #include "checks.h"
 #include "guarded.h"
 #include "towanchor.h"

@@ -6,8 +6,8 @@
 
 #include <string.h>
 
-/* A machine that was saved after power-up when the default was every line high: the bytes that were written then. */
-static const unsigned char saved_before[TOWANCHOR_IMAGE_SIZE] = {
+/* A machine that was saved after power-up when the default was every line high, and an image was shorter: the bytes that were written then. */
+static const unsigned char saved_before[TOWANCHOR_OLDER_IMAGE_SIZE] = {
     0, 0, 0, 0, 0,    0, 0, 0, 0,    0,    0,    0, 0, 0, 0, 0,
     0, 0, 0, 0, 0,    0, 0, 0, 0,    0,    0,    0, 0, 0, 0, 0,
     0, 0, 0, 0, 0,    0, 0, 0, 0xFF, 0xFF, 0xFF, 0, 0, 0, 0, 0,
@@ -71,15 +71,17 @@ static void only_falls(unsigned char channel, unsigned char levels)
 
 int main(void)
 {
-    unsigned char by_default[TOWANCHOR_IMAGE_SIZE], channel;
+    unsigned char by_default[TOWANCHOR_IMAGE_SIZE], brought_over[TOWANCHOR_IMAGE_SIZE], channel;
     unsigned int value;
 
     check(towanchor_power_up(by_default, sizeof by_default) == TOWANCHOR_ACCEPTED, "power-up", 0);
     named(0, 0, 0);
     check(memcmp(image, by_default, sizeof image) == 0, "the default is every line low", 0);
     named(0xFF, 0xFF, 0xFF);
-    check(memcmp(image, saved_before, sizeof image) == 0, "every line high is the image that was saved before", 0);
-    memcpy(image, saved_before, sizeof image);
+    check(towanchor_convert(saved_before, sizeof saved_before, brought_over, sizeof brought_over) == TOWANCHOR_ACCEPTED,
+          "the machine that was saved before", 0);
+    check(memcmp(image, brought_over, sizeof image) == 0, "every line high is the image of the machine that was saved before", 0);
+    memcpy(image, brought_over, sizeof image);
     shows(TOWANCHOR_A, 0xFF);
     shows(TOWANCHOR_B, 0xFF);
     shows(TOWANCHOR_C, 0xFF);

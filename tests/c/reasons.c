@@ -58,7 +58,7 @@ static int line_is_low(unsigned char channel)
 
 static int own_cycle_runs(unsigned char channel)
 {
-    return image[BUS] == (is_input(channel) ? READ_RUNS : WRITE_RUNS) && image[BUS_PLACE] == ways[channel].port;
+    return image[BUS] == (is_input(channel) ? READS : WRITES) + ways[channel].port;
 }
 
 static unsigned int reason(unsigned char group, unsigned char half)

@@ -72,8 +72,8 @@ static void views(void)
         unsigned char operand = (unsigned char)value;
 
         shown(towanchor_pins(image, SIZE, operand), value <= TOWANCHOR_C, "the pins of a port", value);
-        shown(towanchor_tally(image, SIZE, operand, TOWANCHOR_CLEARED), value <= TOWANCHOR_B_OUT, "a tally of a channel", value);
-        shown(towanchor_tally(image, SIZE, TOWANCHOR_B_OUT, operand), value <= TOWANCHOR_CLEARED, "a channel's tally", value);
+        shown(towanchor_tally(image, SIZE, operand, TOWANCHOR_STRUCK), value <= TOWANCHOR_B_OUT, "a tally of a channel", value);
+        shown(towanchor_tally(image, SIZE, TOWANCHOR_B_OUT, operand), value <= TOWANCHOR_STRUCK, "a channel's tally", value);
         shown(towanchor_explain(image, SIZE, operand), value <= TOWANCHOR_GROUP_B, "the INTR of a group", value);
     }
     check(memcmp(before, image, SIZE) == 0, "what is shown or refused wrote", 0);

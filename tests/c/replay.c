@@ -10,7 +10,7 @@
 #include <string.h>
 
 #define ROOM 512
-#define STRIDE 91 /* odd, so that the image comes to lie at every alignment, and longer than the image */
+#define STRIDE 101 /* odd, so that the image comes to lie at every alignment, and longer than the image */
 
 struct place {
     unsigned char room[ROOM];
@@ -60,7 +60,7 @@ static void write_tallies(struct place *place, FILE *tallies)
 
     for (channel = TOWANCHOR_A_IN; channel <= TOWANCHOR_B_OUT; channel++) {
         fprintf(tallies, "%u", channel);
-        for (tally = TOWANCHOR_OFFERED; tally <= TOWANCHOR_CLEARED; tally++)
+        for (tally = TOWANCHOR_OFFERED; tally <= TOWANCHOR_STRUCK; tally++)
             fprintf(tallies, " %u", TOWANCHOR_TALLY(towanchor_tally(image(place), TOWANCHOR_IMAGE_SIZE, channel, tally)));
         fprintf(tallies, "\n");
     }

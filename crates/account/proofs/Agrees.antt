@@ -28,8 +28,8 @@ use Rattle.account.proofs.Columns.{takes-same, gives-same, takes-here, 
 use Rattle.account.proofs.Signals.{strobe-stands, acknowledge-stands}
 use Rattle.account.proofs.ByEvent.{seven, seven-next}
 use Rattle.account.proofs.Pins.{bit-next}
-use Rattle.account.proofs.Moves.{full, vacant}
-use Rattle.account.proofs.Ports.{output-next, obf-next, input-next, ibf-next}
+use Rattle.account.proofs.Moves.{full, vacant, given}
+use Rattle.account.proofs.Ports.{output-next, obf-next, input-next, ibf-next, given-next}
 use Rattle.account.proofs.Waves.{Even, even-next}
 
 -- The account has what the chip has.
@@ -40,6 +40,7 @@ pub record Agrees (c : Chip) (a : Account) : Type 0 where
   pub input : (g : Group) → a .input g ≡ channelOf (c .core) g Input .latch
   pub ibf : (g : Group) → a .ibf g ≡ full (channelOf (c .core) g Input)
   pub obf : (g : Group) → a .obf g ≡ vacant (channelOf (c .core) g Output)
+  pub given : (g : Group) → a .given g ≡ given (channelOf (c .core) g Input)
   pub even : Even a
 
 -- The surroundings, with bit 7 of the word counted as set.
@@ -52,8 +53,9 @@ agrees-next c a e k = record {
   bit = λ n hn. rw (k .surroundings, k .bit n hn) (bit-next c n hn e);
   output = λ g. rw (k .surroundings, k .output g) (sym (output-next c g e));
   input = λ g. rw (k .surroundings, k .input g) (sym (input-next c g e));
-  ibf = λ g. rw (k .surroundings, k .ibf g) (sym (ibf-next c g e));
+  ibf = λ g. rw (k .surroundings, k .ibf g, k .given g) (sym (ibf-next c g e));
   obf = λ g. rw (k .surroundings, k .obf g) (sym (obf-next c g e));
+  given = λ g. rw (k .surroundings, k .ibf g, k .given g) (sym (given-next c g e));
   even = even-next a (k .even) e;
 }
 
@@ -98,6 +100,7 @@ module _ (c : Chip) where
     input = λ g. refl;
     ibf = λ g. refl;
     obf = λ g. refl;
+    given = λ g. refl;
     even = even-here;
   }
 
@@ -111,6 +114,7 @@ agrees-opened l = record {
   input = zeros Input;
   ibf = empty;
   obf = room;
+  given = none;
   even = low;
 }
   where
@@ -127,6 +131,10 @@ agrees-opened l = record {
     room : (g : Group) → true ≡ vacant (channelOf (powerUpWith l .core) g Output)
     room A = refl
     room B = refl
+
+    none : (g : Group) → false ≡ given (channelOf (powerUpWith l .core) g Input)
+    none A = refl
+    none B = refl
 
     low : Even (opened l)
     low g Input = sym (and-false (Account·strobed (atPowerUp l) g Input))

@@ -1,6 +1,6 @@
 -- What bit set/reset does to port C's latch and to the enables, by what the pin is.
--- Rests on Signals, and on bits' BitLaws.
-use mathlib.Core.Path.{_≡_, _∙_, refl, sym}
+-- Rests on Signals, and on bits' BitLaws and chip's OneChannel.
+use mathlib.Core.Path.{_≡_, _∙_, refl, ap, sym}
 use mathlib.Core.Bool.{Bool, true, false, cond, _&&_, and-false, and-true}
 use Prim.Native.Nat.{ℕ, _<_}
 use lib.Dec.{eqb}
@@ -14,10 +14,12 @@ use Rattle.roles.specs.Role
 use Rattle.roles.specs.Pins.{isOutput}
 use Rattle.channel.specs.declared.Side.{Side}
 use Rattle.channel.specs.declared.Side.the-variants.{Input, Output}
+use Rattle.channel.specs.Moves.{afterForce}
 use Rattle.chip.specs.declared.Enables.{Enables}
 use Rattle.chip.specs.declared.Core.{Core}
 use Rattle.chip.specs.Handshakes.{groupAt, enableOf}
-use Rattle.settings.specs.ControlWord.{enabled, setAs}
+use Rattle.chip.proofs.OneChannel.{channel-lines, channel-enables}
+use Rattle.settings.specs.ControlWord.{enabled, flagPut, setAs}
 use Rattle.fates.specs.Effects.{strobePin}
 use Rattle.account.specs.Summary.{Signal, io, INTR, IBF, OBF, STB, ACK, signalAt, isIn, freeOut}
 use Rattle.account.proofs.Signals.{roleBy, by-signal}
@@ -28,8 +30,8 @@ pub set-latch : (c : Core) (n : ℕ) (v : Bool) (s : Signal) (inward : Bool)
 set-latch c n v io true = refl
 set-latch c n v io false = refl
 set-latch c n v (INTR g) inward = refl
-set-latch c n v (IBF g) inward = refl
-set-latch c n v (OBF g) inward = refl
+set-latch c n v (IBF g) inward = ap (λ l. l .latch) (channel-lines c (λ s. afterForce s v) (groupAt n) Input)
+set-latch c n v (OBF g) inward = ap (λ l. l .latch) (channel-lines c (λ s. afterForce s v) (groupAt n) Output)
 set-latch c n v (STB g) inward = refl
 set-latch c n v (ACK g) inward = refl
 
@@ -95,11 +97,14 @@ module _ (c : Core) (n : ℕ) (hn : n < 8) (v : Bool) (w : ℕ) (g : Group) (s :
 
   pub set-enable : Put (signalAt w n)
   set-enable =
-      by-signal Put n (free (isIn w n)) (sym none-put) (sym none-put) (sym none-put)
+      by-signal Put n (free (isIn w n)) (sym none-put) (forced Input) (forced Output)
       (λ h at. rw (at) (put-one (c .inte) v h Input g s))
       (λ h at. rw (at) (put-one (c .inte) v h Output g s))
       w hn
     where
+      forced : (t : Side) → enableOf (flagPut c (groupAt n) t v .inte) g s ≡ cond (eqb (strobePin g s) n && false) v (enableOf (c .inte) g s)
+      forced t = ap (λ e. enableOf e g s) (channel-enables c (λ s. afterForce s v) (groupAt n) t) ∙ sym none-put
+
       free : (inward : Bool) → enableOf (setAs c n v (cond inward Role.input Role.output) .inte) g s ≡ cond (eqb (strobePin g s) n && false) v (enableOf (c .inte) g s)
       free true = sym none-put
       free false = sym none-put

@@ -7,7 +7,6 @@ pub mod ByEvent
 pub mod Waves
 pub mod ByAct
 pub mod Kept
-pub mod PinNamed
 pub mod BitSet
 pub mod Pins
 pub mod Moves

@@ -1,18 +1,22 @@
--- What each move of a channel leaves of its latch and of its flag, in the account's shapes.
--- Rests on bits' Logic and the channel's ConditionsLeft.
+-- What each move of a channel leaves of its latch, of its flag and of a byte that was given, in the account's shapes.
+-- Rests on bits' Logic, the channel's ConditionsLeft and laws' Forcing.
 use mathlib.Core.Path.{_≡_, _∙_, refl, ap, sym}
 use mathlib.Core.Bool.{Bool, true, false, cond, not, _&&_, _||_, and-false, and-true, or-false, or-true}
 use Prim.Native.Nat.{ℕ}
 use Rattle.bits.proofs.Logic.{either-way}
+use Rattle.channel.specs.declared.Side.{Side}
+use Rattle.channel.specs.declared.Side.the-variants.{Input, Output}
 use Rattle.channel.specs.declared.Fill.{Fill}
 use Rattle.channel.specs.declared.Fill.the-variants.{Empty, Waiting, Fetching}
 use Rattle.channel.specs.declared.Channel.{Channel}
-use Rattle.channel.specs.Channel.{isWaiting, isEmpty}
-use Rattle.channel.specs.Moves.{afterOffer, afterFollow, afterHandOver, afterEndRead}
-use Rattle.channel.proofs.ConditionsLeft.{leaves, offer-waits, offer-latches, follow-stays, follow-latches, hand-over-leaves, hand-over-keeps, end-read-empties, end-read-keeps}
+use Rattle.channel.specs.Channel.{isWaiting, isEmpty, flagOf}
+use Rattle.channel.specs.Moves.{afterOffer, afterFollow, afterHandOver, afterEndRead, afterForce}
+use Rattle.channel.proofs.ConditionsLeft.{leaves, offer-waits, offer-latches, follow-stays, follow-latches, hand-over-leaves, hand-over-keeps, end-read-empties, end-read-keeps, forcedTo, force-leaves, force-keeps}
 use Rattle.chip.specs.declared.Port.{Port}
 use Rattle.chip.specs.State.{withOutput}
 use Rattle.writes.specs.Write.{storedIn}
+use Rattle.laws.specs.Forcing.{isFetching}
+use Rattle.laws.proofs.Forcing.{forced-flag}
 
 -- IBF and OBF of a channel.
 abbrev pub full : Channel → Bool
@@ -20,6 +24,10 @@ full ch = not (isEmpty (ch .fill))
 
 abbrev pub vacant : Channel → Bool
 vacant ch = not (isWaiting (ch .fill))
+
+-- A read has been given the byte.
+abbrev pub given : Channel → Bool
+given ch = isFetching (ch .fill)
 
 -- A port after a write: own, to this port; out, an output; on, a strobed one.
 module _ (p : Port) (d : ℕ) where
@@ -61,6 +69,49 @@ module _ (ch : Channel) where
   ended-full false true = sym (and-true (full ch))
   ended-full false false = sym (and-true (full ch))
 
+  pub begun-given : (on own : Bool) → given (cond (on && own) (afterHandOver ch Fetching) ch) ≡ (given ch || (full ch && (own && on)))
+  begun-given true true = ap isFetching (hand-over-leaves ch Fetching) ∙ go (ch .fill)
+    where
+      go : (f : Fill) → isFetching (leaves f Fetching) ≡ (isFetching f || (not (isEmpty f) && true))
+      go Empty = refl
+      go Waiting = refl
+      go Fetching = refl
+  begun-given true false = rw (and-false (full ch)) (sym (or-false (given ch)))
+  begun-given false true = rw (and-false (full ch)) (sym (or-false (given ch)))
+  begun-given false false = rw (and-false (full ch)) (sym (or-false (given ch)))
+
+  pub ended-given : (on own : Bool) → given (cond (on && own) (afterEndRead ch) ch) ≡ (given ch && not (own && on))
+  ended-given true true = rw (end-read-empties ch) (sym (and-false (given ch)))
+  ended-given true false = sym (and-true (given ch))
+  ended-given false true = sym (and-true (given ch))
+  ended-given false false = sym (and-true (given ch))
+
+  -- A flag that is forced, where the channel takes part.
+  pub forced-full : (b v : Bool) → full (cond b (afterForce Input v ch) ch) ≡ cond b (v || given ch) (full ch)
+  unfolding flagOf
+  forced-full true v = ap (flagOf Input) (force-leaves Input v ch) ∙ forced-flag Input v (ch .fill)
+  forced-full false v = refl
+
+  pub forced-vacant : (b v : Bool) → vacant (cond b (afterForce Output v ch) ch) ≡ cond b v (vacant ch)
+  unfolding flagOf
+  forced-vacant true v = ap (flagOf Output) (force-leaves Output v ch) ∙ forced-flag Output v (ch .fill)
+  forced-vacant false v = refl
+
+  pub forced-given : (b v : Bool) → given (cond b (afterForce Input v ch) ch) ≡ given ch
+  forced-given true v = ap isFetching (force-leaves Input v ch) ∙ go v (ch .fill)
+    where
+      go : (v : Bool) (f : Fill) → isFetching (forcedTo Input v f) ≡ isFetching f
+      go true Empty = refl
+      go true Waiting = refl
+      go true Fetching = refl
+      go false Empty = refl
+      go false Waiting = refl
+      go false Fetching = refl
+  forced-given false v = refl
+
+  pub forced-latch : (s : Side) (b v : Bool) → cond b (afterForce s v ch) ch .latch ≡ ch .latch
+  forced-latch s b v = either-way (λ (r : Channel). r .latch) (ch .latch) b (afterForce s v ch) ch (force-keeps s v ch) refl
+
   pub handed-latch : (left : Fill) (b : Bool) → cond b (afterHandOver ch left) ch .latch ≡ ch .latch
   handed-latch left b = either-way (λ (r : Channel). r .latch) (ch .latch) b (afterHandOver ch left) ch (hand-over-keeps ch left) refl
 
@@ -91,6 +142,17 @@ module _ (ch : Channel) where
   under-full l d two false fell b =
       rw (and-false two)
       (either-way full (full ch || false) b (afterFollow ch d) ch (rw (follow-stays ch d) (sym (or-false (full ch)))) (sym (or-false (full ch))))
+
+  pub under-given : (l d : ℕ) (two on fell b : Bool) → given (under l d (two && (on && fell)) b) ≡ (given ch && not (on && (two && fell)))
+  under-given l d two true fell b = go (two && fell) b
+    where
+      go : (a b : Bool) → given (under l d a b) ≡ (given ch && not a)
+      go true b = rw (offer-waits ch l) (sym (and-false (given ch)))
+      go false true = rw (follow-stays ch d) (sym (and-true (given ch)))
+      go false false = sym (and-true (given ch))
+  under-given l d two false fell b =
+      rw (and-false two)
+      (either-way given (given ch && true) b (afterFollow ch d) ch (rw (follow-stays ch d) (sym (and-true (given ch)))) (sym (and-true (given ch))))
 
   -- The fall of ACK, to an output.
   pub taken-vacant : (two on fell : Bool) → vacant (cond (two && (on && fell)) (afterHandOver ch Empty) ch) ≡ (vacant ch || (on && (two && fell)))

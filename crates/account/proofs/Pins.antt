@@ -1,5 +1,5 @@
 -- The bit that a program puts at a pin of port C goes on as the account says: the latch of a free pin, or the enable of a line.
--- Rests on ByAct, Words, Columns, Signals, PinNamed, BitSet and Kept, on bits' BitLaws and Tested, and on settings' PortsAfter.
+-- Rests on ByAct, Words, Columns, Signals, BitSet and Kept, on bits' BitLaws and Tested, on settings' PortsAfter, and on fates' PinNamed.
 use mathlib.Core.Path.{_≡_, _∙_, refl, ap, sym}
 use mathlib.Core.Bool.{Bool, true, false, cond, _&&_, _||_, and-false}
 use Prim.Native.Nat.{ℕ, _/_, _%_, _<_}
@@ -20,10 +20,11 @@ use Rattle.chip.specs.State.{noEnables}
 use Rattle.chip.specs.Handshakes.{enableOf}
 use Rattle.settings.specs.ModeWord.{afterModeWord}
 use Rattle.settings.specs.ControlWord.{setAs, pinSet, afterControlWord}
-use Rattle.settings.proofs.PortsAfter.{mode-word-latch, mode-word-enables, bit-word, bit-spares}
+use Rattle.settings.proofs.PortsAfter.{mode-word-latch, mode-word-enables, bit-word, bit-put}
 use Rattle.writes.specs.Write.{latchWritten, writable}
 use Rattle.step.specs.Step.{stepped}
 use Rattle.fates.specs.Effects.{strobePin}
+use Rattle.fates.proofs.PinNamed.{pin-same}
 use Rattle.account.specs.Summary.{columnOf, isPlain, Signal, io, INTR, IBF, OBF, STB, ACK, signalAt, isIn, settable, freeOut, reached}
 use Rattle.account.specs.Acts.{written, act}
 use Rattle.account.specs.Account.{names, bitAfter}
@@ -33,7 +34,6 @@ use Rattle.account.proofs.Columns.{plain-same}
 use Rattle.account.proofs.Signals.{roleBy, role-same, by-signal}
 use Rattle.account.proofs.ByAct.{latched, by-act}
 use Rattle.account.proofs.Kept.{Kept, kept-begun, kept-ended, kept-stored, kept-levelled}
-use Rattle.account.proofs.PinNamed.{pin-same}
 use Rattle.account.proofs.BitSet.{set-latch, put-bit, moved, out-same, isLine, set-enable}
 
 no-bit : (n : ℕ) → n < 8 → bitOf 0 n ≡ false
@@ -120,7 +120,7 @@ module _ (c : Chip) (n : ℕ) (hn : n < 8) where
       let same : afterControlWord core d ≡ set m (omega arith) v = bit-word core d seven ∙ ap (setAs core m v) (role-same w m (omega arith)) in
       put-here x d
       ∙ rw (eqb-true x 3 three, pin-same d) (set-bit m (omega arith) v)
-      ∙ sym (ap (λ (u : ℕ). bitHere (afterControlWord core d) n (signalAt u n)) (bit-spares core d seven .word)
+      ∙ sym (ap (λ (u : ℕ). bitHere (afterControlWord core d) n (signalAt u n)) (bit-put core d seven .surroundings .word)
       ∙ ap (λ (c′ : Core). bitHere c′ n (signalAt w n)) same)
 
   abbrev Written : ℕ → Signal → Type 0

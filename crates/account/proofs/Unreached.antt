@@ -20,7 +20,7 @@ use Rattle.account.specs.Account.{Account}
 use Rattle.account.specs.Promise.{withBit7, surroundingsHere, bitHere, accountOf, Accounted}
 use Rattle.account.specs.Unreached.{withCondition, withWord, SameSight}
 use Rattle.account.proofs.Words.{signal-alike, with-bit-7-alike}
-use Rattle.account.proofs.Moves.{full, vacant}
+use Rattle.account.proofs.Moves.{full, vacant, given}
 use Rattle.account.proofs.Pins.{same-bit}
 use Rattle.account.proofs.Agrees.{Agrees, agrees-of}
 use Rattle.account.proofs.Account.{accounted, account-from}
@@ -47,6 +47,7 @@ record SameChannels (c c′ : Chip) (h : Group) : Type 0 where
   input : channelOf (c .core) h Input .latch ≡ channelOf (c′ .core) h Input .latch
   ibf : full (channelOf (c .core) h Input) ≡ full (channelOf (c′ .core) h Input)
   obf : vacant (channelOf (c .core) h Output) ≡ vacant (channelOf (c′ .core) h Output)
+  given : given (channelOf (c .core) h Input) ≡ given (channelOf (c′ .core) h Input)
 
 -- One chip's account agrees with another that has the same surroundings, bits and channels.
 agrees-like : (c c′ : Chip) → surroundingsHere c ≡ surroundingsHere c′ → ((n : ℕ) → signalAt (withBit7 (c .core .word)) n ≡ signalAt (c′ .core .word) n)
@@ -58,6 +59,7 @@ agrees-like c c′ surroundings signals latch enables same = record {
   input = λ h. same h .input;
   ibf = λ h. same h .ibf;
   obf = λ h. same h .obf;
+  given = λ h. same h .given;
   even = agrees-of c .even;
 }
 
@@ -66,10 +68,10 @@ signals-here c = signal-alike (withBit7 (c .core .word)) (c .core .word) (with-b
 
 -- An output marked fetching, and the same output empty.
 same-channels : (c : Chip) (g h : Group) → SameChannels (withCondition c g Fetching) (withCondition c g Empty) h
-same-channels c A A = record { output = refl; input = refl; ibf = refl; obf = refl }
-same-channels c A B = record { output = refl; input = refl; ibf = refl; obf = refl }
-same-channels c B A = record { output = refl; input = refl; ibf = refl; obf = refl }
-same-channels c B B = record { output = refl; input = refl; ibf = refl; obf = refl }
+same-channels c A A = record { output = refl; input = refl; ibf = refl; obf = refl; given = refl }
+same-channels c A B = record { output = refl; input = refl; ibf = refl; obf = refl; given = refl }
+same-channels c B A = record { output = refl; input = refl; ibf = refl; obf = refl; given = refl }
+same-channels c B B = record { output = refl; input = refl; ibf = refl; obf = refl; given = refl }
 
 agrees-empty : (c : Chip) (g : Group) → Agrees (withCondition c g Empty) (accountOf (withCondition c g Fetching))
 agrees-empty c A = agrees-like (withCondition c A Fetching) (withCondition c A Empty) refl (signals-here c) refl refl (same-channels c A)
@@ -96,5 +98,5 @@ bit-7-unseen c w =
     (agrees-like (withWord c w) (withWord c (withBit7 w)) (rw (counted-set w)) (λ n. refl) refl refl same)
   where
     same : (h : Group) → SameChannels (withWord c w) (withWord c (withBit7 w)) h
-    same A = record { output = refl; input = refl; ibf = refl; obf = refl }
-    same B = record { output = refl; input = refl; ibf = refl; obf = refl }
+    same A = record { output = refl; input = refl; ibf = refl; obf = refl; given = refl }
+    same B = record { output = refl; input = refl; ibf = refl; obf = refl; given = refl }

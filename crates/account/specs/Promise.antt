@@ -19,6 +19,7 @@ use Rattle.status.specs.Reasons.{explainedOf, numbersOf}
 use Rattle.ports.specs.Reads.{readOf}
 use Rattle.ports.specs.Pins.{pinsOf}
 use Rattle.step.specs.Step.{stepped}
+use Rattle.laws.specs.Forcing.{isFetching}
 use Rattle.fates.specs.Kinds.{kindOf}
 use Rattle.fates.specs.Surroundings.{Surroundings}
 use Rattle.fates.specs.Promise.{run}
@@ -75,6 +76,7 @@ accountOf c = record {
   input = λ g. channelOf (c .core) g Input .latch;
   ibf = λ g. flagHere (c .core) g Input;
   obf = λ g. flagHere (c .core) g Output;
+  given = λ g. isFetching (channelOf (c .core) g Input .fill);
   asks = asksHere c;
 }
 

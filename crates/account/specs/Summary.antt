@@ -2,10 +2,10 @@
 -- words", "Port C roles", "Reads and pins"). It asks the mode word for single bits, and bit 7 for nothing.
 use mathlib.Core.Bool.{Bool, true, false, cond, not, _&&_, _||_}
 use mathlib.Core.List.{List, [], _∷_}
-use Prim.Native.Nat.{ℕ, _+_, _*_}
+use Prim.Native.Nat.{ℕ}
 use lib.Dec.{ltb}
 use lib.ListN.{getD}
-use Rattle.bits.specs.Bit.{bitOf, num}
+use Rattle.bits.specs.Bit.{bitOf}
 use Rattle.control.specs.declared.Group.{Group}
 use Rattle.control.specs.declared.Group.the-variants.{A, B}
 
@@ -103,7 +103,8 @@ driven (OBF g) inward = true
 driven (STB g) inward = false
 driven (ACK g) inward = false
 
--- Bit set/reset has a bit to put there: that of a free output, or the INTE of STB or ACK ("Writes and bit set/reset").
+-- Bit set/reset has a bit to put there: that of a free output, or the INTE of STB or ACK ("Writes and bit set/reset"). A flag that it forces is
+-- no bit that it puts.
 abbrev pub settable : Signal → Bool → Bool
 settable io inward = not inward
 settable (INTR g) inward = false
@@ -124,7 +125,3 @@ freeOut (ACK g) inward = false
 -- A write to port C reaches pin n: a free output, in the upper half only while group A has no handshake.
 abbrev pub reached : ℕ → ℕ → Bool
 reached w n = freeOut (signalAt w n) (isIn w n) && (ltb n 4 || isPlain (columnOf w A))
-
--- The pin that a bit set/reset word names, in its bits 3 to 1.
-abbrev pub pinNamed : ℕ → ℕ
-pinNamed d = num (bitOf d 1) + 2 * num (bitOf d 2) + 4 * num (bitOf d 3)

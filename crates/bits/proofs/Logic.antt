@@ -1,8 +1,11 @@
--- What follows of truth values: a contradiction, the parts of a conjunction and of a disjunction, and what holds either way.
+-- What follows of truth values: a contradiction, the parts of a conjunction and of a disjunction, what holds either way, and a test of two
+-- numbers turned round.
 -- Rests on nothing.
 use mathlib.Core.Path.{_≡_, _∙_, refl, sym, subst}
 use mathlib.Core.Bool.{Bool, true, false, cond, _&&_, _||_, and-eq-true-iff}
-use lib.Dec.{T}
+use Prim.Native.Nat.{ℕ}
+use lib.Dec.{T, eqb}
+use borrow.Author.Tests.{eqb-true, eqb-false, eq-eqb, ne-eqb}
 
 -- What is so and not so.
 pub contrary : (b : Bool) → b ≡ false → b ≡ true → ⊥
@@ -31,3 +34,11 @@ by-test P false y n hy hn = hn refl
 pub either-way : {X Y : Type 0} (P : X → Y) (v : Y) (b : Bool) (y n : X) → P y ≡ v → P n ≡ v → P (cond b y n) ≡ v
 either-way P v true y n hy hn = hy
 either-way P v false y n hy hn = hn
+
+-- One number is another exactly where that is the one.
+pub turned : (m n : ℕ) → eqb m n ≡ eqb n m
+turned m n = go (eqb n m) refl
+  where
+    go : (b : Bool) → eqb n m ≡ b → eqb m n ≡ b
+    go true same = eq-eqb m n (sym (eqb-true n m same))
+    go false other = ne-eqb m n (λ e. eqb-false n m other (sym e))

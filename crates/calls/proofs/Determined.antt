@@ -1,8 +1,10 @@
--- The contract of each public function of image and of calls leaves no choice: of the answer, and of every byte of a slice that is written.
+-- The contract of each public function of image, of older and of calls leaves no choice: of the answer, and of every byte of a slice that
+-- is written.
 -- Rests on bits' Determined.
-use mathlib.Core.Path.{refl}
+use mathlib.Core.Path.{refl, ap}
 use Rattle.bits.proofs.Determined.{Determines, equation-determines, equations-determine}
 use Rattle.image.proofs as image
+use Rattle.older.proofs as older
 use Rattle.calls.proofs as calls
 
 pub good-determined : Determines image.check.good.ended image.check.good.Reads.Learnt
@@ -17,12 +19,28 @@ load-determined c x y = equation-determines
 pub save-determined : Determines image.save.state.ended image.save.state.Reads.Learnt
 save-determined c x y p q = equations-determine (refl, p) (refl, q)
 
+pub save-core-determined : Determines image.save.core.ended image.save.core.Reads.Learnt
+save-core-determined c x y p q = equations-determine (refl, p) (refl, q)
+
+pub save-bus-determined : Determines image.save.bus.ended image.save.bus.Reads.Learnt
+save-bus-determined c x y p q = equations-determine (refl, p) (refl, q)
+
+pub older-good-determined : Determines older.good.ended older.good.Reads.Learnt
+older-good-determined c x y = equation-determines
+
+pub convert-determined : Determines older.convert.ended older.convert.Reads.Learnt
+convert-determined c x y p q = ap (λ z. (z .0, (tt, z .1))) (equations-determine (refl, p) (refl, q))
+
 pub towanchor-power-up-determined : Determines calls.towanchor_power_up.ended calls.towanchor_power_up.Reads.Learnt
 towanchor-power-up-determined c x y = equations-determine
 
 pub towanchor-power-up-with-levels-determined
     : Determines calls.towanchor_power_up_with_levels.ended calls.towanchor_power_up_with_levels.Reads.Learnt
 towanchor-power-up-with-levels-determined c x y = equations-determine
+
+-- Before the image stands the older one, which is not written.
+pub towanchor-convert-determined : Determines calls.towanchor_convert.ended calls.towanchor_convert.Reads.Learnt
+towanchor-convert-determined c x y p q = ap (λ z. (z .0, (tt, z .1))) (equations-determine p q)
 
 pub towanchor-step-determined : Determines calls.towanchor_step.ended calls.towanchor_step.Reads.Learnt
 towanchor-step-determined c x y = equations-determine

@@ -1,4 +1,5 @@
-pub mod Asked
+pub mod Running
 pub mod Stepping
 pub mod HostStep
+pub mod Converted
 pub mod Determined

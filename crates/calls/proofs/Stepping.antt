@@ -1,5 +1,5 @@
 -- What the step of an image answers and leaves, by the number of the event.
--- Rests on the outcomes of a step (step's Outcome), and on image's Long.
+-- Rests on the outcomes of a step (step's Outcome).
 use mathlib.Core.Path.{_≡_, _∙_, sym}
 use mathlib.Core.Bool.{true}
 use mathlib.Core.List.{List}
@@ -10,10 +10,9 @@ use Rattle.bus.specs.Device.{afterIn, byteIn}
 use Rattle.bus.specs.Refusals.{numberOf}
 use Rattle.step.specs.Step.{limits, device}
 use Rattle.step.proofs.Outcome.{step-accepts, step-refuses}
+use Rattle.image.specs.Layout.{imageOf}
 use Rattle.image.specs.Loaded.{stateOf}
 use Rattle.image.specs.Good.{isImage}
-use Rattle.image.specs.Slices.{savedIn}
-use Rattle.image.proofs.Long.{saved}
 use Rattle.calls.specs.Calls.{packed, stepAnswer, stepImage}
 
 module _ (l : List ℕ) (k x d n : ℕ) (good : isImage l ≡ true)
@@ -33,6 +32,6 @@ module _ (l : List ℕ) (k x d n : ℕ) (good : isImage l ≡ true)
   unfolding stepAnswer
   accepted-answer zero = rw (good, step-accepts (stateOf l) k x d (sym asked ∙ zero))
 
-  pub accepted-image : n ≡ 0 → savedIn l (afterIn device (stateOf l) k x d) ≡ stepImage l k x d
+  pub accepted-image : n ≡ 0 → imageOf (afterIn device (stateOf l) k x d) ≡ stepImage l k x d
   unfolding stepImage
-  accepted-image zero = rw (saved l (afterIn device (stateOf l) k x d) good, good, step-accepts (stateOf l) k x d (sym asked ∙ zero))
+  accepted-image zero = rw (good, step-accepts (stateOf l) k x d (sym asked ∙ zero))

@@ -22,6 +22,8 @@ use Rattle.image.specs.Layout.{imageOf}
 use Rattle.image.specs.Loaded.{stateOf}
 use Rattle.image.specs.Good.{isImage}
 use Rattle.image.specs.Slices.{savedIn}
+use Rattle.older.specs.Loaded.{olderState}
+use Rattle.older.specs.Good.{isOlder}
 
 -- A number with two bytes above it.
 abbrev pub packed : ℕ → ℕ → ℕ → ℕ
@@ -51,7 +53,7 @@ abbrev pub lastChannel : ℕ
 lastChannel = 3
 
 abbrev pub lastTally : ℕ
-lastTally = 4
+lastTally = 6
 
 -- Power-up asks nothing of the bytes but their number, and writes over them.
 abbrev pub powerUpAnswer : List ℕ → ℕ
@@ -64,6 +66,14 @@ powerUpImage l = savedIn l powerUp
 -- and where those of ports A, B and C are.
 abbrev pub powerUpImageWith : List ℕ → ℕ → ℕ → ℕ → List ℕ
 powerUpImageWith l a b c = savedIn l (powerUpWith (levelsBy a b c))
+
+-- An older image is asked for first; then, as power-up does, nothing of the bytes that are written over but their number.
+unfoldable pub convertAnswer : List ℕ → List ℕ → ℕ
+convertAnswer o l = cond (isOlder o) (powerUpAnswer l) noState
+
+-- What is written is the image of the state that the older image tells. A refusal writes nothing.
+unfoldable pub convertImage : List ℕ → List ℕ → List ℕ
+convertImage o l = cond (isOlder o) (savedIn l (olderState o)) l
 
 -- The step of the state that the image tells.
 abbrev pub stepOn : List ℕ → ℕ → ℕ → ℕ → Stepped
@@ -100,7 +110,9 @@ counterNumbered t n =
     (cond (eqb n 1) (t .handed)
     (cond (eqb n 2) (t .overwritten)
     (cond (eqb n 3) (t .swallowed)
-    (t .cleared))))
+    (cond (eqb n 4) (t .cleared)
+    (cond (eqb n 5) (t .planted)
+    (t .struck))))))
 
 -- Tally n of channel k, in two bytes.
 unfoldable pub tallyAnswer : List ℕ → ℕ → ℕ → ℕ

@@ -1,8 +1,9 @@
-// The functions that a host in C links, over a chip that it keeps as an image: power-up, the step, the pin view, the tallies, and why an
-// INTR is low. Each answer is one number: the refusal in its lowest byte, and what is given above it. include/towanchor.h declares them.
+// The functions that a host in C links, over a chip that it keeps as an image: power-up, an older image made one, the step, the pin
+// view, the tallies, and why an INTR is low. Each answer is one number: the refusal in its lowest byte, and what is given above it.
+// include/towanchor.h declares them.
 ghost use mathlib.Core.Path.{_≡_};
 ghost use Rattle.image.specs.Slices.{savedIn};
-ghost use Rattle.calls.specs.Calls.{packed, powerUpAnswer, powerUpImage, powerUpImageWith, stepAnswer, stepImage, pinsGiven, pinsAnswer, groupNumbered, sideNumbered, counterNumbered, tallyAnswer, reasonsGiven, explainAnswer};
+ghost use Rattle.calls.specs.Calls.{packed, powerUpAnswer, powerUpImage, powerUpImageWith, convertAnswer, convertImage, stepAnswer, stepImage, pinsGiven, pinsAnswer, groupNumbered, sideNumbered, counterNumbered, tallyAnswer, reasonsGiven, explainAnswer};
 use bus::ACCEPTED;
 use channel::Side;
 use channel::Tally;
@@ -14,6 +15,7 @@ use ports::Pins;
 use status::reasons::Numbers;
 
 mod accepted;
+mod ended;
 mod load;
 
 // No image: the bytes are those of no state, or too few or too many.
@@ -27,7 +29,7 @@ const LAST_PORT: u8 = 2;
 
 const LAST_CHANNEL: u8 = 3;
 
-const LAST_TALLY: u8 = 4;
+const LAST_TALLY: u8 = 6;
 
 fn packed(number: u8, low: u8, high: u8) -> u32
     ensures { λ r. ⌜ r ≡ packed number low high ⌝ }
@@ -66,6 +68,23 @@ pub extern "C" fn towanchor_power_up_with_levels(image: &mut [u8], a: u8, b: u8,
     let levels = Levels { a, b, c };
     let chip = chip::power_up_with_levels(levels);
     start(image, chip)
+}
+
+// An older image made the image of the same state.
+#[no_mangle]
+pub extern "C" fn towanchor_convert(older: &[u8], image: &mut [u8]) -> u32
+    ensures { λ r. ⌜ r ≡ convertAnswer (now (older .entry)) (now (image .entry)) ⌝ }
+    ensures { λ _. ⌜ now (image .exit) ≡ convertImage (now (older .entry)) (now (image .entry)) ⌝ }
+{
+    if !older::good(older) {
+        return NO_STATE;
+    }
+    let fits = image.len() == LENGTH;
+    if !fits {
+        return NO_STATE;
+    }
+    older::convert(older, image);
+    0
 }
 
 // One event, with its number and the byte of an accepted read.
@@ -130,11 +149,13 @@ fn counter(tally: Tally, number: u8) -> u16
         1 => tally.handed,
         2 => tally.overwritten,
         3 => tally.swallowed,
-        _ => tally.cleared,
+        4 => tally.cleared,
+        5 => tally.planted,
+        _ => tally.struck,
     }
 }
 
-// One of the five tallies of one of the four channels.
+// One of the seven tallies of one of the four channels.
 #[no_mangle]
 pub extern "C" fn towanchor_tally(image: &[u8], channel: u8, number: u8) -> u32
     ensures { λ r. ⌜ r ≡ tallyAnswer (now (image .entry)) channel number ⌝ }

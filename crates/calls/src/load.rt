@@ -2,15 +2,15 @@
 // that the loading need not ask for it, and makes the loading a part of each call. Without that it stays a function by itself, which costs
 // more than a hundred instructions a call.
 ghost use mathlib.Core.Path.{_≡_};
-ghost use mathlib.Core.Bool.{true};
+ghost use lib.ListN.{length};
+ghost use Rattle.image.specs.Places as places;
 ghost use Rattle.image.specs.Loaded.{stateOf};
-ghost use Rattle.image.specs.Good.{isImage};
 use bus::Phase;
 use chip::Chip;
 use image::places::LENGTH;
 
 pub(super) fn state(image: &[u8]) -> Chip
-    requires { ⌜ isImage (now image) ≡ true ⌝ }
+    requires { ⌜ length (now image) ≡ places.length ⌝ }
     ensures { λ r. ⌜ r ≡ stateOf (now (image .entry)) ⌝ }
 {
     image::load::state(&image[..LENGTH])
@@ -18,7 +18,7 @@ pub(super) fn state(image: &[u8]) -> Chip
 
 // What runs on the bus, which is all that a refusal looks at.
 pub(super) fn bus(image: &[u8]) -> Phase
-    requires { ⌜ isImage (now image) ≡ true ⌝ }
+    requires { ⌜ length (now image) ≡ places.length ⌝ }
     ensures { λ r. ⌜ r ≡ stateOf (now (image .entry)) .phase ⌝ }
 {
     image::load::bus(&image[..LENGTH])

@@ -21,6 +21,10 @@ pub(super) fn counts(tally: Tally) {
     print::number(tally.swallowed);
     print::word(b", cleared ");
     print::number(tally.cleared);
+    print::word(b", planted ");
+    print::number(tally.planted);
+    print::word(b", struck ");
+    print::number(tally.struck);
 }
 
 // Whether a byte waits in the channel.

@@ -50,6 +50,11 @@ fn marked(channel: Channel, fill: Fill) -> Channel {
     }
 }
 
+fn input_fetching(mut port: Port) -> Port {
+    port.input = marked(port.input, Fill::Fetching);
+    port
+}
+
 fn output_fetching(mut port: Port) -> Port {
     port.output = marked(port.output, Fill::Fetching);
     port
@@ -61,11 +66,13 @@ fn both_waiting(mut port: Port) -> Port {
     port
 }
 
-// The mode word B0 without its bit 7; the output of A fetching; bytes waiting in both channels of A.
+// The mode word B0 without its bit 7; the output of A fetching; the input of A fetching, whatever the bus does; bytes waiting in both
+// channels of A.
 fn core_by_hand(mut core: Core, name: u8) -> Core {
     match name {
         b'W' => core.word = 0x30,
         b'F' => core.a = output_fetching(core.a),
+        b'G' => core.a = input_fetching(core.a),
         b'U' => core.a = both_waiting(core.a),
         _ => {}
     }

@@ -26,14 +26,20 @@ unfoldable pub flagOf : Side → Fill → Bool
 flagOf Input fill = not (isEmpty fill)
 flagOf Output fill = not (isWaiting fill)
 
+-- There is room for a byte to be planted: an input has it while it is empty, and an output while none waits. So an output marked fetching,
+-- as no history marks one, counts as empty ("Events and numbers").
+unfoldable pub hasRoom : Side → Fill → Bool
+hasRoom Input fill = isEmpty fill
+hasRoom Output fill = not (isWaiting fill)
+
 -- A tally counts where the condition holds, and after 65,535 begins again at 0.
 abbrev pub next : Bool → ℕ → ℕ
 next true n = (n + 1) % 65536
 next false n = n
 
--- The five tallies of a channel.
+-- The seven tallies of a channel.
 pub data Counter : Type 0 where
-  offered handed overwritten swallowed cleared : Counter
+  offered handed overwritten swallowed cleared planted struck : Counter
 
 -- Their places among the tallies.
 abbrev pub place : Counter → ℕ
@@ -42,6 +48,8 @@ place handed = 1
 place overwritten = 2
 place swallowed = 3
 place cleared = 4
+place planted = 5
+place struck = 6
 
 -- The tallies with counter k gone on where the condition holds.
 abbrev pub counted : Counter → Bool → Tally → Tally
@@ -51,4 +59,6 @@ counted k on t = record {
   overwritten = next (eqb (place k) 2 && on) (t .overwritten);
   swallowed = next (eqb (place k) 3 && on) (t .swallowed);
   cleared = next (eqb (place k) 4 && on) (t .cleared);
+  planted = next (eqb (place k) 5 && on) (t .planted);
+  struck = next (eqb (place k) 6 && on) (t .struck);
 }

@@ -1,9 +1,9 @@
-// One strobed channel: whether a byte waits in it, its latch, and what became of the bytes offered to it. The four channels of a
-// chip are all of this kind.
+// One strobed channel: whether a byte waits in it, its latch, and what became of the bytes offered to it or planted in it. The four
+// channels of a chip are all of this kind.
 ghost use mathlib.Core.Path.{_≡_};
 ghost use mathlib.Core.Bool.{cond};
-ghost use Rattle.channel.specs.Channel.{isWaiting, isEmpty, flagOf, next};
-ghost use Rattle.channel.specs.Moves.{afterOffer, afterFollow, afterHandOver, afterEndRead, afterClear};
+ghost use Rattle.channel.specs.Channel.{isWaiting, isEmpty, flagOf, hasRoom, next};
+ghost use Rattle.channel.specs.Moves.{afterOffer, afterFollow, afterHandOver, afterEndRead, afterClear, tellsOfAByte, afterPlant, afterStrike, afterForce};
 
 // Which way a channel's bytes go: an input takes them in by STB, an output gives them out by ACK.
 pub enum Side {
@@ -18,12 +18,15 @@ pub enum Fill {
     Fetching,
 }
 
-// How many bytes were offered, and how many met each fate, modulo 65,536.
+// How many bytes were offered, how many met each fate, and how many were planted, modulo 65,536. The one that a reset changes is the last: so a
+// rack is copied in fewer pieces.
 pub struct Tally {
     pub offered: u16,
     pub handed: u16,
     pub overwritten: u16,
     pub swallowed: u16,
+    pub planted: u16,
+    pub struck: u16,
     pub cleared: u16,
 }
 
@@ -147,5 +150,65 @@ pub fn clear(channel: Channel) -> Channel
         fill: Fill::Empty,
         latch: 0,
         tally,
+    }
+}
+
+// Whether the flag, at that level, tells of a byte.
+fn tells(side: Side, level: bool) -> bool
+    ensures { λ r. ⌜ r ≡ tellsOfAByte side level ⌝ }
+{
+    match side {
+        Side::Input => level,
+        Side::Output => !level,
+    }
+}
+
+// Whether a byte can be planted: the flag tells of none.
+fn room(side: Side, fill: Fill) -> bool
+    ensures { λ r. ⌜ r ≡ hasRoom side fill ⌝ }
+{
+    !tells(side, flag(side, fill))
+}
+
+fn plant(channel: Channel, side: Side) -> Channel
+    ensures { λ r. ⌜ r ≡ afterPlant side channel ⌝ }
+{
+    let fill = channel.fill;
+    let mut tally = channel.tally;
+    if room(side, fill) {
+        tally.planted = next_if(true, tally.planted);
+        return Channel {
+            fill: Fill::Waiting,
+            latch: channel.latch,
+            tally,
+        };
+    }
+    channel
+}
+
+fn strike(channel: Channel) -> Channel
+    ensures { λ r. ⌜ r ≡ afterStrike channel ⌝ }
+{
+    let fill = channel.fill;
+    let mut tally = channel.tally;
+    if waiting(fill) {
+        tally.struck = next_if(true, tally.struck);
+        return Channel {
+            fill: Fill::Empty,
+            latch: channel.latch,
+            tally,
+        };
+    }
+    channel
+}
+
+// The channel's flag is forced to a level: a byte is planted where there is room for one, or struck where one waits.
+pub fn force(channel: Channel, side: Side, level: bool) -> Channel
+    ensures { λ r. ⌜ r ≡ afterForce side level channel ⌝ }
+{
+    if tells(side, level) {
+        plant(channel, side)
+    } else {
+        strike(channel)
     }
 }

@@ -7,8 +7,9 @@ use Rattle.control.specs.declared.Group.{Group}
 use Rattle.control.specs.declared.Group.the-variants.{A, B}
 use Rattle.channel.specs.declared.Side.{Side}
 use Rattle.chip.specs.declared.Port.{Port}
+use Rattle.chip.specs.declared.Enables.{Enables}
 use Rattle.chip.specs.declared.Core.{Core}
-use Rattle.chip.specs.State.{portOf, sideOf, channelOf, withLatch, onPort}
+use Rattle.chip.specs.State.{portOf, sideOf, channelOf, withLatch, withEnables, onPort}
 use Rattle.chip.specs.Handshakes.{ownAddress}
 use Rattle.chip.proofs.OnPort.{port-on, word-on, lines-on}
 
@@ -38,8 +39,14 @@ pub record Spared (c′ c : Core) : Type 0 where
   pub b : c′ .b ≡ c .b
   pub lines : c′ .c .outside ≡ c .c .outside
 
+pub spares-itself : (c : Core) → Spared c c
+spares-itself c = record { word = refl; a = refl; b = refl; lines = refl }
+
 pub latch-spares : (c : Core) (l : ℕ) → Spared (withLatch c l) c
 latch-spares c l = record { word = refl; a = refl; b = refl; lines = refl }
+
+pub enables-spare : (c : Core) (e : Enables) → Spared (withEnables c e) c
+enables-spare c e = record { word = refl; a = refl; b = refl; lines = refl }
 
 pub spared-port : {c′ c : Core} → Spared c′ c → (g : Group) → portOf c′ g ≡ portOf c g
 spared-port k A = k .a

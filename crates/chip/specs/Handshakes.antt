@@ -28,6 +28,12 @@ linePin A Input = 4
 linePin A Output = 6
 linePin B s = 2
 
+-- The pin of an input's IBF and of an output's OBF ("Port C roles").
+abbrev pub flagPin : Group → Side → ℕ
+flagPin A Input = 5
+flagPin A Output = 7
+flagPin B s = 1
+
 -- A handshake's pins 2 to 0 are group B's, and 7 to 3 group A's ("Port C roles").
 abbrev pub groupAt : ℕ → Group
 groupAt n = cond (ltb n 3) B A

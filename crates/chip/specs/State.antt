@@ -19,7 +19,7 @@ use Rattle.chip.specs.Addresses.{portA, portB}
 
 -- Nothing counted yet.
 abbrev pub noTally : Tally
-noTally = record { offered = 0; handed = 0; overwritten = 0; swallowed = 0; cleared = 0 }
+noTally = record { offered = 0; handed = 0; overwritten = 0; swallowed = 0; cleared = 0; planted = 0; struck = 0 }
 
 -- A channel that never had a byte.
 abbrev pub noByte : Channel
@@ -80,20 +80,27 @@ sideOf p Output = p .output
 abbrev pub channelOf : Core → Group → Side → Channel
 channelOf c g s = sideOf (portOf c g) s
 
--- Its five tallies.
+-- Its seven tallies.
 abbrev pub tallyOf : Chip → Group → Side → Tally
 tallyOf c g s = channelOf (c .core) g s .tally
 
--- A port with another channel, and a core with another port, another latch of port C, or other enables.
+-- A port with another channel, and a core with another port, another channel, another latch of port C, or other enables.
 abbrev pub withInput : Port → Channel → Port
 withInput p ch = record { input = ch; output = p .output; outside = p .outside }
 
 abbrev pub withOutput : Port → Channel → Port
 withOutput p ch = record { input = p .input; output = ch; outside = p .outside }
 
+abbrev pub withSide : Port → Side → Channel → Port
+withSide p Input ch = withInput p ch
+withSide p Output ch = withOutput p ch
+
 abbrev pub withPort : Core → Group → Port → Core
 withPort c A p = record { word = c .word; a = p; b = c .b; c = c .c; inte = c .inte }
 withPort c B p = record { word = c .word; a = c .a; b = p; c = c .c; inte = c .inte }
+
+abbrev pub withChannel : Core → Group → Side → Channel → Core
+withChannel c g s ch = withPort c g (withSide (portOf c g) s ch)
 
 abbrev pub withLatch : Core → ℕ → Core
 withLatch c x = record { word = c .word; a = c .a; b = c .b; c = record { latch = x; outside = c .c .outside }; inte = c .inte }

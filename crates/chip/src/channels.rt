@@ -34,7 +34,7 @@ pub fn find(core: Core, group: Group, side: Side) -> Channel
     on_side(port(core, group), side)
 }
 
-// What became of the bytes offered to a channel.
+// What became of the bytes offered to a channel, or planted in it.
 pub fn tally(chip: Chip, group: Group, side: Side) -> Tally
     ensures { λ r. ⌜ r ≡ tallyOf chip group side ⌝ }
 {

@@ -15,6 +15,13 @@ pub const ACK_A: u8 = 6;
 
 pub const LINE_B: u8 = 2;
 
+// Those on which it shows whether a byte is there: IBF and OBF of group A, and the one of group B, which is either.
+pub const IBF_A: u8 = 5;
+
+pub const OBF_A: u8 = 7;
+
+pub const FLAG_B: u8 = 1;
+
 // Whether the bus finds the group's port at the address.
 fn own_address(address: u8, group: Group) -> bool
     ensures { λ r. ⌜ r ≡ ownAddress address group ⌝ }

@@ -72,6 +72,8 @@ fn fresh_port(outside: u8) -> Port
         overwritten: 0,
         swallowed: 0,
         cleared: 0,
+        planted: 0,
+        struck: 0,
     };
     let channel = Channel {
         fill: Fill::Empty,

@@ -2,6 +2,7 @@
 use super::counts;
 use super::counts::Counts;
 use super::print;
+use super::twins::Tallies;
 use super::views::View;
 
 pub(super) fn same(one: &[u8], other: &[u8]) -> bool {
@@ -16,8 +17,8 @@ pub(super) fn same(one: &[u8], other: &[u8]) -> bool {
     true
 }
 
-fn same_tallies(one: [u16; 20], other: [u16; 20]) -> bool {
-    for at in 0..20 {
+fn same_tallies(one: Tallies, other: Tallies) -> bool {
+    for at in 0..28 {
         if one[at] != other[at] {
             return false;
         }
@@ -28,15 +29,26 @@ fn same_tallies(one: [u16; 20], other: [u16; 20]) -> bool {
 pub(super) fn agree(one: View, other: View) -> bool {
     let shown = one.shown;
     let its_shown = other.shown;
+    let said = one.said;
+    let its_said = other.said;
+    let kept = one.kept;
+    let its_kept = other.kept;
     let tally = one.tally;
     let its_tally = other.tally;
-    same(&shown, &its_shown) & same_tallies(tally, its_tally)
+    same(&shown, &its_shown)
+        & same(&said, &its_said)
+        & same(&kept, &its_kept)
+        & same_tallies(tally, its_tally)
 }
 
 fn report(view: View) {
     let shown = view.shown;
+    let said = view.said;
+    let kept = view.kept;
     let tally = view.tally;
     print::bytes(&shown);
+    print::bytes(&said);
+    print::bytes(&kept);
     print::tallies(tally);
     print::word(b"\n");
 }

@@ -1,11 +1,11 @@
-// Exchanges: six events each in their proper order, so that bytes meet every fate. An event is eight digits, two each: its
-// kind, its first operand, the bits of its second operand that are drawn, and the bits that are set.
-pub(super) const COUNT: u64 = 19;
+// Exchanges: six events each in their proper order, so that bytes meet every fate, and flags are forced in every condition. An event is
+// eight digits, two each: its kind, its first operand, the bits of its second operand that are drawn, and the bits that are set.
+pub(super) const COUNT: u64 = 29;
 
 // The first of the two that set modes and enables.
 pub(super) const SETTINGS: u64 = 10;
 
-pub(super) const EVENTS: [u64; 114] = [
+pub(super) const EVENTS: [u64; 174] = [
     // A byte comes in at A and is read.
     0x0500ff00, // any levels
     0x050200ef, // STB falls, the other pins high
@@ -139,4 +139,74 @@ pub(super) const EVENTS: [u64; 114] = [
     0x02000000, // takes effect
     0x05000055, // the same levels
     0x050200ff, // the pins rise
+    // IBF of A is forced, A is read, and IBF is forced again.
+    0x0303710a, // pin 5 set or reset
+    0x02000000, // takes effect
+    0x01000000, // a read begins
+    0x02000000, // and ends
+    0x0303710a, // pin 5 set or reset
+    0x02000000, // takes effect
+    // It is forced twice over a byte that waits.
+    0x050200ef, // STB falls
+    0x0502ef10, // and rises
+    0x0303710a, // pin 5 set or reset
+    0x02000000, // takes effect
+    0x0303710a, // pin 5 set or reset
+    0x02000000, // takes effect
+    // A byte is struck and another planted while STB is low, and then levels come.
+    0x050200ef, // STB falls
+    0x0303700a, // pin 5 reset
+    0x02000000, // takes effect
+    0x0303700b, // pin 5 set
+    0x02000000, // takes effect
+    0x0500ff00, // any levels
+    // OBF of A is forced, ACK falls, and OBF is forced again.
+    0x0303710e, // pin 7 set or reset
+    0x02000000, // takes effect
+    0x050200bf, // ACK falls
+    0x050200ff, // and rises
+    0x0303710e, // pin 7 set or reset
+    0x02000000, // takes effect
+    // It is forced twice over a byte that waits.
+    0x0300ff00, // a write begins
+    0x02000000, // and ends
+    0x0303710e, // pin 7 set or reset
+    0x02000000, // takes effect
+    0x0303710e, // pin 7 set or reset
+    0x02000000, // takes effect
+    // The flag of B is forced, B is read, and the flag is forced again.
+    0x03037102, // pin 1 set or reset
+    0x02000000, // takes effect
+    0x01010000, // a read begins
+    0x02000000, // and ends
+    0x03037102, // pin 1 set or reset
+    0x02000000, // takes effect
+    // It is forced twice, over the byte that STB brings in or around the fall of ACK.
+    0x03037102, // pin 1 set or reset
+    0x02000000, // takes effect
+    0x050200fb, // STB or ACK falls
+    0x0502fb04, // and rises
+    0x03037102, // pin 1 set or reset
+    0x02000000, // takes effect
+    // It is forced twice over a byte that waits to go out.
+    0x0301ff00, // a write begins
+    0x02000000, // and ends
+    0x03037102, // pin 1 set or reset
+    0x02000000, // takes effect
+    0x03037102, // pin 1 set or reset
+    0x02000000, // takes effect
+    // A byte is struck and another planted while STB is low, and then levels come.
+    0x050200fb, // STB falls
+    0x03037002, // pin 1 reset
+    0x02000000, // takes effect
+    0x03037003, // pin 1 set
+    0x02000000, // takes effect
+    0x0501ff00, // any levels
+    // Any three pins, among them those of INTR.
+    0x03037f00, // any pin set or reset
+    0x02000000, // takes effect
+    0x03037f00, // any pin set or reset
+    0x02000000, // takes effect
+    0x03037f00, // any pin set or reset
+    0x02000000, // takes effect
 ];

@@ -1,5 +1,5 @@
 // Runs two models of a chip over the same pseudo-random histories, the proved one and a second one that was written apart
-// from it, and compares what they show and count after every event: first of the 8255A, then of the 8355 and of racks of cards.
+// from it, and compares what they show, keep and count after every event: first of the 8255A, then of the 8355 and of racks of cards.
 mod agree;
 mod apart; // the second model
 mod counts;

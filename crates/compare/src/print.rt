@@ -1,4 +1,5 @@
 // Words and numbers on standard output.
+use super::twins::Tallies;
 use libc::STDOUT_FILENO;
 
 pub(super) fn word(text: &[u8]) {
@@ -55,8 +56,8 @@ pub(super) fn bytes(row: &[u8]) {
     }
 }
 
-pub(super) fn tallies(row: [u16; 20]) {
-    for at in 0..20 {
+pub(super) fn tallies(row: Tallies) {
+    for at in 0..28 {
         item(wide_tally(row[at]));
     }
 }

@@ -61,7 +61,7 @@ fn one(counts: &mut Counts, start: Start, seed: u64) -> u64 {
 }
 
 fn all(start: Start, first: u64, histories: usize) -> Counts {
-    let mut counts = [0u64; 46];
+    let mut counts = [0u64; 87];
     let mut seed = first;
     for _ in 0..histories {
         seed = one(&mut counts, start, seed);

@@ -27,6 +27,8 @@ fn channel(seed: u64) -> Channel {
     let two = next(one);
     let three = next(two);
     let four = next(three);
+    let five = next(four);
+    let six = next(five);
     let fill = match seed % 3 {
         0 => Fill::Empty,
         1 => Fill::Waiting,
@@ -41,6 +43,8 @@ fn channel(seed: u64) -> Channel {
             overwritten: tally(two),
             swallowed: tally(three),
             cleared: tally(four),
+            planted: tally(five),
+            struck: tally(six),
         },
     }
 }

@@ -38,6 +38,11 @@ pub(super) fn running(phase: Phase) -> Bus {
     }
 }
 
+// How many tallies a channel has, and those of all four: A in, A out, B in, B out.
+pub(super) const PER_CHANNEL: usize = 7;
+
+pub(super) type Tallies = [u16; 28];
+
 fn mark(channel: Channel) -> u8 {
     let fill = channel.fill;
     match fill {
@@ -47,28 +52,36 @@ fn mark(channel: Channel) -> u8 {
     }
 }
 
-pub(super) fn tallies(chip: Chip) -> [u16; 20] {
+pub(super) fn tallies(chip: Chip) -> Tallies {
     [
         chip.core.a.input.tally.offered,
         chip.core.a.input.tally.handed,
         chip.core.a.input.tally.overwritten,
         chip.core.a.input.tally.swallowed,
         chip.core.a.input.tally.cleared,
+        chip.core.a.input.tally.planted,
+        chip.core.a.input.tally.struck,
         chip.core.a.output.tally.offered,
         chip.core.a.output.tally.handed,
         chip.core.a.output.tally.overwritten,
         chip.core.a.output.tally.swallowed,
         chip.core.a.output.tally.cleared,
+        chip.core.a.output.tally.planted,
+        chip.core.a.output.tally.struck,
         chip.core.b.input.tally.offered,
         chip.core.b.input.tally.handed,
         chip.core.b.input.tally.overwritten,
         chip.core.b.input.tally.swallowed,
         chip.core.b.input.tally.cleared,
+        chip.core.b.input.tally.planted,
+        chip.core.b.input.tally.struck,
         chip.core.b.output.tally.offered,
         chip.core.b.output.tally.handed,
         chip.core.b.output.tally.overwritten,
         chip.core.b.output.tally.swallowed,
         chip.core.b.output.tally.cleared,
+        chip.core.b.output.tally.planted,
+        chip.core.b.output.tally.struck,
     ]
 }
 

@@ -17,11 +17,11 @@ use Rattle.chip.specs.declared.Levels.{Levels}
 use Rattle.chip.specs.State.{noTally, powerUpWith, channelOf, tallyOf}
 use Rattle.fates.specs.Surroundings.{atPowerUp}
 use Rattle.fates.specs.Effects.{strobes, effects}
-use Rattle.fates.specs.Bytes.{handedOver, overwritten, swallowed, cleared, offeredAt, bytesOf}
+use Rattle.fates.specs.Bytes.{handedOver, overwritten, swallowed, cleared, struck, offeredAt, bytesOf}
 use Rattle.fates.specs.Promise.{run, surroundingsOf, newBytes, oldByte, Fates, SixteenBits}
 use Rattle.fates.specs.Discipline.{HasFound, Disciplined, NoneLost}
 use Rattle.fates.proofs.Ordered.{story-in-order}
-use Rattle.fates.proofs.Counted.{one-fate-each, tally-counts, offered-counts, waits-there}
+use Rattle.fates.proofs.Counted.{one-fate-each, offered-or-planted, tally-counts, offered-counts, planted-counts, waits-there}
 use Rattle.fates.proofs.ReadsRun.{refused}
 use Rattle.fates.proofs.SameByte.{as-offered}
 use Rattle.fates.proofs.InTheLatch.{new-held}
@@ -44,16 +44,27 @@ fates-from g s c small es =
       waitsInTheChip = waits;
       heldInTheLatch = new-held g s c es;
       asOffered = as-offered g s c es;
-      inOrder = story-in-order (channelOf (c .core) g s .fill) h 1 (effects g s (surroundingsOf c) es) (omega arith);
-      tallyOffered = offered-counts g s c 1 es (small .offered);
+      inOrder = story-in-order s (channelOf (c .core) g s .fill) h 1 (effects g s (surroundingsOf c) es) (omega arith);
+      offeredOrPlanted = offered-or-planted (newBytes g s c es);
+      tallyOffered = offered-counts g s c h 1 es (small .offered);
       tallyHanded = tally-counts g s handedOver refl c h 1 es (small .handed);
       tallyOverwritten = tally-counts g s overwritten refl c h 1 es (small .overwritten);
       tallySwallowed = tally-counts g s swallowed refl c h 1 es (small .swallowed);
       tallyCleared = tally-counts g s cleared refl c h 1 es (small .cleared);
+      tallyPlanted = planted-counts g s c h 1 es (small .planted);
+      tallyStruck = tally-counts g s struck refl c h 1 es (small .struck);
     }
 
 pub none-counted : SixteenBits noTally
-none-counted = record { offered = omega arith; handed = omega arith; overwritten = omega arith; swallowed = omega arith; cleared = omega arith }
+none-counted = record {
+  offered = omega arith;
+  handed = omega arith;
+  overwritten = omega arith;
+  swallowed = omega arith;
+  cleared = omega arith;
+  planted = omega arith;
+  struck = omega arith;
+}
 
 -- From power-up, whatever the levels: no byte waits there and nothing has been counted.
 pub fates : (g : Group) (s : Side) (l : Levels) (es : List Event) → Fates g s (powerUpWith l) es noTally (bytesOf g s l es) (bytesOf g s l es)

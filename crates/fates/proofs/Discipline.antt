@@ -16,7 +16,7 @@ use Rattle.channel.specs.Channel.{flagOf}
 use Rattle.chip.specs.declared.Chip.{Chip}
 use Rattle.laws.proofs.ChannelPins.{flag-pin}
 use Rattle.fates.specs.Surroundings.{surroundingsNext}
-use Rattle.fates.specs.Effects.{Effect, offered, followed, taken, ended, clearedAway, nothing, strobes}
+use Rattle.fates.specs.Effects.{Effect, offered, followed, taken, ended, clearedAway, forcedFull, forcedEmpty, nothing, strobes}
 use Rattle.fates.specs.Bytes.{Fate, overwritten, swallowed, waiting, Offer, offeredAt, same, count}
 use Rattle.fates.specs.Promise.{surroundingsOf, newBytes, oldByte}
 use Rattle.fates.specs.Discipline.{ibf, strobedReadRuns, HasFound, Minds, Disciplined, NoneLost}
@@ -46,6 +46,8 @@ module _ (level on r r′ : Bool) where
   minded Fetching taken flag found reads minds = record { notOverwritten = refl; notSwallowed = refl; found = λ e. refl }
   minded f ended flag found reads minds = record { notOverwritten = refl; notSwallowed = rw (found (reads .0)); found = λ e. cc (reads .1) }
   minded f clearedAway flag found reads minds = record { notOverwritten = refl; notSwallowed = refl; found = λ e. cc }
+  minded f forcedFull flag found reads minds = record { notOverwritten = refl; notSwallowed = refl; found = λ e. cc reads }
+  minded f forcedEmpty flag found reads minds = record { notOverwritten = refl; notSwallowed = refl; found = λ e. cc reads }
   minded f nothing flag found reads minds = record { notOverwritten = refl; notSwallowed = refl; found = λ e. found (sym reads ∙ e) }
 
 module _ (g : Group) where
@@ -68,15 +70,16 @@ module _ (g : Group) where
       (spares : (c : Chip) (e : Event) → HasFound g c → Minds (ibf c g) (effectIn g Input c e) → gives f (fill g Input c) (shapeIn g Input c e) ≡ false) where
     none-lost : (c : Chip) (h : Offer) (n : ℕ) (es : List Event) → HasFound g c → Disciplined g (surroundingsOf c) c es
         → count f (storyOf g Input c h n es) ≡ 0
-    none-lost c h n [] found kept = none-yet f tallied (fill g Input c) h n
+    none-lost c h n [] found kept = none-yet f tallied Input (fill g Input c) h n
     none-lost c h n (e ∷ es) found kept =
         let d = shapeIn g Input c e in
-        let rest = storyOf g Input (after c e) (heldAfter h n d) (suc n) es in
+        let next = heldAfter Input (fill g Input c) h n d in
+        let rest = storyOf g Input (after c e) next (suc n) es in
         ap (count f) (story-next g Input c e h n es)
         ∙ count-decided f tallied (fill g Input c) h n d rest
         ∙ rw (spares c e found (kept .0))
         (zero-add (count f rest)
-        ∙ none-lost (after c e) (heldAfter h n d) (suc n) es (found-next c e found (kept .0)) (rw (surroundings-next c e) (kept .1)))
+        ∙ none-lost (after c e) next (suc n) es (found-next c e found (kept .0)) (rw (surroundings-next c e) (kept .1)))
 
   -- From any chip on which a read of the strobed port, if one runs, has found a byte.
   pub disciplined-from : (c : Chip) → HasFound g c → (es : List Event) → Disciplined g (surroundingsOf c) c es

@@ -1,3 +1,4 @@
+pub mod PinNamed
 pub mod Tables
 pub mod Accepted
 pub mod SurroundingsKept
@@ -14,6 +15,7 @@ pub mod SameByte
 pub mod InTheLatch
 pub mod ReadsRun
 pub mod Discipline
+pub mod Unforced
 pub mod Demand
 pub mod Balance
 pub mod OnlyFalls

@@ -3,16 +3,19 @@
 use mathlib.Core.Path.{_≡_, _∙_, refl, ap}
 use Prim.Native.Nat.{ℕ, zero, suc, _%_}
 use native.Mathlib.Nat.{zero-add}
-use lib.ListN.{length}
+use native.Mathlib.Omega.{arith}
 use Rattle.bits.specs.Bit.{bitOf}
 use Rattle.bus.specs.declared.Phase.the-variants.{Idle}
 use Rattle.control.specs.declared.Group.the-variants.{A}
 use Rattle.channel.specs.declared.Side.the-variants.{Input}
+use Rattle.channel.specs.declared.Fill.{Fill}
+use Rattle.channel.specs.declared.Fill.the-variants.{Empty, Waiting}
 use Rattle.chip.specs.State.{allHigh, powerUpWith, tallyOf}
 use Rattle.laws.specs.Marked.{strobe}
 use Rattle.fates.specs.Surroundings.{Surroundings}
 use Rattle.fates.specs.Effects.{effects}
-use Rattle.fates.specs.Bytes.{bytes}
+use Rattle.fates.specs.Left.{left}
+use Rattle.fates.specs.Bytes.{bytes, offeredAmong}
 use Rattle.fates.specs.Promise.{run}
 use Rattle.fates.specs.Examples.{times, strobedTimes}
 use Rattle.fates.proofs.Demand.{fates}
@@ -21,14 +24,14 @@ use Rattle.fates.proofs.Demand.{fates}
 abbrev strobing : ℕ → Surroundings
 strobing x = record { phase = Idle; word = 0xb0; levelsA = x; levelsB = 0xff; levelsC = 0xff }
 
-offers-of : (n v k x : ℕ) → length (bytes k (effects A Input (strobing x) (times n (strobe v)))) ≡ n
+offers-of : (n v k x : ℕ) (f : Fill) (l : ℕ) → offeredAmong (bytes Input (left f l) k (effects A Input (strobing x) (times n (strobe v)))) ≡ n
 unfolding bitOf
-offers-of zero v k x = refl
-offers-of (suc n) v k x = ap suc (offers-of n v (suc (suc (suc k))) v)
+offers-of zero v k x f l = refl
+offers-of (suc n) v k x f l = let rest = offers-of n v (suc (suc (suc k))) v Waiting v in omega (arith, rest)
 
 pub many-offers : (n v : ℕ) → tallyOf (run (powerUpWith allHigh) (strobedTimes n v)) A Input .offered ≡ n % 65536
 unfolding bitOf
-many-offers n v = fates A Input allHigh (strobedTimes n v) .tallyOffered ∙ ap (λ k. k % 65536) (zero-add _ ∙ offers-of n v 3 0xff)
+many-offers n v = fates A Input allHigh (strobedTimes n v) .tallyOffered ∙ ap (λ k. k % 65536) (zero-add _ ∙ offers-of n v 3 0xff Empty 0)
 
 pub seventy-thousand : tallyOf (run (powerUpWith allHigh) (strobedTimes 70000 0x41)) A Input .offered ≡ 4464
 seventy-thousand = many-offers 70000 0x41

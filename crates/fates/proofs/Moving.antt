@@ -1,25 +1,25 @@
 -- A channel that moves as an effect says: the shapes in which the step's rules say it, beside the effects of the history.
 -- Rests on Moved and on bits' Logic.
-use mathlib.Core.Path.{_≡_, refl, ap}
+use mathlib.Core.Path.{_≡_, _∙_, refl, ap}
 use mathlib.Core.Bool.{Bool, true, false, cond, _&&_, and-false}
 use Prim.Native.Nat.{ℕ}
 use Rattle.bits.proofs.Logic.{contrary}
 use Rattle.channel.specs.declared.Side.{Side}
-use Rattle.channel.specs.declared.Side.the-variants.{Output}
+use Rattle.channel.specs.declared.Side.the-variants.{Input, Output}
 use Rattle.channel.specs.declared.Channel.{Channel}
+use Rattle.channel.specs.Moves.{afterForce}
 use Rattle.writes.specs.Write.{storedIn}
-use Rattle.fates.specs.Effects.{Effect, offered, nothing, when}
+use Rattle.fates.specs.Effects.{Effect, offered, forcedFull, forcedEmpty, nothing, saysFull, when}
 use Rattle.fates.proofs.Moved.{moved}
 
--- The channel ch′ is as ch says, and its latch too where the handshake alone fills it: a port that is a plain output has its latch written
--- and no byte offered.
-pub record Goes (alone : Bool) (ch′ ch : Channel) : Type 0 where
+-- The channel ch′ is as ch says, and its latch too where it is sure: a port that is a plain output has its latch written and no byte offered.
+pub record Goes (sure : Bool) (ch′ ch : Channel) : Type 0 where
   pub fill : ch′ .fill ≡ ch .fill
   pub tally : ch′ .tally ≡ ch .tally
-  pub latch : alone ≡ true → ch′ .latch ≡ ch .latch
+  pub latch : sure ≡ true → ch′ .latch ≡ ch .latch
 
-pub goes : {alone : Bool} {ch′ ch : Channel} → ch′ ≡ ch → Goes alone ch′ ch
-goes e = record { fill = ap (λ ch. ch .fill) e; tally = ap (λ ch. ch .tally) e; latch = λ alone. ap (λ ch. ch .latch) e }
+pub goes : {sure : Bool} {ch′ ch : Channel} → ch′ ≡ ch → Goes sure ch′ ch
+goes e = record { fill = ap (λ ch. ch .fill) e; tally = ap (λ ch. ch .tally) e; latch = λ sure. ap (λ ch. ch .latch) e }
 
 -- An event that is nothing to a channel leaves it.
 pub at-rest : (s : Side) (ch : Channel) (on : Bool) → ch ≡ moved s ch (when on nothing)
@@ -34,6 +34,19 @@ gated s ch d false = refl
 pub moves : (s : Side) (ch : Channel) (d : Effect) (on own : Bool) → cond (on && own) (moved s ch d) ch ≡ moved s ch (when on (when own d))
 moves s ch d true own = gated s ch d own
 moves s ch d false own = refl
+
+-- So is a flag that is forced.
+forced-so : (s : Side) (ch : Channel) (v : Bool) → afterForce s v ch ≡ moved s ch (cond (saysFull s v) forcedFull forcedEmpty)
+unfolding afterForce
+forced-so Input ch true = refl
+forced-so Input ch false = refl
+forced-so Output ch true = refl
+forced-so Output ch false = refl
+
+pub forcing : (s : Side) (ch : Channel) (v on own : Bool)
+    → cond (on && own) (afterForce s v ch) ch ≡ moved s ch (when on (when own (cond (saysFull s v) forcedFull forcedEmpty)))
+forcing s ch v on own =
+    ap (λ (forced : Channel). cond (on && own) forced ch) (forced-so s ch v) ∙ moves s ch (cond (saysFull s v) forcedFull forcedEmpty) on own
 
 -- So is the fall of a line, which port C alone has, or else levels on the port's own lines while that line is low.
 pub levelling : (s : Side) (ch : Channel) (d e : Effect) (lines on fell own low : Bool)

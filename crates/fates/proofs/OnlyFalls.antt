@@ -5,9 +5,7 @@ use mathlib.Core.Bool.{Bool, true, false, cond, _&&_, and-false}
 use mathlib.Core.List.{List, [], _∷_}
 use Prim.Native.Nat.{ℕ, suc}
 use native.Mathlib.Nat.{zero-add}
-use native.Mathlib.Omega.{arith}
 use lib.Dec.{eqb}
-use lib.ListN.{length, drop-of-length-le}
 use Rattle.bits.specs.Bit.{bitOf}
 use Rattle.bits.proofs.Logic.{either-way}
 use Rattle.events.specs.Event.{Event}
@@ -19,9 +17,10 @@ use Rattle.channel.specs.declared.Fill.the-variants.{Empty}
 use Rattle.chip.specs.declared.Levels.{Levels}
 use Rattle.chip.specs.State.{powerUpWith}
 use Rattle.fates.specs.Kinds.{Kind, reset, cycleEnded, unknown, readBegun, writeBegun, newLevels, kindOf, accepts}
-use Rattle.fates.specs.Surroundings.{Surroundings, levelsAfter, surroundingsAfter, surroundingsNext, atPowerUp}
-use Rattle.fates.specs.Effects.{Effect, followed, taken, ended, clearedAway, nothing, portNumber, strobePin, strobes, readRuns, writeRuns, when, ownEffect, clears, effectOf, effect, effects}
-use Rattle.fates.specs.Bytes.{handedOver, Offer, offeredAt, bytes, bytesOf, count}
+use Rattle.fates.specs.Surroundings.{Surroundings, brought, levelsAfter, surroundingsAfter, surroundingsNext, atPowerUp}
+use Rattle.fates.specs.Effects.{Effect, offered, followed, taken, ended, clearedAway, forcedFull, forcedEmpty, nothing, portNumber, strobePin, fullPin, strobes, readRuns, writeRuns, ofPin, saysFull, when, ownEffect, clears, effectOf, effect, effects}
+use Rattle.fates.specs.Left.{left}
+use Rattle.fates.specs.Bytes.{handedOver, Offer, offeredAt, bytes, bytesOf, offeredAmong, count}
 use Rattle.fates.specs.Promise.{tallies}
 use Rattle.fates.specs.Raised.{raises, NeverRaised}
 use Rattle.fates.proofs.Shapes.{shapeOf, fillAfter, isOffer, heldAfter}
@@ -66,6 +65,15 @@ at-rest Output = refl
 under : (s : Side) (b : Bool) (d : Effect) → byLine s d ≡ false → byLine s (when b d) ≡ false
 under s b d other = either-way (byLine s) false b d nothing other (at-rest s)
 
+-- Nor is the end of a cycle, where it is not the line's to end it, nor a flag that is forced.
+ending : (s : Side) (runs own says : Bool) (d : Effect) → byLine s d ≡ false → byLine s (cond runs d (when own (cond says forcedFull forcedEmpty))) ≡ false
+ending s true own says d other = other
+ending Input false true true d other = refl
+ending Input false true false d other = refl
+ending Output false true true d other = refl
+ending Output false true false d other = refl
+ending s false false says d other = at-rest s
+
 -- Nor is what clears all channels.
 clearing : (s : Side) → byLine s clearedAway ≡ false
 clearing Input = refl
@@ -77,8 +85,9 @@ module _ (g : Group) (a : Surroundings) where
   own-unmoved s reset low = at-rest s
   own-unmoved Input (readBegun x) low = under Input (eqb x (portNumber g)) taken refl
   own-unmoved Output (readBegun x) low = refl
-  own-unmoved Input cycleEnded low = under Input (readRuns g (a .phase)) ended refl
-  own-unmoved Output cycleEnded low = under Output (writeRuns g (a .phase)) _ refl
+  own-unmoved Input cycleEnded low = ending Input (readRuns g (a .phase)) (ofPin (a .phase) (fullPin g Input)) (saysFull Input (bitOf (brought (a .phase)) 0)) ended refl
+  own-unmoved Output cycleEnded low =
+      ending Output (writeRuns g (a .phase)) (ofPin (a .phase) (fullPin g Output)) (saysFull Output (bitOf (brought (a .phase)) 0)) (offered (brought (a .phase))) refl
   own-unmoved s (writeBegun x d) low = at-rest s
   own-unmoved Input (newLevels x d) low = rw (low, and-false (eqb x 2)) (under Input (eqb x (portNumber g) && true) (followed d) refl)
   own-unmoved Output (newLevels x d) low = rw (low, and-false (eqb x 2))
@@ -96,26 +105,27 @@ effects-unmoved g s a [] low kept = tt
 effects-unmoved g s a (e ∷ es) low kept =
     (effect-unmoved g a s e low, effects-unmoved g s (surroundingsNext a e) es (low-next (strobePin g s) a e low (kept .0)) (kept .1))
 
--- Where STB does nothing there are no bytes.
-none-offered : (n : ℕ) (ds : List Effect) → Unmoved Input ds → length (bytes n ds) ≡ 0
-none-offered n [] still = refl
-none-offered n (d ∷ ds) still = offers-counted d n ds ∙ rw (still .0) (zero-add _ ∙ none-offered (suc n) ds (still .1))
+-- Where STB does nothing no byte is offered.
+none-offered : (f : Fill) (h : Offer) (n : ℕ) (ds : List Effect) → Unmoved Input ds → offeredAmong (bytes Input (left f (h .value)) n ds) ≡ 0
+none-offered f h n [] still = refl
+none-offered f h n (d ∷ ds) still =
+    offers-counted Input f h n d ds
+    ∙ rw (still .0) (zero-add _ ∙ none-offered (fillAfter Input f (shapeOf d)) (heldAfter Input f h n (shapeOf d)) (suc n) ds (still .1))
 
 -- Where ACK does nothing none is handed over.
-none-handed : (f : Fill) (h : Offer) (n : ℕ) (ds : List Effect) → Unmoved Output ds → count handedOver (story f h n ds) ≡ 0
-none-handed f h n [] still = none-yet handedOver refl f h n
+none-handed : (f : Fill) (h : Offer) (n : ℕ) (ds : List Effect) → Unmoved Output ds → count handedOver (story Output f h n ds) ≡ 0
+none-handed f h n [] still = none-yet handedOver refl Output f h n
 none-handed f h n (d ∷ ds) still =
-    let held = heldAfter h n (shapeOf d) in
+    let held = heldAfter Output f h n (shapeOf d) in
     ap (count handedOver) (story-step Output f h n d ds)
-    ∙ count-decided handedOver refl f h n (shapeOf d) (story (fillAfter Output f (shapeOf d)) held (suc n) ds)
+    ∙ count-decided handedOver refl f h n (shapeOf d) (story Output (fillAfter Output f (shapeOf d)) held (suc n) ds)
     ∙ rw (still .0) (zero-add _ ∙ none-handed (fillAfter Output f (shapeOf d)) held (suc n) ds (still .1))
 
 -- From a power-up that finds the line low, and as long as no event raises it: STB has brought in no byte, and the chip counts none;
 pub low-offers-nothing : (g : Group) (l : Levels) (es : List Event) → bitOf (l .c) (strobePin g Input) ≡ false → NeverRaised (strobePin g Input) es
-    → (bytesOf g Input l es ≡ []) × (tallies g Input (powerUpWith l) es .offered ≡ 0)
+    → (offeredAmong (bytesOf g Input l es) ≡ 0) × (tallies g Input (powerUpWith l) es .offered ≡ 0)
 low-offers-nothing g l es low kept =
-    let counted = none-offered 1 (effects g Input (atPowerUp l) es) (effects-unmoved g Input (atPowerUp l) es low kept) in
-    let none = drop-of-length-le (bytesOf g Input l es) {i = 0} (omega (arith, counted)) in
+    let none = none-offered Empty (offeredAt 0 0) 1 (effects g Input (atPowerUp l) es) (effects-unmoved g Input (atPowerUp l) es low kept) in
     (none, fates g Input l es .tallyOffered ∙ rw (none))
 
 -- ACK has taken none of those that were written, and the chip counts none.

@@ -4,6 +4,7 @@ use mathlib.Core.Path.{_≡_, refl}
 use mathlib.Core.Bool.{Bool, true, false, cond, _&&_, and-false}
 use Prim.Native.Nat.{ℕ}
 use lib.Dec.{ltb, eqb}
+use Rattle.bits.specs.Bit.{bitOf}
 use Rattle.bits.proofs.Logic.{contrary}
 use Rattle.events.specs.Event.{Event}
 use Rattle.bus.specs.declared.Phase.{Phase}
@@ -12,17 +13,20 @@ use Rattle.control.specs.declared.Group.{Group}
 use Rattle.channel.specs.declared.Side.the-variants.{Input}
 use Rattle.fates.specs.Kinds.{Kind, reset, readBegun, cycleEnded, writeBegun, newLevels, unknown, kindOf, accepts}
 use Rattle.fates.specs.Surroundings.{Surroundings, ofModeWord, surroundingsAfter, surroundingsNext}
-use Rattle.fates.specs.Effects.{Effect, offered, followed, taken, ended, clearedAway, nothing, portNumber, levelsOn, strobes, readRuns, falls, underLow, when, effectOf, effect}
+use Rattle.fates.specs.Effects.{Effect, offered, followed, taken, ended, clearedAway, forcedFull, forcedEmpty, nothing, portNumber, levelsOn, fullPin, strobes, readRuns, ofPin, falls, underLow, when, effectOf, effect}
 use Rattle.fates.specs.Discipline.{strobedReadRuns}
 
 -- What an effect tells of a read of the strobed port before it (r) and after it (r′), where `on` is whether the port is strobed: only a
--- byte taken begins such a read, and nothing ends it but its end, a mode word and a reset.
+-- byte taken begins such a read, and nothing ends it but its end, a mode word and a reset. A flag is forced by a write, beside which no read
+-- runs.
 abbrev pub Reads : Bool → Bool → Bool → Effect → Type 0
 Reads on r r′ (offered v) = (on ≡ true) × (r′ ≡ r)
 Reads on r r′ (followed v) = r′ ≡ r
 Reads on r r′ taken = on ≡ true
 Reads on r r′ ended = (r ≡ true) × (r′ ≡ false)
 Reads on r r′ clearedAway = r′ ≡ false
+Reads on r r′ forcedFull = r′ ≡ false
+Reads on r r′ forcedEmpty = r′ ≡ false
 Reads on r r′ nothing = r′ ≡ r
 
 begins : (on own : Bool) → Reads on (on && false) (on && own) (when on (when own taken))
@@ -45,10 +49,13 @@ levels-come true r false true v u = refl
 levels-come true r false false v u = refl
 levels-come false r fell low v u = refl
 
-write-ends : (mode on on′ : Bool) → Reads on (on && false) (on′ && false) (cond mode clearedAway (when on nothing))
-write-ends true on on′ = and-false on′
-write-ends false true on′ = and-false on′
-write-ends false false on′ = and-false on′
+write-ends : (mode on on′ own says : Bool)
+    → Reads on (on && false) (on′ && false) (cond mode clearedAway (when on (when own (cond says forcedFull forcedEmpty))))
+write-ends true on on′ own says = and-false on′
+write-ends false true on′ true true = and-false on′
+write-ends false true on′ true false = and-false on′
+write-ends false true on′ false says = and-false on′
+write-ends false false on′ own says = and-false on′
 
 -- Surroundings put together.
 abbrev surroundings : Phase → ℕ → ℕ → ℕ → ℕ → Surroundings
@@ -71,7 +78,8 @@ module _ (g : Group) (w x y z : ℕ) where
   reads-on (Writing q d) (readBegun p) ok = absurd (refused (ltb p 3) ok)
   reads-on Idle cycleEnded ok = absurd (contrary false refl ok)
   reads-on (Reading q) cycleEnded ok = ends on (eqb q (portNumber g))
-  reads-on (Writing q d) cycleEnded ok = write-ends (ofModeWord (Writing q d)) on (strobes (cond (ofModeWord (Writing q d)) d w) g Input)
+  reads-on (Writing q d) cycleEnded ok =
+      write-ends (ofModeWord (Writing q d)) on (strobes (cond (ofModeWord (Writing q d)) d w) g Input) (ofPin (Writing q d) (fullPin g Input)) (bitOf d 0)
   reads-on Idle (writeBegun p u) ok = rests on
   reads-on (Reading q) (writeBegun p u) ok = absurd (refused (ltb p 4) ok)
   reads-on (Writing q d) (writeBegun p u) ok = absurd (refused (ltb p 4) ok)

@@ -1,5 +1,5 @@
 -- Demand 3 holds of every script.
--- Rests on Demand, and on script's History.
+-- Rests on Demand and Unforced, and on script's History.
 use mathlib.Core.Path.{_≡_, refl}
 use mathlib.Core.List.{List, [], _∷_, map}
 use Prim.Native.Nat.{ℕ}
@@ -15,6 +15,7 @@ use Rattle.script.specs.Left.{chipAfter}
 use Rattle.script.proofs.History.{acted-is, history-answered}
 use Rattle.fates.specs.Promise.{run}
 use Rattle.fates.specs.ScriptRun.{RunKept}
+use Rattle.fates.proofs.Unforced.{unforced}
 use Rattle.fates.proofs.Demand.{fates, disciplined}
 
 leaves-are : (c : Chip) (ls : List Line) → chipAfter c ls ≡ run c (map (λ (l : Line). eventOf (frameIn l)) ls)
@@ -27,4 +28,5 @@ run-kept text = record {
   leaves = leaves-are (powerUpWith allHigh) (linesOf text);
   fates = λ g s. fates g s allHigh (historyOf text);
   noneLost = λ g. disciplined g allHigh (historyOf text);
+  noneForced = λ g s. unforced g s allHigh (historyOf text);
 }

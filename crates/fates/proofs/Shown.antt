@@ -2,7 +2,7 @@
 -- with it.
 -- Rests on Tables, Accepted, Shapes and Followed, on bits' Logic, events' ByKind, levels' PortsAfter, ports' Strobed, the step's Outcome, and
 -- laws' OwnPort and Falls.
-use mathlib.Core.Path.{_≡_, _∙_, refl, ap, sym}
+use mathlib.Core.Path.{_≡_, _∙_, refl, ap, sym, subst}
 use mathlib.Core.Bool.{Bool, true, false, cond}
 use Prim.Native.Nat.{ℕ}
 use lib.Dec.{T, eqb}
@@ -28,7 +28,7 @@ use Rattle.laws.proofs.OwnPort.{own-pins, own-read}
 use Rattle.laws.proofs.Falls.{output-latch-stays}
 use Rattle.fates.specs.Kinds.{kindOf, accepts}
 use Rattle.fates.specs.Surroundings.{brought}
-use Rattle.fates.specs.Effects.{Effect, offered, followed, taken, ended, clearedAway, portNumber, levelsOn, strobePin, strobes, readRuns, writeRuns, falls, underLow, when, ownEffect, clears, effect}
+use Rattle.fates.specs.Effects.{Effect, offered, followed, taken, ended, clearedAway, forcedFull, forcedEmpty, portNumber, levelsOn, strobePin, fullPin, strobes, readRuns, writeRuns, ofPin, saysFull, falls, underLow, when, ownEffect, clears, effect}
 use Rattle.fates.specs.Bytes.{handedOver, same}
 use Rattle.fates.specs.Promise.{surroundingsOf, Shows}
 use Rattle.fates.proofs.Tables.{own-same, own-port, line-same, strobes-same}
@@ -52,6 +52,13 @@ under-condition P false d h = λ t. absurd t
 unless-cleared : (P : Type 0) (b : Bool) (d : Effect) → WhereTaken P d → WhereTaken P (cond b clearedAway d)
 unless-cleared P true d h = λ t. absurd t
 unless-cleared P false d h = h
+
+-- The end of a cycle takes none, nor does a flag that is forced.
+ends-take-none : (P : Type 0) (runs own says : Bool) (d : Effect) → takes d ≡ false → WhereTaken P (cond runs d (when own (cond says forcedFull forcedEmpty)))
+ends-take-none P true own says d none = λ t. absurd (subst T none t)
+ends-take-none P false true true d none = λ t. absurd t
+ends-take-none P false true false d none = λ t. absurd t
+ends-take-none P false false says d none = λ t. absurd t
 
 -- Levels take no byte from an input.
 levels-take-none : (P : Type 0) (fell low : Bool) (v u : ℕ) → WhereTaken P (cond fell (offered v) (when low (followed u)))
@@ -84,7 +91,7 @@ module _ (c : Chip) (g : Group) where
       by-kind (λ k. Shown Input (event k x d))
       (λ ok on t. absurd t)
       (λ ok on. under-condition _ (eqb x (portNumber g)) taken (λ own t. begun-shows x d ok on own))
-      (λ ok on. under-condition _ (readRuns g (c .phase)) ended (λ runs t. absurd t))
+      (λ ok on. ends-take-none _ (readRuns g (c .phase)) (ofPin (c .phase) (fullPin g Input)) (saysFull Input (bitOf (brought (c .phase)) 0)) ended refl)
       (λ ok on t. absurd t)
       (λ ok on. levels-take-none _ (falls g Input (surroundingsOf c) x d) (underLow g (surroundingsOf c) x) (levelsOn g (surroundingsOf c)) d)
       (λ k none ok on. absurd (no-kind-accepted (c .phase) k x d none ok))
@@ -120,7 +127,8 @@ module _ (c : Chip) (g : Group) where
       by-kind (λ k. Shown Output (event k x d))
       (λ ok on t. absurd t)
       (λ ok on t. absurd t)
-      (λ ok on. under-condition _ (writeRuns g (c .phase)) (offered (brought (c .phase))) (λ runs t. absurd t))
+      (λ ok on. ends-take-none _ (writeRuns g (c .phase)) (ofPin (c .phase) (fullPin g Output)) (saysFull Output (bitOf (brought (c .phase)) 0))
+      (offered (brought (c .phase))) refl)
       (λ ok on t. absurd t)
       (λ ok on. under-condition _ (falls g Output (surroundingsOf c) x d) taken (λ fell t. fall-shows x d ok on fell))
       (λ k none ok on. absurd (no-kind-accepted (c .phase) k x d none ok))

@@ -42,8 +42,9 @@ module _ (c : Core) where
   cycle-ended (Writing x d) =
       by-address (λ c′. surroundingsOf (onBus Idle c′) ≡ surroundingsAfter (surroundingsOf (onBus (Writing x d) c)) cycleEnded) c x d
       (λ mode. rw (mode) (surroundings-mode-word Idle c d))
-      (λ mode own c′ k. rw (mode) (surroundings-like Idle c′ c (spared-surrounded k)))
-      (λ mode c′ k. rw (mode) (surroundings-like Idle c′ c (k .surroundings)))
+      (λ mode three c′ k. rw (mode) (surroundings-like Idle c′ c (k .surroundings)))
+      (λ mode two c′ k. rw (mode) (surroundings-like Idle c′ c (spared-surrounded k)))
+      (λ mode elsewhere c′ k. rw (mode) (surroundings-like Idle c′ c (k .surroundings)))
 
   levels-set : (ph : Phase) (x d : ℕ) → surroundingsOf (onBus ph (afterLevels c x d)) ≡ surroundingsAfter (surroundingsOf (onBus ph c)) (newLevels x d)
   levels-set ph x d = rw (levels-word c x d, levels-ports c x d A, levels-ports c x d B, levels-lines c x d)

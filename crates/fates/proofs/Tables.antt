@@ -1,4 +1,4 @@
--- The history's table of the four channels is the chip's: the same port, the same pin, and strobed under the same mode words.
+-- The history's table of the four channels is the chip's: the same port, the same pins, and strobed under the same mode words.
 -- Rests on control's ByBits.
 use mathlib.Core.Path.{_≡_, refl, sym}
 use mathlib.Core.Bool.{true}
@@ -9,8 +9,8 @@ use Rattle.control.specs.declared.Group.the-variants.{A, B}
 use Rattle.control.proofs.ByBits.{a-takes, a-gives, b-takes, b-gives}
 use Rattle.channel.specs.declared.Side.{Side}
 use Rattle.channel.specs.declared.Side.the-variants.{Input, Output}
-use Rattle.chip.specs.Handshakes.{ownAddress, strobed, linePin}
-use Rattle.fates.specs.Effects.{portNumber, strobePin, strobes}
+use Rattle.chip.specs.Handshakes.{ownAddress, strobed, linePin, flagPin}
+use Rattle.fates.specs.Effects.{portNumber, strobePin, fullPin, strobes}
 
 pub own-same : (x : ℕ) (g : Group) → eqb x (portNumber g) ≡ ownAddress x g
 own-same x A = refl
@@ -25,6 +25,12 @@ line-same A Input = refl
 line-same A Output = refl
 line-same B Input = refl
 line-same B Output = refl
+
+pub full-same : (g : Group) (s : Side) → fullPin g s ≡ flagPin g s
+full-same A Input = refl
+full-same A Output = refl
+full-same B Input = refl
+full-same B Output = refl
 
 pub strobes-same : (w : ℕ) (g : Group) (s : Side) → strobes w g s ≡ strobed w g s
 strobes-same w A Input = sym (a-takes w)

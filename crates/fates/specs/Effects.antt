@@ -1,10 +1,10 @@
--- What each event of a history is to a channel ("Handshake"), from what surrounds the channel. The table of the four channels stands
--- here once more and apart from the chip's, so that a wrong pin or port on either side is seen.
+-- What each event of a history is to a channel ("Handshake", "Forcing the flags"), from what surrounds the channel. The table of the four channels
+-- stands here once more and apart from the chip's, so that a wrong pin or port on either side is seen.
 use mathlib.Core.Bool.{Bool, true, false, cond, not, _&&_, _||_}
 use mathlib.Core.List.{List, [], _∷_}
-use Prim.Native.Nat.{ℕ}
+use Prim.Native.Nat.{ℕ, _+_, _*_}
 use lib.Dec.{eqb}
-use Rattle.bits.specs.Bit.{bitOf}
+use Rattle.bits.specs.Bit.{bitOf, num}
 use Rattle.events.specs.Event.{Event}
 use Rattle.bus.specs.declared.Phase.{Phase}
 use Rattle.bus.specs.declared.Phase.the-variants.{Idle, Reading, Writing}
@@ -17,11 +17,12 @@ use Rattle.fates.specs.Surroundings.{Surroundings, ofModeWord, brought, 
 
 -- What an event can be to a channel. `offered v`: the byte v comes in by STB, or is written. `followed v`: the levels v come onto the lines
 -- of an input whose STB is low, whether or not a byte waits there to take that value. `taken`: a read of the port begins, or ACK falls,
--- whether or not a byte is there to be had. `ended`: that read is over. `clearedAway`: all channels are wiped. `nothing`: the event is for
--- others.
+-- whether or not a byte is there to be had. `ended`: that read is over. `clearedAway`: all channels are wiped. `forcedFull`: the flag is forced so
+-- that it says that a byte is there, whether or not there is room for one. `forcedEmpty`: it is forced so that it says that none is, whether or
+-- not one waits. `nothing`: the event is for others.
 pub data Effect : Type 0 where
   offered followed : ℕ → Effect
-  taken ended clearedAway nothing : Effect
+  taken ended clearedAway forcedFull forcedEmpty nothing : Effect
 
 -- A channel's port, on the bus and among the ports.
 abbrev pub portNumber : Group → ℕ
@@ -39,6 +40,13 @@ strobePin A Input = 4
 strobePin A Output = 6
 strobePin B Input = 2
 strobePin B Output = 2
+
+-- The pin of its IBF or OBF ("Port C roles").
+abbrev pub fullPin : Group → Side → ℕ
+fullPin A Input = 5
+fullPin A Output = 7
+fullPin B Input = 1
+fullPin B Output = 1
 
 -- Group A is in mode 2 by bit 6 of the mode word; group B never is.
 abbrev pub inModeTwo : ℕ → Group → Bool
@@ -81,18 +89,38 @@ falls g s a x d = eqb x 2 && (bitOf (a .levelsC) (strobePin g s) && not (bitOf d
 abbrev pub underLow : Group → Surroundings → ℕ → Bool
 underLow g a x = eqb x (portNumber g) && not (bitOf (a .levelsC) (strobePin g Input))
 
+-- The pin that a bit set/reset word names, in its bits 3 to 1 ("Writes and bit set/reset").
+abbrev pub pinNamed : ℕ → ℕ
+pinNamed d = num (bitOf d 1) + 2 * num (bitOf d 2) + 4 * num (bitOf d 3)
+
+-- The write that runs is of such a word and names pin n: it is to control, and bit 7 is clear.
+abbrev pub ofPin : Phase → ℕ → Bool
+ofPin Idle n = false
+ofPin (Reading p) n = false
+ofPin (Writing x d) n = eqb x 3 && (not (bitOf d 7) && eqb (pinNamed d) n)
+
+-- The level of its flag says that a byte is there: IBF does so when it is set, and OBF when it is reset.
+abbrev pub saysFull : Side → Bool → Bool
+saysFull Input level = level
+saysFull Output level = not level
+
 -- An effect under a condition.
 abbrev pub when : Bool → Effect → Effect
 when holds d = cond holds d nothing
 
+-- What bit set/reset is to the channel, as its write ends: where it names the flag, the level is bit 0 ("Forcing the flags").
+abbrev pub forced : Group → Side → Phase → Effect
+forced g s ph = when (ofPin ph (fullPin g s)) (cond (saysFull s (bitOf (brought ph) 0)) forcedFull forcedEmpty)
+
 -- What an accepted event is to a strobed channel ("Handshake"). The end of a cycle is what the phase makes of it: to an input it ends the
--- read of its port, where that runs; to an output it offers the byte written to its port, where that write runs.
+-- read of its port, where that runs; to an output it offers the byte written to its port, where that write runs; to either it forces the flag
+-- where bit set/reset names it.
 abbrev pub ownEffect : Group → Side → Surroundings → Kind → Effect
 ownEffect g s a reset = nothing
 ownEffect g Input a (readBegun x) = when (eqb x (portNumber g)) taken
 ownEffect g Output a (readBegun x) = nothing
-ownEffect g Input a cycleEnded = when (readRuns g (a .phase)) ended
-ownEffect g Output a cycleEnded = when (writeRuns g (a .phase)) (offered (brought (a .phase)))
+ownEffect g Input a cycleEnded = cond (readRuns g (a .phase)) ended (forced g Input (a .phase))
+ownEffect g Output a cycleEnded = cond (writeRuns g (a .phase)) (offered (brought (a .phase))) (forced g Output (a .phase))
 ownEffect g s a (writeBegun x d) = nothing
 ownEffect g Input a (newLevels x d) = cond (falls g Input a x d) (offered (levelsOn g a)) (when (underLow g a x) (followed d))
 ownEffect g Output a (newLevels x d) = when (falls g Output a x d) taken

@@ -12,7 +12,7 @@ use Rattle.chip.specs.declared.Levels.{Levels}
 use Rattle.chip.specs.State.{allLow, allHigh}
 use Rattle.ports.specs.declared.Pins.{Pins}
 use Rattle.laws.specs.Marked.{strobe, P13}
-use Rattle.fates.specs.Bytes.{Fate, handedOver, overwritten, swallowed, cleared, waiting, Byte, offeredAt, decidedAt, bytesOf}
+use Rattle.fates.specs.Bytes.{Fate, handedOver, overwritten, swallowed, cleared, struck, waiting, Byte, offeredAt, plantedAt, decidedAt, bytesOf}
 
 -- The levels at power-up, a history, one of the four channels, and the bytes that it is said to have had.
 pub record Example : Type 0 where
@@ -34,6 +34,11 @@ bytesIn x = bytesOf (x .group) (x .side) (x .start) (x .history)
 infixl 70 _at_is_at_
 abbrev pub _at_is_at_ : ℕ → ℕ → Fate → ℕ → Byte
 v at n is f at m = record { offer = offeredAt n v; outcome = decidedAt m f }
+
+-- The byte v, planted by the event at place n, and decided at place m.
+infixl 70 _plantedBy_is_at_
+abbrev pub _plantedBy_is_at_ : ℕ → ℕ → Fate → ℕ → Byte
+v plantedBy n is f at m = record { offer = plantedAt n v; outcome = decidedAt m f }
 
 -- Last season's bale: a digit is strobed in and its read begins; the next digit comes before the read has ended, and is lost.
 abbrev pub lostBale : List Event
@@ -87,8 +92,32 @@ settlingTwice = write 3 0xb0 ++ levels 2 0xef ++ levels 0 0x41 ++ levels 2 0xff 
 abbrev pub tooLate : List Event
 tooLate = write 3 0xb0 ++ levels 0 0x41 ++ levels 2 0xef ++ readFrom 0 ++ levels 0 0x42 ++ cycleEnd ++ levels 0 0x43
 
--- Each of the five fates, each side, both groups, mode 2, a port without a handshake, which has no bytes, lines that start low, and levels
--- that come while STB is low.
+-- The old test disk sets IBF of port A and reads; then it sets IBF once more, and resets it. The latch is 00 since the mode word.
+abbrev pub testDisk : List Event
+testDisk = write 3 0xb0 ++ write 3 0x0b ++ readFrom 0 ++ cycleEnd ++ write 3 0x0b ++ write 3 0x0a
+
+-- A digit is struck. Then IBF is set twice: once it plants what the strobe left in the latch, and once it finds no room.
+abbrev pub struckAndPlanted : List Event
+struckAndPlanted = write 3 0xb0 ++ strobe 0x41 ++ write 3 0x0a ++ write 3 0x0b ++ write 3 0x0b ++ readFrom 0
+
+-- A byte that is planted while STB is low has the levels that come then, and the next strobe overwrites it.
+abbrev pub plantedUnderLow : List Event
+plantedUnderLow = write 3 0xb0 ++ write 3 0x0b ++ levels 0 0x42 ++ levels 2 0xff ++ strobe 0x43
+
+-- A printer on port B: OBF is reset once its byte was taken, and the latch is given out again; a byte is struck as OBF is set; one that is
+-- planted is cleared by a reset.
+abbrev pub plantedForPrinter : List Event
+plantedForPrinter =
+    write 3 0x94 ++ write 1 0x33 ++ levels 2 0xfb ++ levels 2 0xff ++ write 3 0x02 ++ levels 2 0xfb ++ write 1 0x34 ++ write 3 0x03 ++ write 3 0x02
+    ++ (event 0 0 0 ∷ [])
+
+-- Nothing is forced: port A is in mode 0, where pin 5 is a free output; then in mode 1, where pin 3 is INTR, and pin 7 no OBF; and port B
+-- has no handshake.
+abbrev pub notForced : List Event
+notForced = write 3 0x80 ++ write 3 0x0b ++ write 3 0xb0 ++ write 3 0x07 ++ write 3 0x06 ++ write 3 0x0e ++ write 3 0x03 ++ write 3 0x02
+
+-- Each of the six fates, each side, both groups, mode 2, a port without a handshake, which has no bytes, lines that start low, levels that come
+-- while STB is low, and bytes that are planted.
 abbrev pub examples : List Example
 examples =
     example allHigh lostBale A Input (0x41 at 4 is handedOver at 6 ∷ 0x42 at 8 is swallowed at 10 ∷ [])
@@ -105,6 +134,14 @@ examples =
     ∷ example allHigh settling A Input (0x41 at 3 is handedOver at 8 ∷ [])
     ∷ example allHigh settlingTwice A Input (0x41 at 3 is overwritten at 7 ∷ 0x43 at 7 is waiting at 9 ∷ [])
     ∷ example allHigh tooLate A Input (0x41 at 4 is handedOver at 5 ∷ [])
+    ∷ example allHigh testDisk A Input (0x00 plantedBy 4 is handedOver at 5 ∷ 0x00 plantedBy 8 is struck at 10 ∷ [])
+    ∷ example allHigh struckAndPlanted A Input (0x41 at 4 is struck at 7 ∷ 0x41 plantedBy 9 is handedOver at 12 ∷ [])
+    ∷ example allLow plantedUnderLow A Input (0x42 plantedBy 4 is overwritten at 8 ∷ 0x43 at 8 is waiting at 10 ∷ [])
+    ∷ example allHigh plantedForPrinter B Output
+    (0x33 at 4 is handedOver at 5 ∷ 0x33 plantedBy 8 is handedOver at 9 ∷ 0x34 at 11 is struck at 13 ∷ 0x34 plantedBy 15 is cleared at 16 ∷ [])
+    ∷ example allHigh notForced A Input []
+    ∷ example allHigh notForced A Output []
+    ∷ example allHigh notForced B Input []
     ∷ []
 
 -- The same events n times over.
@@ -119,7 +156,7 @@ strobedTimes n v = write 3 0xb0 ++ times n (strobe v)
 -- What the chip is said to count and to show in some of the examples. The lost bale: both digits were offered, one was handed over and
 -- one swallowed.
 abbrev pub baleTally : Tally
-baleTally = record { offered = 2; handed = 1; overwritten = 0; swallowed = 1; cleared = 0 }
+baleTally = record { offered = 2; handed = 1; overwritten = 0; swallowed = 1; cleared = 0; planted = 0; struck = 0 }
 
 -- Both ways: after the write the lines of port A are still the outside's, as the strobe left them.
 abbrev pub beforeAck : Pins

@@ -1,6 +1,7 @@
 pub mod Kinds
 pub mod Surroundings
 pub mod Effects
+pub mod Left
 pub mod Bytes
 pub mod Raised
 pub mod Promise

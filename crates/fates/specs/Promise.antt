@@ -19,7 +19,8 @@ use Rattle.ports.specs.Pins.{pinsOf}
 use Rattle.step.specs.Step.{stepped}
 use Rattle.fates.specs.Surroundings.{Surroundings}
 use Rattle.fates.specs.Effects.{Effect, portNumber, strobes, effects}
-use Rattle.fates.specs.Bytes.{handedOver, overwritten, swallowed, cleared, waiting, Byte, Offer, offeredAt, withFate, bytes, count}
+use Rattle.fates.specs.Left.{Left, left}
+use Rattle.fates.specs.Bytes.{handedOver, overwritten, swallowed, cleared, struck, waiting, Byte, Offer, offeredAt, withFate, bytes, plantedAmong, offeredAmong, count}
 
 -- The chip after a history: each event meets the chip that the one before it left.
 abbrev pub run : Chip → List Event → Chip
@@ -40,9 +41,13 @@ surroundingsOf c = record {
   levelsC = c .core .c .outside;
 }
 
--- The bytes offered since then, their first event at place 1.
+-- What the chip's channel holds there.
+abbrev pub leftIn : Group → Side → Chip → Left
+leftIn g s c = left (channelOf (c .core) g s .fill) (channelOf (c .core) g s .latch)
+
+-- The bytes offered and planted since then, their first event at place 1.
 abbrev pub newBytes : Group → Side → Chip → List Event → List Byte
-newBytes g s c es = bytes 1 (effects g s (surroundingsOf c) es)
+newBytes g s c es = bytes s (leftIn g s c) 1 (effects g s (surroundingsOf c) es)
 
 -- The byte, if any, that waits where the effects begin.
 abbrev pub heldByte : Fill → Offer → ℕ → List Effect → List Byte
@@ -91,30 +96,34 @@ handshakeAlone w g Output = strobes w g Output
 abbrev pub WaitsByHandshake : Group → Side → Chip → Type 0
 WaitsByHandshake g s c = channelOf (c .core) g s .fill ≡ Waiting → handshakeAlone (c .core .word) g s ≡ true
 
--- What is promised of a channel after the events es from the chip c, where `new` are the bytes offered since, `all` are these and the
--- one that waited at the start, and `start` are the tallies there.
+-- What is promised of a channel after the events es from the chip c, where `new` are the bytes offered and planted since, `all` are these and
+-- the one that waited at the start, and `start` are the tallies there.
 pub record Fates (g : Group) (s : Side) (c : Chip) (es : List Event) (start : Tally) (new all : List Byte) : Type 0 where
-  -- Each byte has one of the five fates; at most one waits, and one does exactly where the chip's channel waits.
+  -- Each byte has one of the six fates; at most one waits, and one does exactly where the chip's channel waits.
   pub oneFateEach :
-      length all ≡ count handedOver all + count overwritten all + count swallowed all + count cleared all + count waiting all
+      length all ≡ count handedOver all + count overwritten all + count swallowed all + count cleared all + count struck all + count waiting all
   pub atMostOneWaits : count waiting all ≤ 1
   pub waitsInTheChip : count waiting all ≡ num (isWaiting (channelOf (run c es .core) g s .fill))
-  -- One that was offered since and waits is what the channel's latch holds.
+  -- One that came since and waits is what the channel's latch holds.
   pub heldInTheLatch : HeldInTheLatch g s c es new
-  -- Each byte handed over is the one that was offered, with the value on which it settled, and they come in order.
+  -- Each byte handed over is the one that was offered or planted, with the value on which it settled, and they come in order.
   pub asOffered : Each (λ b. b .outcome .fate ≡ handedOver → ShownAt g s c es (b .outcome .place) (b .offer .value)) all
   pub inOrder : InOrder 0 all
-  -- The tallies are the counts.
-  pub tallyOffered : tallies g s c es .offered ≡ (start .offered + length new) % 65536
+  -- Each that came since was either offered or planted, and the tallies are the counts.
+  pub offeredOrPlanted : length new ≡ offeredAmong new + plantedAmong new
+  pub tallyOffered : tallies g s c es .offered ≡ (start .offered + offeredAmong new) % 65536
   pub tallyHanded : tallies g s c es .handed ≡ (start .handed + count handedOver all) % 65536
   pub tallyOverwritten : tallies g s c es .overwritten ≡ (start .overwritten + count overwritten all) % 65536
   pub tallySwallowed : tallies g s c es .swallowed ≡ (start .swallowed + count swallowed all) % 65536
   pub tallyCleared : tallies g s c es .cleared ≡ (start .cleared + count cleared all) % 65536
+  pub tallyPlanted : tallies g s c es .planted ≡ (start .planted + plantedAmong new) % 65536
+  pub tallyStruck : tallies g s c es .struck ≡ (start .struck + count struck all) % 65536
 
--- A channel's tallies balance: what was offered is what was handed over, overwritten, swallowed and cleared, and the byte that may still
--- wait; as far as tallies tell, which begin again after 65,535.
+-- A channel's tallies balance: what was offered or planted is what was handed over, overwritten, swallowed, cleared and struck, and the byte
+-- that may still wait; as far as tallies tell, which begin again after 65,535.
 abbrev pub Balanced : Tally → Fill → Type 0
-Balanced t f = t .offered ≡ (t .handed + t .overwritten + t .swallowed + t .cleared + num (isWaiting f)) % 65536
+Balanced t f =
+    (t .offered + t .planted) % 65536 ≡ (t .handed + t .overwritten + t .swallowed + t .cleared + t .struck + num (isWaiting f)) % 65536
 
 -- Tallies of sixteen bits, as the type makes them.
 pub record SixteenBits (t : Tally) : Type 0 where
@@ -123,3 +132,5 @@ pub record SixteenBits (t : Tally) : Type 0 where
   pub overwritten : t .overwritten < 65536
   pub swallowed : t .swallowed < 65536
   pub cleared : t .cleared < 65536
+  pub planted : t .planted < 65536
+  pub struck : t .struck < 65536

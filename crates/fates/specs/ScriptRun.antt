@@ -14,11 +14,11 @@ use Rattle.script.specs.Left.{chipLeft}
 use Rattle.fates.specs.Surroundings.{atPowerUp}
 use Rattle.fates.specs.Bytes.{bytesOf}
 use Rattle.fates.specs.Promise.{Fates, run}
-use Rattle.fates.specs.Discipline.{Disciplined, NoneLost}
+use Rattle.fates.specs.Discipline.{Disciplined, NoneLost, NeverForced, NoneForced}
 
 -- What is promised of a text: its answers are those of its history from a power-up with every line high, and the chip that it leaves is
 -- the one that its history leads to; every byte of that history has its fate on each of the four channels; and where scale and program
--- mind IBF no input byte is lost.
+-- mind IBF no input byte is lost. Where no flag is forced no byte is planted or struck.
 pub record RunKept (text : List ℕ) : Type 0 where
   pub answers : answersOf (atStart I8255A) text ≡ answersTo (as8255A (powerUpWith allHigh)) (historyOf text)
   pub leaves : chipLeft text ≡ run (powerUpWith allHigh) (historyOf text)
@@ -27,3 +27,5 @@ pub record RunKept (text : List ℕ) : Type 0 where
   pub noneLost : (g : Group)
       → Disciplined g (atPowerUp allHigh) (powerUpWith allHigh) (historyOf text)
       → NoneLost (bytesOf g Input allHigh (historyOf text))
+  pub noneForced : (g : Group) (s : Side) → NeverForced g s (atPowerUp allHigh) (historyOf text)
+      → NoneForced (bytesOf g s allHigh (historyOf text)) (bytesOf g s allHigh (historyOf text))

@@ -88,7 +88,7 @@ as-if-alone g c es out =
       belongings = by-history g _ (left-through g) es c c itself clear;
       bytes = λ s.
           let ch = channelOf (c .core) g s in
-          same-heard (ch .fill) (offeredAt 0 (ch .latch)) _ _ (by-history g _ (heard-through g s) es c c itself clear);
+          same-heard s (ch .fill) (offeredAt 0 (ch .latch)) _ _ (by-history g _ (heard-through g s) es c c itself clear);
     }
 
 -- From power-up, under any levels, where no byte waits.

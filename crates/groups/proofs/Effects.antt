@@ -1,25 +1,29 @@
 -- What an event is to the channels of a group: nothing where it is the other group's, and else the same without the other group's events.
--- Rests on Alike, Places, Bus, bits' Logic, and fates' Tables.
+-- Rests on Alike, Pins, Places, Bus, bits' Logic, and fates' PinNamed and Tables.
 use mathlib.Core.Path.{_≡_, _∙_, refl, ap}
-use mathlib.Core.Bool.{Bool, true, false, _&&_, and-not-self}
-use Prim.Native.Nat.{ℕ}
+use mathlib.Core.Bool.{Bool, true, false, cond, not, _&&_, and-false, and-not-self}
+use Prim.Native.Nat.{ℕ, _/_, _%_}
 use lib.Dec.{eqb}
 use borrow.Author.Tests.{eqb-true}
 use Rattle.bits.specs.Bit.{bitOf}
-use Rattle.bits.proofs.Logic.{contrary}
+use Rattle.bits.proofs.Logic.{contrary, turned}
 use Rattle.events.specs.Event.{Event}
 use Rattle.bus.specs.declared.Phase.{Phase}
 use Rattle.bus.specs.declared.Phase.the-variants.{Idle, Reading, Writing}
 use Rattle.control.specs.declared.Group.{Group}
+use Rattle.control.specs.declared.Group.the-variants.{A, B}
 use Rattle.channel.specs.declared.Side.{Side}
 use Rattle.channel.specs.declared.Side.the-variants.{Input, Output}
 use Rattle.fates.specs.Kinds.{Kind, reset, cycleEnded, unknown, readBegun, writeBegun, newLevels, kindOf, accepts}
 use Rattle.fates.specs.Surroundings.{Surroundings, ofModeWord}
-use Rattle.fates.specs.Effects.{nothing, levelsOn, strobePin, strobes, readRuns, writeRuns, falls, underLow, when, ownEffect, clears, effect}
+use Rattle.fates.specs.Effects.{forcedFull, forcedEmpty, nothing, levelsOn, strobePin, fullPin, strobes, readRuns, writeRuns, pinNamed, saysFull, falls, underLow, when, forced, ownEffect, clears, effect}
+use Rattle.fates.proofs.PinNamed.{pin-same}
 use Rattle.fates.proofs.Tables as tables
+use Rattle.groups.specs.Belongings.{itsPin}
 use Rattle.groups.specs.Doings.{other, itsCycle, isOf}
 use Rattle.groups.specs.Alone.{inTheWay}
 use Rattle.groups.proofs.Alike.{SameAt, line-same}
+use Rattle.groups.proofs.Pins.{acted-apart}
 use Rattle.groups.proofs.Places.{read-away, write-away, sets-bit, levels-away, levels-either}
 use Rattle.groups.proofs.Bus.{freed, not-its, accepted-beside}
 
@@ -42,6 +46,28 @@ module _ (g : Group) where
   no-write Idle its = refl
   no-write (Reading x) its = refl
   no-write (Writing x d) its = write-away g x d its
+
+  -- It forces no flag of the group, which stands at the group's own pin.
+  full-its : (s : Side) → itsPin g (fullPin g s) ≡ true
+  full-its s = go g s
+    where
+      go : (g : Group) (s : Side) → itsPin g (fullPin g s) ≡ true
+      go A Input = refl
+      go A Output = refl
+      go B Input = refl
+      go B Output = refl
+
+  no-force : (s : Side) (ph : Phase) → itsCycle (other g) ph ≡ true → forced g s ph ≡ nothing
+  no-force s Idle its = refl
+  no-force s (Reading x) its = refl
+  no-force s (Writing x d) its = go (eqb x 3) refl
+    where
+      go : (three : Bool) → eqb x 3 ≡ three
+          → when (three && (not (bitOf d 7) && eqb (pinNamed d) (fullPin g s))) (cond (saysFull s (bitOf d 0)) forcedFull forcedEmpty) ≡ nothing
+      go true at =
+          let apart = acted-apart g (d / 2 % 8) (fullPin g s) (sets-bit (other g) x d its (eqb-true x 3 at) .1) (full-its s) in
+          rw (pin-same d, turned (d / 2 % 8) (fullPin g s), apart, and-false (not (bitOf d 7)))
+      go false at = refl
 
   no-mode-word : (ph : Phase) → itsCycle (other g) ph ≡ true → ofModeWord ph ≡ false
   no-mode-word Idle its = refl
@@ -67,8 +93,8 @@ module _ (g : Group) (a : Surroundings) where
   quiet-own s reset its = refl
   quiet-own Input (readBegun x) its = rw (read-away g x its)
   quiet-own Output (readBegun x) its = refl
-  quiet-own Input cycleEnded its = rw (no-read g (a .phase) its)
-  quiet-own Output cycleEnded its = rw (no-write g (a .phase) its)
+  quiet-own Input cycleEnded its = rw (no-read g (a .phase) its, no-force g Input (a .phase) its)
+  quiet-own Output cycleEnded its = rw (no-write g (a .phase) its, no-force g Output (a .phase) its)
   quiet-own s (writeBegun x d) its = refl
   quiet-own Input (newLevels x d) its = rw (no-line-falls Input x d its, none-come x d its)
   quiet-own Output (newLevels x d) its = rw (no-line-falls Output x d its)

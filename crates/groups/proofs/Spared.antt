@@ -1,6 +1,6 @@
 -- What the other group's events leave of the chip: a rule at another port's address, bit set/reset of another pin, and levels on port C
 -- that differ elsewhere.
--- Rests on Alike, Pins, bits' BitLaws, chip's OnPort, and on the PortsAfter of settings, writes and levels.
+-- Rests on Alike, Pins, bits' BitLaws, chip's OnPort and OneChannel, and on the PortsAfter of settings, writes and levels.
 use mathlib.Core.Path.{_≡_, _∙_, refl, ap}
 use mathlib.Core.Bool.{Bool, true, false, and-false, and-not-self}
 use Prim.Native.Nat.{ℕ, _/_, _%_}
@@ -11,13 +11,15 @@ use Rattle.control.specs.declared.Group.the-variants.{A, B}
 use Rattle.roles.specs.Role.{Role, input, output, INTR, IBF, OBF, STB, ACK, roleOf}
 use Rattle.channel.specs.declared.Side.{Side}
 use Rattle.channel.specs.declared.Side.the-variants.{Input, Output}
+use Rattle.channel.specs.Moves.{afterForce}
 use Rattle.chip.specs.declared.Port.{Port}
 use Rattle.chip.specs.declared.Enables.{Enables}
 use Rattle.chip.specs.declared.Core.{Core}
 use Rattle.chip.specs.State.{portOf, withLatch, withEnables, onPort}
 use Rattle.chip.specs.Handshakes.{ownAddress, strobed, linePin, groupAt, enableOf}
 use Rattle.chip.proofs.OnPort.{port-on, word-on, lines-on, enables-on}
-use Rattle.settings.specs.ControlWord.{enabled, setAs, pinSet, afterControlWord}
+use Rattle.chip.proofs.OneChannel.{sameGroup, port-put, channel-surrounded, channel-lines, channel-enables}
+use Rattle.settings.specs.ControlWord.{enabled, flagPut, setAs, pinSet, afterControlWord}
 use Rattle.settings.proofs.PortsAfter.{bit-word}
 use Rattle.writes.proofs.PortsAfter.{Stored}
 use Rattle.levels.specs.Levels.{fallen, edged, lineFalls, edgesOn, afterLevelsOnC}
@@ -53,6 +55,10 @@ enabled-apart e A t Output v = refl
 enabled-apart e B Input s v = refl
 enabled-apart e B Output s v = refl
 
+groups-apart : (g : Group) → sameGroup (other g) g ≡ false
+groups-apart A = refl
+groups-apart B = refl
+
 module _ (g : Group) (c : Core) (n : ℕ) (v : Bool) (acts : actsOn (other g) n ≡ true) where
   enabling : (t : Side) → Alike g (withEnables c (enabled (c .inte) (groupAt n) t v)) c
   enabling t = rw (acted-group (other g) n acts) (record {
@@ -61,6 +67,15 @@ module _ (g : Group) (c : Core) (n : ℕ) (v : Bool) (acts : actsOn (other g) n 
     enables = λ s. enabled-apart (c .inte) g t s v;
     latch = λ k small its. refl;
     lines = λ k small its. refl;
+  })
+
+  forcing : (t : Side) → Alike g (flagPut c (groupAt n) t v) c
+  forcing t = rw (acted-group (other g) n acts) (record {
+    word = channel-surrounded c (λ s. afterForce s v) (other g) t .word;
+    port = port-put c (λ s. afterForce s v) (other g) g t ∙ rw (groups-apart g);
+    enables = λ s. ap (λ e. enableOf e g s) (channel-enables c (λ s. afterForce s v) (other g) t);
+    latch = λ k small its. ap (λ l. bitOf (l .latch) k) (channel-lines c (λ s. afterForce s v) (other g) t);
+    lines = λ k small its. ap (λ l. bitOf (l .outside) k) (channel-lines c (λ s. afterForce s v) (other g) t);
   })
 
   -- A pin on which the other group acts is set, in any role that it has.
@@ -74,8 +89,8 @@ module _ (g : Group) (c : Core) (n : ℕ) (v : Bool) (acts : actsOn (other g) n 
     lines = λ k small its. refl;
   }
   set-elsewhere INTR = alike-same g c
-  set-elsewhere IBF = alike-same g c
-  set-elsewhere OBF = alike-same g c
+  set-elsewhere IBF = forcing Input
+  set-elsewhere OBF = forcing Output
   set-elsewhere STB = enabling Input
   set-elsewhere ACK = enabling Output
 

@@ -1,5 +1,5 @@
 -- Chips alike in what belongs to a group stay so under one and the same event.
--- Rests on Alike, Rules, bits' BitLaws, chip's OnPort and levels' PortsAfter.
+-- Rests on Alike, Rules, bits' BitLaws, chip's OnPort and OneChannel, and levels' PortsAfter.
 use mathlib.Core.Path.{_≡_, _∙_, refl, ap, sym, subst}
 use mathlib.Core.Bool.{Bool, true, false, cond}
 use Prim.Native.Nat.{ℕ}
@@ -16,14 +16,17 @@ use Rattle.control.specs.Word.{controlOf}
 use Rattle.roles.specs.Role.{Role, input, output, INTR, IBF, OBF, STB, ACK, roleOf}
 use Rattle.channel.specs.declared.Side.{Side}
 use Rattle.channel.specs.declared.Side.the-variants.{Input, Output}
+use Rattle.channel.specs.declared.Channel.{Channel}
+use Rattle.channel.specs.Moves.{afterForce}
 use Rattle.chip.specs.declared.Port.{Port}
 use Rattle.chip.specs.declared.Enables.{Enables}
 use Rattle.chip.specs.declared.Core.{Core}
 use Rattle.chip.specs.State.{portOf, withLatch, withEnables, onPort}
 use Rattle.chip.specs.Handshakes.{groupAt, enableOf}
 use Rattle.chip.proofs.OnPort.{port-on, word-on, lines-on, enables-on}
+use Rattle.chip.proofs.OneChannel.{port-put, channel-surrounded, channel-lines, channel-enables}
 use Rattle.settings.specs.ModeWord.{clearedPort, afterModeWord}
-use Rattle.settings.specs.ControlWord.{enabled, setAs, pinSet, obeyed, afterControlWord}
+use Rattle.settings.specs.ControlWord.{enabled, flagPut, setAs, pinSet, obeyed, afterControlWord}
 use Rattle.reads.specs.Read.{afterReadBegins, afterReadEnds}
 use Rattle.writes.specs.Write.{writable, latchWritten, afterWriteEnds}
 use Rattle.levels.specs.Levels.{fallen, lineFalls, letsThrough, afterLevelsOnC, afterLevels}
@@ -98,6 +101,18 @@ module _ (g : Group) (c′ c : Core) (k : Alike g c′ c) where
     lines = k .lines;
   }
 
+  -- A flag is forced.
+  forced-both : (h : Group) (s : Side) (v : Bool) → Alike g (flagPut c′ h s v) (flagPut c h s v)
+  forced-both h s v =
+      let f : Side → Channel → Channel = λ s. afterForce s v in
+      record {
+        word = channel-surrounded c′ f h s .word ∙ k .word ∙ sym (channel-surrounded c f h s .word);
+        port = port-put c′ f h g s ∙ rw (k .port) (sym (port-put c f h g s));
+        enables = λ t. rw (channel-enables c′ f h s, channel-enables c f h s) (k .enables t);
+        latch = λ n small its. rw (channel-lines c′ f h s, channel-lines c f h s) (k .latch n small its);
+        lines = λ n small its. rw (channel-lines c′ f h s, channel-lines c f h s) (k .lines n small its);
+      }
+
   -- A pin is set, in any role that it has.
   set-both : (n : ℕ) (v : Bool) (r : Role) → Alike g (setAs c′ n v r) (setAs c n v r)
   set-both n v input = k
@@ -105,8 +120,8 @@ module _ (g : Group) (c′ c : Core) (k : Alike g c′ c) where
       latch-both _ _ (λ m small its.
       bit-of-with (c′ .c .latch) n v m small ∙ ap (cond (eqb m n) v) (k .latch m small its) ∙ sym (bit-of-with (c .c .latch) n v m small))
   set-both n v INTR = k
-  set-both n v IBF = k
-  set-both n v OBF = k
+  set-both n v IBF = forced-both (groupAt n) Input v
+  set-both n v OBF = forced-both (groupAt n) Output v
   set-both n v STB = enables-both _ _ (enabled-both (c′ .inte) (c .inte) v g (k .enables) (groupAt n) Input)
   set-both n v ACK = enables-both _ _ (enabled-both (c′ .inte) (c .inte) v g (k .enables) (groupAt n) Output)
 

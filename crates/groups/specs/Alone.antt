@@ -29,13 +29,14 @@ everInTheWay g a (e ∷ es) = inTheWay g a (kindOf e) || everInTheWay g (surroun
 abbrev pub outOfTheWay : Group → Surroundings → List Event → Bool
 outOfTheWay g a es = not (itsCycle g (a .phase)) && not (everInTheWay g a es)
 
--- A byte, its places aside.
+-- A byte, its places aside: whether it was planted, its value and its fate.
 pub record ValueAndFate : Type 0 where
+  pub planted : Bool
   pub value : ℕ
   pub fate : Fate
 
 abbrev pub valueAndFate : Byte → ValueAndFate
-valueAndFate b = record { value = b .offer .value; fate = b .outcome .fate }
+valueAndFate b = record { planted = b .offer .planted; value = b .offer .value; fate = b .outcome .fate }
 
 -- So of all the bytes of a channel, in their order.
 abbrev pub valuesAndFates : List Byte → List ValueAndFate

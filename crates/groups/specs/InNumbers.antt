@@ -19,7 +19,7 @@ moment = write 3 0xb4 ++ write 3 0x0f ++ write 3 0x09 ++ strobe 0x41 ++ levels 0
 
 -- One byte was offered, and waits.
 abbrev pub oneOffered : Tally
-oneOffered = record { offered = 1; handed = 0; overwritten = 0; swallowed = 0; cleared = 0 }
+oneOffered = record { offered = 1; handed = 0; overwritten = 0; swallowed = 0; cleared = 0; planted = 0; struck = 0 }
 
 abbrev pub scaleChannel : Channel
 scaleChannel = record { fill = Waiting; latch = 0x41; tally = oneOffered }

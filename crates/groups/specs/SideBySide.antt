@@ -56,7 +56,7 @@ printerAtWork =
 -- A byte's value and fate.
 infixl 70 _is_
 abbrev pub _is_ : ℕ → Fate → ValueAndFate
-v is f = record { value = v; fate = f }
+v is f = record { planted = false; value = v; fate = f }
 
 -- From a power-up with every line high: what surrounds the first event, the bytes of a channel, and the history without a group's events.
 abbrev pub start : Surroundings

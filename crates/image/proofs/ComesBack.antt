@@ -1,10 +1,12 @@
--- A state comes back from its image.
--- Rests on nothing.
-use mathlib.Core.Path.{_≡_, refl}
-use mathlib.Core.Bool.{Bool, true, false}
+-- A state that has an image comes back from it.
+-- Rests on bits' Logic.
+use mathlib.Core.Path.{_≡_, refl, ap}
+use mathlib.Core.Bool.{Bool, true, false, _&&_}
 use Prim.Native.Nat.{ℕ, _+_, _*_, _/_, _%_}
 use native.Mathlib.Omega.{arith}
+use borrow.Author.Tests.{ltb-true, lt-ltb, le-ltb}
 use Rattle.bits.specs.Bit.{bitOf, valueOf}
+use Rattle.bits.proofs.Logic.{both}
 use Rattle.bus.specs.declared.Phase.{Phase}
 use Rattle.bus.specs.declared.Phase.the-variants.{Idle, Reading, Writing}
 use Rattle.channel.specs.declared.Fill.{Fill}
@@ -12,8 +14,10 @@ use Rattle.channel.specs.declared.Fill.the-variants.{Empty, Waiting, Fetching}
 use Rattle.channel.specs.declared.Channel.{Channel}
 use Rattle.chip.specs.declared.Enables.{Enables}
 use Rattle.chip.specs.declared.Chip.{Chip}
-use Rattle.image.specs.Layout.{fillByte, enablesByte, busByte, addressByte, writtenByte, imageOf}
-use Rattle.image.specs.Loaded.{fillAs, enablesAs, phaseAs, stateOf}
+use Rattle.image.specs.Places as places
+use Rattle.image.specs.Layout.{tallyBytes, fillByte, enablesByte, busByte, writtenByte, imageOf}
+use Rattle.image.specs.Loaded.{tallyAt, fillAs, enablesAs, phaseAs, stateOf}
+use Rattle.image.specs.Good.{namesItsPlace, hasImage}
 
 -- A tally from its two bytes.
 two-bytes : (n : ℕ) → n % 256 + 256 * (n / 256) ≡ n
@@ -24,10 +28,15 @@ fill-back Empty = refl
 fill-back Waiting = refl
 fill-back Fetching = refl
 
-pub phase-back : (ph : Phase) → phaseAs (busByte ph) (addressByte ph) (writtenByte ph) ≡ ph
-phase-back Idle = refl
-phase-back (Reading p) = refl
-phase-back (Writing a d) = refl
+pub phase-back : (ph : Phase) → namesItsPlace ph ≡ true → phaseAs (busByte ph) (writtenByte ph) ≡ ph
+phase-back Idle names = refl
+phase-back (Reading p) names =
+    let below = ltb-true p 3 names in
+    rw (names, lt-ltb p places.writes (omega (arith, below))) (ap Reading (omega (arith, below)))
+phase-back (Writing a d) names =
+    let below = ltb-true a 4 names in
+    rw (names, le-ltb (places.writes + a) places.writes (omega arith), lt-ltb (places.writes + a) places.idle (omega (arith, below)))
+    (ap (λ (x : ℕ). Writing x d) (omega (arith, below)))
 
 pub enables-back : (e : Enables) → enablesAs (enablesByte e) ≡ e
 unfolding bitOf valueOf
@@ -44,8 +53,8 @@ enables-back e = go (e .input) (e .output) (e .b)
     go false false true = refl
     go false false false = refl
 
--- A channel, of which the image has the condition, the latch and ten bytes of tallies.
-channel-back : (ch : Channel) →
+-- A channel, of which every layout has the condition, the latch and five tallies; of the other two it is asked what they are told as.
+pub channel-back : (ch : Channel) (planted struck : ℕ) → planted ≡ ch .tally .planted → struck ≡ ch .tally .struck →
     record {
       fill = fillAs (fillByte (ch .fill));
       latch = ch .latch;
@@ -55,9 +64,11 @@ channel-back : (ch : Channel) →
         overwritten = ch .tally .overwritten % 256 + 256 * (ch .tally .overwritten / 256);
         swallowed = ch .tally .swallowed % 256 + 256 * (ch .tally .swallowed / 256);
         cleared = ch .tally .cleared % 256 + 256 * (ch .tally .cleared / 256);
+        planted = planted;
+        struck = struck;
       };
     } ≡ ch
-channel-back ch = λ i. record {
+channel-back ch planted struck same-planted same-struck = λ i. record {
   fill = fill-back (ch .fill) i;
   latch = ch .latch;
   tally = record {
@@ -66,17 +77,35 @@ channel-back ch = λ i. record {
     overwritten = two-bytes (ch .tally .overwritten) i;
     swallowed = two-bytes (ch .tally .swallowed) i;
     cleared = two-bytes (ch .tally .cleared) i;
+    planted = same-planted i;
+    struck = same-struck i;
   };
 }
 
-pub comes-back : (c : Chip) → stateOf (imageOf c) ≡ c
+-- Here they are told as two bytes each.
+seven-back : (ch : Channel) →
+    record {
+      fill = fillAs (fillByte (ch .fill));
+      latch = ch .latch;
+      tally = tallyAt (tallyBytes (ch .tally)) 0;
+    } ≡ ch
+seven-back ch = channel-back ch _ _ (two-bytes (ch .tally .planted)) (two-bytes (ch .tally .struck))
+
+-- The bus is that of a state with an image.
+pub at-place : (c : Chip) → hasImage c ≡ true → namesItsPlace (c .phase) ≡ true
+unfolding hasImage
+at-place c has =
+    let names = namesItsPlace (c .phase) in
+    both names (bitOf (c .core .word) 7) (both (names && bitOf (c .core .word) 7) _ has .0) .0
+
+pub comes-back : (c : Chip) → hasImage c ≡ true → stateOf (imageOf c) ≡ c
 unfolding stateOf imageOf
-comes-back c = λ i. record {
-  phase = phase-back (c .phase) i;
+comes-back c has = λ i. record {
+  phase = phase-back (c .phase) (at-place c has) i;
   core = record {
     word = c .core .word;
-    a = record { input = channel-back (c .core .a .input) i; output = channel-back (c .core .a .output) i; outside = c .core .a .outside };
-    b = record { input = channel-back (c .core .b .input) i; output = channel-back (c .core .b .output) i; outside = c .core .b .outside };
+    a = record { input = seven-back (c .core .a .input) i; output = seven-back (c .core .a .output) i; outside = c .core .a .outside };
+    b = record { input = seven-back (c .core .b .input) i; output = seven-back (c .core .b .output) i; outside = c .core .b .outside };
     c = c .core .c;
     inte = enables-back (c .core .inte) i;
   };

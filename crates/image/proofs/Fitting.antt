@@ -1,9 +1,11 @@
 -- The bytes of a state are an image exactly where the state has one.
--- Rests on ComesBack.
-use mathlib.Core.Path.{_≡_, _∙_, refl, ap}
-use mathlib.Core.Bool.{Bool, true, false, _&&_, and-true}
+-- Rests on ComesBack and Zeros.
+use mathlib.Core.Path.{_≡_, _∙_, refl, ap, sym}
+use mathlib.Core.Bool.{Bool, true, false, cond, _&&_, and-true}
+use Prim.Native.Nat.{ℕ, _+_}
+use native.Mathlib.Omega.{arith}
 use lib.Dec.{ltb}
-use borrow.Author.Tests.{eq-eqb}
+use borrow.Author.Tests.{ltb-true, lt-ltb, le-ltb, eq-eqb, ne-eqb}
 use Rattle.bits.specs.Bit.{bitOf}
 use Rattle.bus.specs.declared.Phase.{Phase}
 use Rattle.bus.specs.declared.Phase.the-variants.{Idle, Reading, Writing}
@@ -13,16 +15,42 @@ use Rattle.channel.specs.declared.Side.the-variants.{Input, Output}
 use Rattle.channel.specs.declared.Fill.{Fill}
 use Rattle.channel.specs.declared.Fill.the-variants.{Empty, Waiting, Fetching}
 use Rattle.chip.specs.declared.Enables.{Enables}
+use Rattle.chip.specs.declared.Core.{Core}
 use Rattle.chip.specs.declared.Chip.{Chip}
+use Rattle.chip.specs.Addresses.{control}
 use Rattle.chip.specs.Handshakes.{strobed}
-use Rattle.image.specs.Layout.{fillByte, enablesByte, busByte, addressByte, writtenByte, imageOf}
-use Rattle.image.specs.Good.{namesItsPlace, allowed, hasImage, cycleFits, enablesFit, fillFits, isImage}
+use Rattle.image.specs.Places as places
+use Rattle.image.specs.Layout.{fillByte, enablesByte, busByte, writtenByte, coreBytes, imageOf}
+use Rattle.image.specs.Loaded.{byteAt}
+use Rattle.image.specs.Good.{namesItsPlace, allowed, allowedAt, hasImage, cycleFits, enablesFit, fillFits, coreFits, isImage}
+use Rattle.image.proofs.Zeros.{and-assoc}
 use Rattle.image.proofs.ComesBack.{enables-back}
 
-cycle-fits : (ph : Phase) → cycleFits (busByte ph) (addressByte ph) (writtenByte ph) ≡ namesItsPlace ph
+read-fits : (p : ℕ) (b : Bool) → ltb p 3 ≡ b → cycleFits (cond b p places.nowhere) 0 ≡ b
+read-fits p true is =
+    let below = ltb-true p 3 is in
+    rw (
+      le-ltb places.idle p (omega (arith, below)),
+      ne-eqb p control (λ e. omega (arith, below, e)),
+      lt-ltb p places.writes (omega (arith, below)),
+    )
+read-fits p false is = refl
+
+write-fits : (a d : ℕ) (b : Bool) → ltb a 4 ≡ b → cycleFits (cond b (places.writes + a) places.nowhere) d ≡ b
+write-fits a d true is =
+    let below = ltb-true a 4 is in
+    rw (
+      le-ltb places.idle (places.writes + a) (omega (arith, below)),
+      ne-eqb (places.writes + a) control (λ e. omega (arith, e)),
+      le-ltb (places.writes + a) places.writes (omega arith),
+      lt-ltb (places.writes + a) places.idle (omega (arith, below)),
+    )
+write-fits a d false is = refl
+
+cycle-fits : (ph : Phase) → cycleFits (busByte ph) (writtenByte ph) ≡ namesItsPlace ph
 cycle-fits Idle = refl
-cycle-fits (Reading p) = and-true (ltb p 3)
-cycle-fits (Writing a d) = refl
+cycle-fits (Reading p) = read-fits p (ltb p 3) refl
+cycle-fits (Writing a d) = write-fits a d (ltb a 4) refl
 
 fill-fits : (on : Bool) (s : Side) (f : Fill) → fillFits on s (fillByte f) ≡ allowed on s f
 fill-fits true Input Empty = refl
@@ -41,14 +69,30 @@ fill-fits false Output Fetching = refl
 enables-fit : (e : Enables) → enablesFit (enablesByte e) ≡ true
 enables-fit e = eq-eqb _ _ (ap enablesByte (enables-back e))
 
+-- All but the bus, in whatever layout: what is asked of the bytes is what is asked of the state.
+abbrev pub coreAllowed : Core → Bool
+coreAllowed c = bitOf (c .word) 7 && (allowedAt c A Input && allowedAt c A Output && allowedAt c B Input && allowedAt c B Output)
+
+pub core-fits : (c : Core) → coreFits (byteAt (coreBytes c)) ≡ coreAllowed c
+core-fits c =
+    rw (enables-fit (c .inte))
+    ((λ i.
+    bitOf (c .word) 7
+    && (fill-fits (strobed (c .word) A Input) Input (c .a .input .fill) i
+    && fill-fits (strobed (c .word) A Output) Output (c .a .output .fill) i
+    && fill-fits (strobed (c .word) B Input) Input (c .b .input .fill) i
+    && fill-fits (strobed (c .word) B Output) Output (c .b .output .fill) i)
+    && true)
+    ∙ and-true (coreAllowed c))
+
+-- With the bus that is all.
+pub all-asked : (c : Chip) → (namesItsPlace (c .phase) && coreAllowed (c .core)) ≡ hasImage c
+unfolding hasImage
+all-asked c = sym (and-assoc (namesItsPlace (c .phase)) (bitOf (c .core .word) 7) _)
+
 pub image-where : (c : Chip) → isImage (imageOf c) ≡ hasImage c
-unfolding isImage imageOf hasImage
+unfolding isImage imageOf
 image-where c =
-    rw (enables-fit (c .core .inte))
-    (ap (λ (b : Bool). b && true && true) (λ i.
-    cycle-fits (c .phase) i && bitOf (c .core .word) 7
-    && (fill-fits (strobed (c .core .word) A Input) Input (c .core .a .input .fill) i
-    && fill-fits (strobed (c .core .word) A Output) Output (c .core .a .output .fill) i
-    && fill-fits (strobed (c .core .word) B Input) Input (c .core .b .input .fill) i
-    && fill-fits (strobed (c .core .word) B Output) Output (c .core .b .output .fill) i))
-    ∙ and-true (hasImage c && true) ∙ and-true (hasImage c))
+    (λ i. cycle-fits (c .phase) i && true && core-fits (c .core) i)
+    ∙ ap (λ (b : Bool). b && coreAllowed (c .core)) (and-true (namesItsPlace (c .phase)))
+    ∙ all-asked c

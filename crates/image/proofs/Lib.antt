@@ -1,8 +1,11 @@
 pub mod Behind
+pub mod Asked
 pub mod Bounds
+pub mod Cycle
 pub mod Zeros
 pub mod Long
 pub mod ComesBack
 pub mod Fitting
 pub mod SameBytes
 pub mod OneImage
+pub mod Parts

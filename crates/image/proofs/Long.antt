@@ -28,9 +28,11 @@ written-over l c long = rw (eq-eqb (length l) places.length long)
 pub saved : (l : List ℕ) (c : Chip) → isImage l ≡ true → savedIn l c ≡ imageOf c
 saved l c good = written-over l c (is-long l good)
 
-pub all-of-it : (l : List ℕ) → isImage l ≡ true → take places.length l ≡ l
-all-of-it l good = take-all places.length l (omega (arith, is-long l good))
+-- As many bytes as an image has are all of them, and what is loaded from them is the state that they tell.
+module _ (l : List ℕ) (long : length l ≡ places.length) where
+  pub all-of-it : take places.length l ≡ l
+  all-of-it = take-all places.length l (omega (arith, long))
 
-pub loaded : (l : List ℕ) → isImage l ≡ true → loadedFrom l ≡ stateOf l
-unfolding loadedFrom
-loaded l good = rw (eq-eqb (length l) places.length (is-long l good))
+  pub loaded : loadedFrom l ≡ stateOf l
+  unfolding loadedFrom
+  loaded = rw (eq-eqb (length l) places.length long)

@@ -1,5 +1,6 @@
 -- Which states have an image, and which bytes are one.
-use mathlib.Core.Bool.{Bool, true, false, cond, _&&_}
+use mathlib.Core.Path.{_≡_}
+use mathlib.Core.Bool.{Bool, true, false, cond, not, _&&_, _||_}
 use mathlib.Core.List.{List, [], _∷_}
 use Prim.Native.Nat.{ℕ, _+_, _-_, _<_}
 use lib.Dec.{eqb, ltb}
@@ -16,11 +17,12 @@ use Rattle.channel.specs.declared.Fill.{Fill}
 use Rattle.channel.specs.declared.Fill.the-variants.{Empty, Waiting, Fetching}
 use Rattle.chip.specs.declared.Core.{Core}
 use Rattle.chip.specs.declared.Chip.{Chip}
+use Rattle.chip.specs.Addresses.{control}
 use Rattle.chip.specs.State.{channelOf}
 use Rattle.chip.specs.Handshakes.{strobed}
 use Rattle.image.specs.Places as places
-use Rattle.image.specs.Layout.{enablesByte}
-use Rattle.image.specs.Loaded.{byteAt, enablesAs}
+use Rattle.image.specs.Layout.{enablesByte, imageOf}
+use Rattle.image.specs.Loaded.{byteAt, enablesAs, stateOf}
 
 -- The first condition for an image: a read that runs names a port, 0 to 2, and a write an address, 0 to 3.
 abbrev pub namesItsPlace : Phase → Bool
@@ -45,13 +47,13 @@ hasImage c =
     namesItsPlace (c .phase) && bitOf (c .core .word) 7
     && (allowedAt (c .core) A Input && allowedAt (c .core) A Output && allowedAt (c .core) B Input && allowedAt (c .core) B Output)
 
--- Of bytes: the bus is idle, and then its other two bytes are 0, or a cycle runs and names its place; a read writes nothing.
-abbrev pub cycleFits : ℕ → ℕ → ℕ → Bool
-cycleFits bus address byte =
-    cond (eqb bus 0) (eqb address 0 && eqb byte 0)
-    (cond (eqb bus 1) (ltb address 3 && eqb byte 0)
-    (cond (eqb bus 2) (ltb address 4)
-    false))
+-- Of bytes: a write runs, and there is a byte that it writes.
+abbrev pub writes : ℕ → Bool
+writes bus = not (ltb bus places.writes) && ltb bus places.idle
+
+-- The bus is idle, or a cycle runs at a port or an address; what does not write has no byte to write. Control is not read.
+abbrev pub cycleFits : ℕ → ℕ → Bool
+cycleFits bus byte = not (ltb places.idle bus) && not (eqb bus control) && (writes bus || eqb byte 0)
 
 -- The enables stand on three bits, and the other five are 0.
 abbrev pub enablesFit : ℕ → Bool
@@ -76,23 +78,33 @@ allZero (b ∷ bs) = eqb b 0 && allZero bs
 abbrev pub unusedZero : List ℕ → Bool
 unusedZero l = allZero (from (byteAt l) places.unused (places.length - places.unused))
 
--- The condition of channel k, that side of that group, under the mode word.
-abbrev pub channelFits : List ℕ → Group → Side → ℕ → Bool
-channelFits l g s k = fillFits (strobed (byteAt l places.word) g s) s (byteAt l (places.conditions + k))
+-- The condition of channel k, that side of that group, under the mode word, by the byte at each place.
+abbrev pub channelFits : (ℕ → ℕ) → Group → Side → ℕ → Bool
+channelFits byte g s k = fillFits (strobed (byte places.word) g s) s (byte (places.conditions + k))
 
 -- All four.
-abbrev pub fillsFit : List ℕ → Bool
-fillsFit l = channelFits l A Input 0 && channelFits l A Output 1 && channelFits l B Input 2 && channelFits l B Output 3
+abbrev pub fillsFit : (ℕ → ℕ) → Bool
+fillsFit byte = channelFits byte A Input 0 && channelFits byte A Output 1 && channelFits byte B Input 2 && channelFits byte B Output 3
+
+-- Bit 7 of the mode word is set, and the conditions and the enables fit. Older images have these bytes too.
+abbrev pub coreFits : (ℕ → ℕ) → Bool
+coreFits byte = bitOf (byte places.word) 7 && fillsFit byte && enablesFit (byte places.enables)
+
+-- The bus fits, and what is behind it.
+abbrev pub endFits : List ℕ → Bool
+endFits l = cycleFits (byteAt l places.bus) (byteAt l places.written) && unusedZero l
 
 -- As many bytes as an image has, that are a state's.
 abbrev pub bytesFit : List ℕ → Bool
-bytesFit l =
-    cycleFits (byteAt l places.bus) (byteAt l places.address) (byteAt l places.written)
-    && bitOf (byteAt l places.word) 7 && fillsFit l && enablesFit (byteAt l places.enables) && unusedZero l
+bytesFit l = endFits l && coreFits (byteAt l)
 
 -- Any other bytes, and any other number of them, are no image: 8.
 unfoldable pub isImage : List ℕ → Bool
 isImage l = eqb (length l) places.length && bytesFit l
+
+-- The bytes are those of the state that they tell.
+abbrev pub Told : List ℕ → Type 0
+Told l = imageOf (stateOf l) ≡ l
 
 -- A list of bytes, which is what a slice of them holds.
 abbrev pub Bytes : List ℕ → Type 0

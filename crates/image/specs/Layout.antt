@@ -1,7 +1,8 @@
 -- The image of a chip: the bytes that a host keeps and saves, part by part in the order of Places.
-use mathlib.Core.Bool.{false}
+use mathlib.Core.Bool.{false, cond}
 use mathlib.Core.List.{List, [], _∷_, _++_}
-use Prim.Native.Nat.{ℕ, _-_, _/_, _%_}
+use Prim.Native.Nat.{ℕ, _+_, _-_, _/_, _%_}
+use lib.Dec.{ltb}
 use lib.ListN.{replicate}
 use Rattle.bits.specs.Bit.{byteOf}
 use Rattle.bus.specs.declared.Phase.{Phase}
@@ -14,20 +15,23 @@ use Rattle.chip.specs.declared.Core.{Core}
 use Rattle.chip.specs.declared.Chip.{Chip}
 use Rattle.image.specs.Places as places
 
--- The five tallies of a channel, each as two bytes, the low one first.
-abbrev pub tallyBytes : Tally → List ℕ
-tallyBytes t =
-    t .offered % 256 ∷ t .offered / 256
-    ∷ t .handed % 256 ∷ t .handed / 256
-    ∷ t .overwritten % 256 ∷ t .overwritten / 256
-    ∷ t .swallowed % 256 ∷ t .swallowed / 256
-    ∷ t .cleared % 256 ∷ t .cleared / 256 ∷ []
+-- A tally as two bytes, the low one first.
+abbrev pub wideBytes : ℕ → List ℕ
+wideBytes n = n % 256 ∷ n / 256 ∷ []
 
--- The first part: those of the channels A in, A out, B in and B out.
-abbrev pub allTallies : Core → List ℕ
-allTallies c =
-    tallyBytes (c .a .input .tally) ++ tallyBytes (c .a .output .tally)
-    ++ tallyBytes (c .b .input .tally) ++ tallyBytes (c .b .output .tally)
+-- The five tallies of a channel that every layout has.
+abbrev pub fiveTallies : Tally → List ℕ
+fiveTallies t =
+    wideBytes (t .offered) ++ wideBytes (t .handed) ++ wideBytes (t .overwritten) ++ wideBytes (t .swallowed) ++ wideBytes (t .cleared)
+
+-- All seven.
+abbrev pub tallyBytes : Tally → List ℕ
+tallyBytes t = fiveTallies t ++ wideBytes (t .planted) ++ wideBytes (t .struck)
+
+-- The first part, by what a channel has there: that of the channels A in, A out, B in and B out.
+abbrev pub ofChannels : (Tally → List ℕ) → Core → List ℕ
+ofChannels bytes c =
+    bytes (c .a .input .tally) ++ bytes (c .a .output .tally) ++ bytes (c .b .input .tally) ++ bytes (c .b .output .tally)
 
 -- The condition of a channel.
 abbrev pub fillByte : Fill → ℕ
@@ -39,17 +43,11 @@ fillByte Fetching = 2
 abbrev pub enablesByte : Enables → ℕ
 enablesByte e = byteOf false (e .output) false (e .input) false (e .b) false false
 
--- Whether a read or a write runs.
+-- What runs on the bus: a read at a port, 0 to 2, a write to an address, 0 to 3, or nothing. A cycle elsewhere is no state's with an image.
 abbrev pub busByte : Phase → ℕ
-busByte Idle = 0
-busByte (Reading p) = 1
-busByte (Writing a d) = 2
-
--- The port or the address that it names.
-abbrev pub addressByte : Phase → ℕ
-addressByte Idle = 0
-addressByte (Reading p) = p
-addressByte (Writing a d) = a
+busByte Idle = places.idle
+busByte (Reading p) = cond (ltb p 3) p places.nowhere
+busByte (Writing a d) = cond (ltb a 4) (places.writes + a) places.nowhere
 
 -- The byte that it writes.
 abbrev pub writtenByte : Phase → ℕ
@@ -65,12 +63,14 @@ portBytes c =
     ∷ c .a .input .latch ∷ c .a .output .latch ∷ c .b .input .latch ∷ c .b .output .latch
     ∷ fillByte (c .a .input .fill) ∷ fillByte (c .a .output .fill) ∷ fillByte (c .b .input .fill) ∷ fillByte (c .b .output .fill) ∷ []
 
--- The third part, from the mode word on: the enables and the cycle that runs, three bytes; what is not used, which is 0.
-abbrev pub controlBytes : Chip → List ℕ
-controlBytes c =
-    c .core .word ∷ enablesByte (c .core .inte) ∷ busByte (c .phase) ∷ addressByte (c .phase) ∷ writtenByte (c .phase)
-    ∷ replicate (places.length - places.unused) 0
+-- All but the bus: the tallies, these twelve, the mode word and the enables.
+abbrev pub coreBytes : Core → List ℕ
+coreBytes c = ofChannels tallyBytes c ++ portBytes c ++ (c .word ∷ enablesByte (c .inte) ∷ [])
 
--- All of it.
+-- The bus.
+abbrev pub busBytes : Phase → List ℕ
+busBytes ph = busByte ph ∷ writtenByte ph ∷ []
+
+-- All of it; what is not used is 0.
 unfoldable pub imageOf : Chip → List ℕ
-imageOf c = allTallies (c .core) ++ portBytes (c .core) ++ controlBytes c
+imageOf c = coreBytes (c .core) ++ busBytes (c .phase) ++ replicate (places.length - places.unused) 0

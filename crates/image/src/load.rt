@@ -5,11 +5,11 @@ ghost use lib.ListN.{length};
 ghost use Rattle.image.specs.Places as places;
 ghost use Rattle.image.specs.Loaded.{wideAt, tallyAt, fillAs, channelAt, enablesAs, phaseAs, stateOf};
 ghost use Rattle.image.specs.Slices.{loadedFrom};
-use super::places::ADDRESS;
 use super::places::BUS;
 use super::places::CHANNEL_TALLIES;
 use super::places::CONDITIONS;
 use super::places::ENABLES;
+use super::places::IDLE;
 use super::places::LATCH_C;
 use super::places::LATCHES;
 use super::places::LENGTH;
@@ -18,6 +18,7 @@ use super::places::LEVELS_B;
 use super::places::LEVELS_C;
 use super::places::TALLIES;
 use super::places::WORD;
+use super::places::WRITES;
 use super::places::WRITTEN;
 use bus::Phase;
 use channel::Channel;
@@ -32,7 +33,8 @@ use chip::handshakes::ACK_A;
 use chip::handshakes::LINE_B;
 use chip::handshakes::STB_A;
 
-fn wide(image: &[u8], at: usize) -> u16
+// The number of the two bytes from a place on.
+pub(super) fn wide(image: &[u8], at: usize) -> u16
     requires { ⌜ at + 1 < length (now image) ⌝ }
     ensures { λ r. ⌜ r ≡ wideAt (now (image .entry)) at ⌝ }
 {
@@ -40,7 +42,7 @@ fn wide(image: &[u8], at: usize) -> u16
 }
 
 fn tally(image: &[u8], at: usize) -> Tally
-    requires { ⌜ at + 9 < length (now image) ⌝ }
+    requires { ⌜ at + 13 < length (now image) ⌝ }
     ensures { λ r. ⌜ r ≡ tallyAt (now (image .entry)) at ⌝ }
 {
     Tally {
@@ -49,6 +51,8 @@ fn tally(image: &[u8], at: usize) -> Tally
         overwritten: wide(image, at + 4),
         swallowed: wide(image, at + 6),
         cleared: wide(image, at + 8),
+        planted: wide(image, at + 10),
+        struck: wide(image, at + 12),
     }
 }
 
@@ -102,13 +106,15 @@ pub(super) fn enables(byte: u8) -> Enables
     }
 }
 
-fn phase(bus: u8, address: u8, written: u8) -> Phase
-    ensures { λ r. ⌜ r ≡ phaseAs bus address written ⌝ }
+fn phase(bus: u8, written: u8) -> Phase
+    ensures { λ r. ⌜ r ≡ phaseAs bus written ⌝ }
 {
-    match bus {
-        0 => Phase::Idle,
-        1 => Phase::Reading(address),
-        _ => Phase::Writing(address, written),
+    if bus < WRITES {
+        Phase::Reading(bus % WRITES)
+    } else if bus < IDLE {
+        Phase::Writing(bus % WRITES, written)
+    } else {
+        Phase::Idle
     }
 }
 
@@ -127,7 +133,7 @@ fn whole(image: &[u8]) -> Chip
         inte: enables(image[ENABLES]),
     };
     Chip {
-        phase: phase(image[BUS], image[ADDRESS], image[WRITTEN]),
+        phase: phase(image[BUS], image[WRITTEN]),
         core,
     }
 }
@@ -139,7 +145,7 @@ pub fn bus(image: &[u8]) -> Phase
     if image.len() != LENGTH {
         return Phase::Idle;
     }
-    phase(image[BUS], image[ADDRESS], image[WRITTEN])
+    phase(image[BUS], image[WRITTEN])
 }
 
 // The whole state. Bytes of another length than an image's tell none: for them it is the chip at power-up.

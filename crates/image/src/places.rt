@@ -1,36 +1,42 @@
 // The places of an image: where each of its parts begins, and how long it is. specs/Places.antt has the same list for the definitions.
 
-// Of each channel, A in, A out, B in and B out, five tallies of two bytes.
+// Of each channel, A in, A out, B in and B out, seven tallies of two bytes.
 pub const TALLIES: usize = 0;
 
-pub const CHANNEL_TALLIES: usize = 10;
+pub const CHANNEL_TALLIES: usize = 14;
 
 // The levels outside of the three ports, and the latch of port C.
-pub const LEVELS_A: usize = 40;
+pub const LEVELS_A: usize = 56;
 
-pub const LEVELS_B: usize = 41;
+pub const LEVELS_B: usize = 57;
 
-pub const LEVELS_C: usize = 42;
+pub const LEVELS_C: usize = 58;
 
-pub const LATCH_C: usize = 43;
+pub const LATCH_C: usize = 59;
 
 // The latches of the four channels, and their conditions.
-pub const LATCHES: usize = 44;
+pub const LATCHES: usize = 60;
 
-pub const CONDITIONS: usize = 48;
+pub const CONDITIONS: usize = 64;
 
-pub const WORD: usize = 52;
+pub const WORD: usize = 68;
 
-pub const ENABLES: usize = 53;
+pub const ENABLES: usize = 69;
 
-// What runs on the bus, the port or address that it names, and the byte that it writes.
-pub const BUS: usize = 54;
+// What runs on the bus with the port or address that it names, and the byte that it writes.
+pub const BUS: usize = 70;
 
-pub const ADDRESS: usize = 55;
+pub const WRITTEN: usize = 71;
 
-pub const WRITTEN: usize = 56;
+// What is not used, up to the end. All of it is 0.
+pub const UNUSED: usize = 72;
 
-// What is not used, up to the end.
-pub const UNUSED: usize = 57;
+pub const LENGTH: usize = 96;
 
-pub const LENGTH: usize = 64;
+// The byte of the bus: below WRITES it is the port that is read, from there on the address that is written above it, and IDLE that nothing
+// runs. A chip whose cycle names no port or address has NOWHERE, which no image has.
+pub const WRITES: u8 = 4;
+
+pub const IDLE: u8 = 8;
+
+pub const NOWHERE: u8 = 255;

@@ -1,21 +1,24 @@
 // A state written as its image.
 ghost use mathlib.Core.Path.{_≡_};
 ghost use mathlib.Core.List.{[], _∷_};
-ghost use Prim.Native.Nat.{_+_, _/_, _%_, _<_};
-ghost use lib.ListN.{length};
+ghost use Prim.Native.Nat.{_+_, _<_};
+ghost use lib.ListN.{length, replicate};
 ghost use lib.Seq.{sets};
 ghost use Rattle.image.specs.Places as places;
-ghost use Rattle.image.specs.Layout.{tallyBytes, allTallies, fillByte, enablesByte, busByte, addressByte, writtenByte, portBytes, controlBytes, imageOf};
-ghost use Rattle.image.specs.Slices.{savedIn};
+ghost use Rattle.image.specs.Layout.{wideBytes, tallyBytes, ofChannels, fillByte, enablesByte, busByte, writtenByte, portBytes, coreBytes, busBytes, imageOf};
+ghost use Rattle.image.specs.Slices.{savedIn, coreSavedIn, busSavedIn};
+use super::places::BUS;
 use super::places::CHANNEL_TALLIES;
 use super::places::CONDITIONS;
+use super::places::IDLE;
 use super::places::LATCHES;
 use super::places::LENGTH;
 use super::places::LEVELS_A;
+use super::places::NOWHERE;
 use super::places::TALLIES;
 use super::places::UNUSED;
 use super::places::WORD;
-use super::places::WRITTEN;
+use super::places::WRITES;
 use bus::Phase;
 use channel::Channel;
 use channel::Fill;
@@ -34,13 +37,13 @@ fn put_two(image: &mut [u8], at: usize, x: u8, y: u8)
 
 fn put_wide(image: &mut [u8], at: usize, value: u16)
     requires { ⌜ at + 1 < length (now image) ⌝ }
-    ensures { λ _. ⌜ now (image .exit) ≡ sets (now (image .entry)) at (value % 256 ∷ value / 256 ∷ []) ⌝ }
+    ensures { λ _. ⌜ now (image .exit) ≡ sets (now (image .entry)) at (wideBytes value) ⌝ }
 {
     put_two(image, at, (value % 256) as u8, (value / 256) as u8);
 }
 
 fn put_tally(image: &mut [u8], at: usize, tally: Tally)
-    requires { ⌜ at + 9 < length (now image) ⌝ }
+    requires { ⌜ at + 13 < length (now image) ⌝ }
     ensures { λ _. ⌜ now (image .exit) ≡ sets (now (image .entry)) at (tallyBytes tally) ⌝ }
 {
     put_wide(image, at, tally.offered);
@@ -48,11 +51,13 @@ fn put_tally(image: &mut [u8], at: usize, tally: Tally)
     put_wide(image, at + 4, tally.overwritten);
     put_wide(image, at + 6, tally.swallowed);
     put_wide(image, at + 8, tally.cleared);
+    put_wide(image, at + 10, tally.planted);
+    put_wide(image, at + 12, tally.struck);
 }
 
 fn put_tallies(image: &mut [u8], core: Core)
     requires { ⌜ length (now image) ≡ places.length ⌝ }
-    ensures { λ _. ⌜ now (image .exit) ≡ sets (now (image .entry)) places.tallies (allTallies core) ⌝ }
+    ensures { λ _. ⌜ now (image .exit) ≡ sets (now (image .entry)) places.tallies (ofChannels tallyBytes core) ⌝ }
 {
     put_tally(image, TALLIES, core.a.input.tally);
     put_tally(image, TALLIES + CHANNEL_TALLIES, core.a.output.tally);
@@ -66,6 +71,14 @@ fn put_four(image: &mut [u8], at: usize, w: u8, x: u8, y: u8, z: u8)
 {
     put_two(image, at, w, x);
     put_two(image, at + 2, y, z);
+}
+
+fn put_zeros(image: &mut [u8], at: usize)
+    requires { ⌜ at + 7 < length (now image) ⌝ }
+    ensures { λ _. ⌜ now (image .exit) ≡ sets (now (image .entry)) at (replicate 8 0) ⌝ }
+{
+    put_four(image, at, 0, 0, 0, 0);
+    put_four(image, at + 4, 0, 0, 0, 0);
 }
 
 fn fill(channel: Channel) -> u8
@@ -94,23 +107,19 @@ pub(super) fn enables(inte: Enables) -> u8
     )
 }
 
-fn bus(phase: Phase) -> u8
+fn bus_byte(phase: Phase) -> u8
     ensures { λ r. ⌜ r ≡ busByte phase ⌝ }
 {
     match phase {
-        Phase::Idle => 0,
-        Phase::Reading(_) => 1,
-        Phase::Writing(_, _) => 2,
-    }
-}
-
-fn address(phase: Phase) -> u8
-    ensures { λ r. ⌜ r ≡ addressByte phase ⌝ }
-{
-    match phase {
-        Phase::Idle => 0,
-        Phase::Reading(port) => port,
-        Phase::Writing(address, _) => address,
+        Phase::Idle => IDLE,
+        Phase::Reading(port) => { if port < 3 { port } else { NOWHERE } }
+        Phase::Writing(address, _) => {
+            if address < 4 {
+                WRITES + address
+            } else {
+                NOWHERE
+            }
+        }
     }
 }
 
@@ -154,31 +163,32 @@ fn put_ports(image: &mut [u8], core: Core)
     );
 }
 
-fn put_control(image: &mut [u8], chip: Chip)
+fn put_core(image: &mut [u8], core: Core)
     requires { ⌜ length (now image) ≡ places.length ⌝ }
-    ensures { λ _. ⌜ now (image .exit) ≡ sets (now (image .entry)) places.word (controlBytes chip) ⌝ }
+    ensures { λ _. ⌜ now (image .exit) ≡ sets (now (image .entry)) places.tallies (coreBytes core) ⌝ }
 {
-    let core = chip.core;
-    let phase = chip.phase;
-    put_four(
-        image,
-        WORD,
-        core.word,
-        enables(core.inte),
-        bus(phase),
-        address(phase),
-    );
-    put_four(image, WRITTEN, written(phase), 0, 0, 0);
-    put_four(image, UNUSED + 3, 0, 0, 0, 0);
+    put_tallies(image, core);
+    put_ports(image, core);
+    put_two(image, WORD, core.word, enables(core.inte));
+}
+
+fn put_bus(image: &mut [u8], phase: Phase)
+    requires { ⌜ length (now image) ≡ places.length ⌝ }
+    ensures { λ _. ⌜ now (image .exit) ≡ sets (now (image .entry)) places.bus (busBytes phase) ⌝ }
+{
+    put_two(image, BUS, bus_byte(phase), written(phase));
 }
 
 fn whole(image: &mut [u8], chip: Chip)
     requires { ⌜ length (now image) ≡ places.length ⌝ }
     ensures { λ _. ⌜ now (image .exit) ≡ imageOf chip ⌝ }
 {
-    put_tallies(image, chip.core);
-    put_ports(image, chip.core);
-    put_control(image, chip);
+    let phase = chip.phase;
+    put_core(image, chip.core);
+    put_bus(image, phase);
+    put_zeros(image, UNUSED);
+    put_zeros(image, UNUSED + 8);
+    put_zeros(image, UNUSED + 16);
 }
 
 // The state's image, written over the bytes. Those of another length are left alone.
@@ -187,5 +197,23 @@ pub fn state(image: &mut [u8], chip: Chip)
 {
     if image.len() == LENGTH {
         whole(image, chip);
+    }
+}
+
+// All but the bus, for who has an image and leaves the bus alone.
+pub fn core(image: &mut [u8], core: Core)
+    ensures { λ _. ⌜ now (image .exit) ≡ coreSavedIn (now (image .entry)) core ⌝ }
+{
+    if image.len() == LENGTH {
+        put_core(image, core);
+    }
+}
+
+// The bus, for who leaves all else alone.
+pub fn bus(image: &mut [u8], phase: Phase)
+    ensures { λ _. ⌜ now (image .exit) ≡ busSavedIn (now (image .entry)) phase ⌝ }
+{
+    if image.len() == LENGTH {
+        put_bus(image, phase);
     }
 }

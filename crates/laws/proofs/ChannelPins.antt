@@ -1,29 +1,32 @@
 -- What the pins of a strobed channel show: its flag, its line, its group's INTR ("Port C roles", "Reads and pins").
--- Rests on bits' Tested and BitLaws, on roles' SameWords and PinByMasks, and on chip's StrobedWords.
-use mathlib.Core.Path.{_≡_, _∙_, ap, sym, subst}
+-- Rests on bits' Logic, Tested and BitLaws, on roles' SameWords and PinByMasks, on chip's StrobedWords and OneChannel, and on settings' Flags.
+use mathlib.Core.Path.{_≡_, _∙_, refl, ap, sym, subst}
 use mathlib.Core.Bool.{Bool, true, not, _||_, or-true}
 use Prim.Native.Nat.{ℕ, _%_, _<_}
 use native.Mathlib.Omega.{arith}
 use lib.Dec.{T, eqb, eqb→eq, lit<}
-use borrow.Author.Tests.{eqb-true}
+use borrow.Author.Tests.{eqb-true, eq-eqb}
 use Rattle.bits.specs.Bit.{bitOf}
+use Rattle.bits.proofs.Logic.{both}
 use Rattle.bits.proofs.Tested.{all, each, bits}
 use Rattle.bits.proofs.BitLaws.{bit-of-assembled}
 use Rattle.control.specs.declared.Group.{Group}
 use Rattle.control.specs.declared.Group.the-variants.{A, B}
 use Rattle.control.specs.Mode.{modeOf, inputOf, upperInput, lowerInput, strobedInput, strobedOutput}
-use Rattle.roles.specs.Role.{Role, INTR, IBF, OBF, STB, ACK, number, usesOf, freeRole, roleOf}
+use Rattle.roles.specs.Role.{Role, INTR, STB, ACK, number, usesOf, freeRole, roleOf}
 use Rattle.roles.proofs.SameWords.{role-as-byte}
 use Rattle.roles.proofs.PinByMasks.{number-one}
 use Rattle.channel.specs.declared.Side.{Side}
 use Rattle.channel.specs.declared.Side.the-variants.{Input, Output}
 use Rattle.chip.specs.declared.Chip.{Chip}
-use Rattle.chip.specs.Handshakes.{strobed, linePin, enableOf}
+use Rattle.chip.specs.Handshakes.{strobed, linePin, flagPin, groupAt, enableOf}
 use Rattle.chip.proofs.StrobedWords.{strobed-as-byte}
+use Rattle.chip.proofs.OneChannel.{sameGroup}
+use Rattle.settings.proofs.Flags.{flagRole, flag-by-role}
 use Rattle.status.specs.Status.{flagAt, intrOf}
 use Rattle.ports.specs.Reads.{readAs, readLines, readOf}
 use Rattle.ports.specs.Pins.{levelAs, pinsOfLines, pinsOf}
-use Rattle.laws.specs.Seen.{pin, told, intrPin, flagPin}
+use Rattle.laws.specs.Seen.{pin, told, intrPin}
 
 -- A role that a pin has under every mode word that strobes a channel, found by trying every byte.
 role-where : (g : Group) (s : Side) (n : ℕ) (r : Role) → T (all 256 (λ w. not (strobed w g s) || eqb (number (roleOf w n)) (number r)))
@@ -40,10 +43,6 @@ abbrev lineRole : Side → Role
 lineRole Input = STB
 lineRole Output = ACK
 
-abbrev flagRole : Side → Role
-flagRole Input = IBF
-flagRole Output = OBF
-
 pub line-role : (w : ℕ) (g : Group) (s : Side) → strobed w g s ≡ true → roleOf w (linePin g s) ≡ lineRole s
 unfolding roleOf usesOf freeRole strobedInput strobedOutput modeOf inputOf upperInput lowerInput bitOf
 line-role w A Input = role-where A Input 4 STB tt w
@@ -52,11 +51,15 @@ line-role w B Input = role-where B Input 2 STB tt w
 line-role w B Output = role-where B Output 2 ACK tt w
 
 pub flag-role : (w : ℕ) (g : Group) (s : Side) → strobed w g s ≡ true → roleOf w (flagPin g s) ≡ flagRole s
-unfolding roleOf usesOf freeRole strobedInput strobedOutput modeOf inputOf upperInput lowerInput bitOf
-flag-role w A Input = role-where A Input 5 IBF tt w
-flag-role w A Output = role-where A Output 7 OBF tt w
-flag-role w B Input = role-where B Input 1 IBF tt w
-flag-role w B Output = role-where B Output 1 OBF tt w
+flag-role w g s on =
+    let n = flagPin g s in
+    number-one (roleOf w n) (flagRole s)
+    (eqb-true _ _ (both _ (sameGroup (groupAt n) g) (flag-by-role w n (below g s) g s ∙ rw (on, eq-eqb n n refl)) .0))
+  where
+    below : (g : Group) (s : Side) → flagPin g s < 8
+    below A Input = lit< tt
+    below A Output = lit< tt
+    below B s = lit< tt
 
 -- A group has a pin for INTR exactly where a side of it is strobed.
 pub intr-where : (w : ℕ) (g : Group) → eqb (number (roleOf w (intrPin g))) (number INTR) ≡ (strobed w g Input || strobed w g Output)

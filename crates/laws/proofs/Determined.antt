@@ -85,6 +85,9 @@ end-read-determined c x y = equation-determines
 pub clear-determined : Determines channel.clear.ended channel.clear.Reads.Learnt
 clear-determined c x y = equation-determines
 
+pub force-determined : Determines channel.force.ended channel.force.Reads.Learnt
+force-determined c x y = equation-determines
+
 pub power-up-with-levels-determined : Determines chip.power_up_with_levels.ended chip.power_up_with_levels.Reads.Learnt
 power-up-with-levels-determined c x y = equation-determines
 

@@ -12,11 +12,11 @@ use Rattle.bus.specs.declared.Phase.{Phase}
 use Rattle.control.specs.declared.Group.{Group}
 use Rattle.channel.specs.declared.Side.{Side}
 use Rattle.chip.specs.declared.Chip.{Chip}
-use Rattle.chip.specs.Handshakes.{strobed, linePin}
+use Rattle.chip.specs.Handshakes.{strobed, linePin, flagPin}
 use Rattle.status.specs.Status.{flagAt}
 use Rattle.levels.specs.Levels.{fallen, lineFalls}
 use Rattle.step.specs.Step.{limits}
-use Rattle.laws.specs.Seen.{pin, flagPin, lowers}
+use Rattle.laws.specs.Seen.{pin, lowers}
 use Rattle.laws.proofs.ChannelPins.{flag-pin, line-pin}
 
 -- The flag of a chip whose mode word is that of another, which strobes the channel.

@@ -1,8 +1,8 @@
--- IBF as the sheet has it, in every state: set by the fall of STB, reset by the end of the read, and moved by nothing else but a mode word and a
--- reset ("Handshake").
--- Rests on FillAfter, FlagAfter, ChannelPins, bits' Logic, the channel's ConditionsLeft, reads' and levels' PortsAfter, and the step's Ends and Outcome.
-use mathlib.Core.Path.{_≡_, _∙_, refl, ap, sym}
-use mathlib.Core.Bool.{Bool, true, false, _||_, or-true}
+-- IBF as the sheet has it, in every state: set by the fall of STB, reset by the end of the read, forced by bit set/reset, and moved by nothing
+-- else but a mode word and a reset ("Handshake", "Forcing the flags").
+-- Rests on FillAfter, FlagAfter, Forcing, ChannelPins, bits' Logic, the channel's ConditionsLeft, reads' and levels' PortsAfter, and the step's Ends and Outcome.
+use mathlib.Core.Path.{_≡_, _∙_, refl, sym, subst}
+use mathlib.Core.Bool.{Bool, true, false, or-true}
 use Prim.Native.Nat.{ℕ}
 use Rattle.bits.specs.Bit.{bitOf}
 use Rattle.bits.proofs.Logic.{contrary}
@@ -13,11 +13,11 @@ use Rattle.channel.specs.declared.Side.the-variants.{Input}
 use Rattle.channel.specs.declared.Fill.{Fill}
 use Rattle.channel.specs.declared.Fill.the-variants.{Empty, Waiting, Fetching}
 use Rattle.channel.specs.Channel.{flagOf}
-use Rattle.channel.proofs.ConditionsLeft.{leaves, offer-waits, end-read-empties}
+use Rattle.channel.proofs.ConditionsLeft.{leaves, forcedTo, offer-waits, end-read-empties}
 use Rattle.chip.specs.declared.Core.{Core}
 use Rattle.chip.specs.declared.Chip.{Chip}
 use Rattle.chip.specs.State.{portOf, channelOf}
-use Rattle.chip.specs.Handshakes.{strobed, linePin, ownAddress, reading}
+use Rattle.chip.specs.Handshakes.{strobed, linePin, ownAddress, reading, flagPin}
 use Rattle.status.specs.Status.{flagAt}
 use Rattle.reads.specs.Read.{afterReadEnds}
 use Rattle.reads.proofs.PortsAfter.{begun-surrounded, ended-input, ended-surrounded}
@@ -26,10 +26,11 @@ use Rattle.levels.proofs.PortsAfter.{levels-input, levels-word}
 use Rattle.step.specs.Step.{stepOf}
 use Rattle.step.proofs.Ends.{read-ends}
 use Rattle.step.proofs.Outcome.{step-accepts, step-either}
-use Rattle.laws.specs.Seen.{pin, flagPin, makesAnew}
+use Rattle.laws.specs.Seen.{pin, makesAnew, puts}
 use Rattle.laws.specs.Flags.{movesIbf}
 use Rattle.laws.proofs.ChannelPins.{flag-pin}
 use Rattle.laws.proofs.FillAfter.{fill-by-event}
+use Rattle.laws.proofs.Forcing.{forced-flag}
 use Rattle.laws.proofs.FlagAfter.{flag-under, line-falls, seen-falls, levels-accepted}
 
 strobe-sets : (c : Core) (d : ℕ) (g : Group) → lineFalls c d g Input ≡ true → flagAt (afterLevels c 2 d) g Input ≡ true
@@ -46,6 +47,18 @@ unfolding flagOf
 fetching Empty = refl
 fetching Waiting = refl
 fetching Fetching = refl
+
+-- IBF forced high is high, and so it is where it was high and is not forced low; low it stays where it is not forced high.
+forced-high : (f : Fill) (v : Bool) → (v ≡ false → ⊥) → flagOf Input (forcedTo Input v f) ≡ true
+forced-high f true none = forced-flag Input true f
+forced-high f false none = absurd (none refl)
+
+forced-low : (f : Fill) (v : Bool) → flagOf Input f ≡ false → (v ≡ true → ⊥) → flagOf Input (forcedTo Input v f) ≡ false
+unfolding flagOf
+forced-low f true low none = absurd (none refl)
+forced-low Empty false low none = refl
+forced-low Waiting false low none = refl
+forced-low Fetching false low none = low
 
 module _ (c : Chip) (g : Group) (on : strobed (c .core .word) g Input ≡ true) where
   -- The fall of STB sets IBF.
@@ -69,9 +82,12 @@ module _ (c : Chip) (g : Group) (on : strobed (c .core .word) g Input ≡ true) 
       flag-pin _ g Input still ∙ fill-by-event (λ f. flagOf Input f ≡ true) c g Input k x d (record {
         stays = here;
         reset = λ zero. absurd (unmoved (rw (zero)));
-        renewal = λ two anew. absurd (unmoved (rw (two) (ap (λ (r : Bool). r || reading (c .phase) g) anew)));
+        renewal = λ two anew. absurd (unmoved (rw (two, anew)));
         begins = λ one own. fetching (channelOf (c .core) g Input .fill) ∙ here;
-        ends = λ two runs. absurd (unmoved (rw (two) (ap (λ (r : Bool). makesAnew (c .phase) || r) runs ∙ or-true (makesAnew (c .phase)))));
+        ends = λ two runs. absurd (unmoved (rw (two, runs) (or-true (makesAnew (c .phase)))));
+        forced = λ two v said. forced-high (channelOf (c .core) g Input .fill) v (λ low.
+            let reset = subst (λ (v : Bool). puts (c .phase) (flagPin g Input) v ≡ true) low said in
+            unmoved (rw (two, reset, or-true (reading (c .phase) g)) (or-true (makesAnew (c .phase)))));
         falls = λ five fell. refl;
       })
   ibf-held false low k x d none still =
@@ -83,7 +99,10 @@ module _ (c : Chip) (g : Group) (on : strobed (c .core .word) g Input ≡ true) 
         renewal = λ two anew. refl;
         begins = λ one own. fetching (channelOf (c .core) g Input .fill) ∙ here;
         ends = λ two runs. refl;
-        falls = λ five fell. absurd (unmoved (rw (five) (sym (seen-falls c g Input x d on) ∙ fell)));
+        forced = λ two v said. forced-low (channelOf (c .core) g Input .fill) v here (λ high.
+            let set = subst (λ (v : Bool). puts (c .phase) (flagPin g Input) v ≡ true) high said in
+            unmoved (rw (two, set)));
+        falls = λ five fell. absurd (unmoved (rw (five, ← seen-falls c g Input x d on, fell)));
       })
 
   -- The beginning of a read, of this port or any other, leaves IBF set.

@@ -1,10 +1,10 @@
 -- What loads an input latch, in every state: the fall of STB, and levels on the port's own lines while STB is low. Nothing else but a mode
 -- word and a reset touches it ("Handshake").
 -- Rests on ByEvent, ChannelPins, FlagAfter, OwnPort, bits' Logic, the channel's ConditionsLeft, ports' Strobed, chip's OnPort and Surrounded,
--- settings', reads', writes' and levels' PortsAfter, and the step's Outcome.
+-- settings' Flags, settings', reads', writes' and levels' PortsAfter, and the step's Outcome.
 use mathlib.Core.Path.{_≡_, _∙_, refl, ap, sym, subst}
 use mathlib.Core.Bool.{Bool, true, false, cond, not, _&&_, _||_, and-false}
-use Prim.Native.Nat.{ℕ}
+use Prim.Native.Nat.{ℕ, _/_, _%_}
 use lib.Dec.{T, eqb}
 use Rattle.bits.specs.Bit.{bitOf}
 use Rattle.bits.proofs.Logic.{contrary, either-way}
@@ -13,15 +13,17 @@ use Rattle.control.specs.Mode.{strobedInput}
 use Rattle.channel.specs.declared.Side.the-variants.{Input}
 use Rattle.channel.specs.declared.Fill.the-variants.{Fetching}
 use Rattle.channel.specs.declared.Channel.{Channel}
-use Rattle.channel.specs.Moves.{afterOffer, afterFollow, afterHandOver, afterEndRead}
-use Rattle.channel.proofs.ConditionsLeft.{offer-latches, follow-latches, hand-over-keeps, end-read-keeps}
+use Rattle.channel.specs.Moves.{afterOffer, afterFollow, afterHandOver, afterEndRead, afterForce}
+use Rattle.channel.proofs.ConditionsLeft.{offer-latches, follow-latches, hand-over-keeps, end-read-keeps, force-keeps}
 use Rattle.chip.specs.declared.Core.{Core}
 use Rattle.chip.specs.declared.Chip.{Chip}
 use Rattle.chip.specs.State.{portOf, channelOf}
 use Rattle.chip.specs.Handshakes.{strobed, linePin, ownAddress}
 use Rattle.chip.proofs.OnPort.{lines-not-own}
 use Rattle.chip.proofs.Surrounded.{Spared, latch-spares, spared-channel}
-use Rattle.settings.proofs.PortsAfter.{bit-spares}
+use Rattle.settings.specs.ControlWord.{afterControlWord}
+use Rattle.settings.proofs.Flags.{flagAtPin}
+use Rattle.settings.proofs.PortsAfter.{bit-put}
 use Rattle.reads.specs.Read.{afterReadBegins, afterReadEnds}
 use Rattle.reads.proofs.PortsAfter.{begun-input, ended-input}
 use Rattle.levels.specs.Levels.{fallen, lineFalls, letsThrough, afterLevels}
@@ -59,6 +61,13 @@ module _ (c : Core) (g : Group) where
   ended x =
       ap (λ ch. ch .latch) (ended-input c x g)
       ∙ taking-part x (afterEndRead channel) (end-read-keeps channel)
+
+  -- A flag that is forced leaves the latch.
+  put : (w : ℕ) → bitOf w 7 ≡ false → Same (afterControlWord c w)
+  put w seven =
+      ap (λ ch. ch .latch) (bit-put c w seven .channel g Input)
+      ∙ either-way (λ ch. ch .latch) (channel .latch) (flagAtPin (c .word) g Input (w / 2 % 8)) (afterForce Input (bitOf w 0) channel) channel
+      (force-keeps Input (bitOf w 0) channel) refl
 
   spared : {c′ : Core} → Spared c′ c → Same c′
   spared k = ap (λ ch. ch .latch) (spared-channel k g Input)
@@ -143,7 +152,7 @@ module _ (c : Chip) (g : Group) where
     ends = λ two. record {
       read = λ p phase. ended (c .core) g p;
       modeWord = λ w phase seven. not-anew (renewal two) phase seven;
-      bitWord = λ w phase seven. spared (c .core) g (bit-spares (c .core) w seven);
+      bitWord = λ w phase seven. put (c .core) g w seven;
       lines = λ b phase. spared (c .core) g (latch-spares (c .core) _);
       port = λ a b phase c′ stored. ap (λ ch. ch .latch) (stored .input g);
     };

@@ -9,6 +9,7 @@ pub mod Altered
 pub mod Enables
 pub mod FillAfter
 pub mod FlagAfter
+pub mod Forcing
 pub mod Halves
 pub mod InputFlag
 pub mod OutputFlag

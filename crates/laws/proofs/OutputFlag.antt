@@ -1,8 +1,8 @@
--- OBF as the sheet has it, in every state: lowered by the end of the write, raised by the fall of ACK, and moved by nothing else but a mode word
--- and a reset ("Handshake").
--- Rests on FillAfter, FlagAfter, ChannelPins, bits' Logic, control's Strobed, the channel's ConditionsLeft, writes' and levels' PortsAfter, and the step's Ends and Outcome.
-use mathlib.Core.Path.{_≡_, _∙_, refl, sym}
-use mathlib.Core.Bool.{Bool, true, false}
+-- OBF as the sheet has it, in every state: lowered by the end of the write, raised by the fall of ACK, forced by bit set/reset, and moved by
+-- nothing else but a mode word and a reset ("Handshake", "Forcing the flags").
+-- Rests on FillAfter, FlagAfter, Forcing, ChannelPins, bits' Logic, control's Strobed, the channel's ConditionsLeft, writes' and levels' PortsAfter, and the step's Ends and Outcome.
+use mathlib.Core.Path.{_≡_, _∙_, refl, sym, subst}
+use mathlib.Core.Bool.{Bool, true, false, not, or-true}
 use Prim.Native.Nat.{ℕ}
 use Rattle.bits.specs.Bit.{bitOf}
 use Rattle.bits.proofs.Logic.{contrary}
@@ -14,11 +14,11 @@ use Rattle.channel.specs.declared.Side.the-variants.{Output}
 use Rattle.channel.specs.declared.Fill.{Fill}
 use Rattle.channel.specs.declared.Fill.the-variants.{Empty, Waiting, Fetching}
 use Rattle.channel.specs.Channel.{flagOf}
-use Rattle.channel.proofs.ConditionsLeft.{leaves, offer-waits, hand-over-leaves}
+use Rattle.channel.proofs.ConditionsLeft.{leaves, forcedTo, offer-waits, hand-over-leaves}
 use Rattle.chip.specs.declared.Core.{Core}
 use Rattle.chip.specs.declared.Chip.{Chip}
 use Rattle.chip.specs.State.{channelOf}
-use Rattle.chip.specs.Handshakes.{strobed, linePin, ownAddress}
+use Rattle.chip.specs.Handshakes.{ownAddress, strobed, linePin, flagPin, writing}
 use Rattle.status.specs.Status.{flagAt}
 use Rattle.writes.specs.Write.{afterWriteEnds}
 use Rattle.writes.proofs.PortsAfter.{own-stored}
@@ -27,10 +27,11 @@ use Rattle.levels.proofs.PortsAfter.{levels-output, levels-word}
 use Rattle.step.specs.Step.{stepOf}
 use Rattle.step.proofs.Ends.{write-ends}
 use Rattle.step.proofs.Outcome.{step-accepts}
-use Rattle.laws.specs.Seen.{pin, flagPin}
+use Rattle.laws.specs.Seen.{pin, makesAnew, puts}
 use Rattle.laws.specs.Flags.{movesObf}
 use Rattle.laws.proofs.ChannelPins.{flag-pin}
 use Rattle.laws.proofs.FillAfter.{fill-by-event}
+use Rattle.laws.proofs.Forcing.{forced-flag}
 use Rattle.laws.proofs.FlagAfter.{flag-under, line-falls, seen-falls, levels-accepted}
 
 write-lowers : (c : Core) (a b : ℕ) (g : Group) → strobedOutput (c .word) g ≡ true → ownAddress a g ≡ true → flagAt (afterWriteEnds c a b) g Output ≡ false
@@ -47,6 +48,13 @@ taken Fetching = refl
 
 ack-raises : (c : Core) (d : ℕ) (g : Group) → lineFalls c d g Output ≡ true → flagAt (afterLevels c 2 d) g Output ≡ true
 ack-raises c d g fell = rw (levels-output c 2 d g, fell, hand-over-leaves (channelOf c g Output) Empty) (taken (channelOf c g Output .fill))
+
+-- OBF forced is at the level to which it was put.
+forced-to : (f : Fill) (v w : Bool) → (v ≡ not w → ⊥) → flagOf Output (forcedTo Output v f) ≡ w
+forced-to f true true other = forced-flag Output true f
+forced-to f false false other = forced-flag Output false f
+forced-to f true false other = absurd (other refl)
+forced-to f false true other = absurd (other refl)
 
 module _ (c : Chip) (g : Group) (on : strobed (c .core .word) g Output ≡ true) where
   -- The end of the write lowers OBF.
@@ -72,7 +80,10 @@ module _ (c : Chip) (g : Group) (on : strobed (c .core .word) g Output ≡ true)
         reset = λ zero. refl;
         renewal = λ two anew. refl;
         begins = λ one own. here;
-        ends = λ two runs. absurd (unmoved (rw (two) (runs)));
+        ends = λ two runs. absurd (unmoved (rw (two, runs)));
+        forced = λ two v said. forced-to (channelOf (c .core) g Output .fill) v true (λ low.
+            let reset = subst (λ (v : Bool). puts (c .phase) (flagPin g Output) v ≡ true) low said in
+            unmoved (rw (two, reset) (or-true (writing (c .phase) g))));
         falls = λ five fell. taken (channelOf (c .core) g Output .fill);
       })
   obf-held false low k x d none still =
@@ -84,5 +95,8 @@ module _ (c : Chip) (g : Group) (on : strobed (c .core .word) g Output ≡ true)
         renewal = λ two anew. absurd (unmoved (rw (two, anew)));
         begins = λ one own. here;
         ends = λ two runs. refl;
-        falls = λ five fell. absurd (unmoved (rw (five) (sym (seen-falls c g Output x d on) ∙ fell)));
+        forced = λ two v said. forced-to (channelOf (c .core) g Output .fill) v false (λ high.
+            let set = subst (λ (v : Bool). puts (c .phase) (flagPin g Output) v ≡ true) high said in
+            unmoved (rw (two, set, or-true (makesAnew (c .phase)))));
+        falls = λ five fell. absurd (unmoved (rw (five, ← seen-falls c g Output x d on, fell)));
       })

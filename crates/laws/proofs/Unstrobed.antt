@@ -14,7 +14,7 @@ use Rattle.chip.specs.declared.Chip.{Chip}
 use Rattle.chip.specs.State.{channelOf}
 use Rattle.chip.specs.Handshakes.{strobed, ownAddress}
 use Rattle.chip.proofs.Surrounded.{latch-spares, spared-channel}
-use Rattle.settings.proofs.PortsAfter.{bit-spares}
+use Rattle.settings.proofs.PortsAfter.{bit-put}
 use Rattle.reads.specs.Read.{afterReadBegins, afterReadEnds}
 use Rattle.reads.proofs.PortsAfter.{begun-input, begun-output, ended-input, ended-output}
 use Rattle.writes.specs.Write.{storedIn}
@@ -55,7 +55,7 @@ unstrobed-stays c g s off k x d reset renewal = by-event (λ c′. Still (c .cor
   ends = λ two. record {
     read = λ p phase. ended (c .core) g s off p;
     modeWord = λ w phase seven. not-anew (renewal two) phase seven;
-    bitWord = λ w phase seven. kept (spared-channel (bit-spares (c .core) w seven) g s);
+    bitWord = λ w phase seven. kept (bit-put (c .core) w seven .channel g s ∙ rw (off));
     lines = λ b phase. kept (spared-channel (latch-spares (c .core) _) g s);
     port = λ a b phase. written (c .core) g s off a b;
   };

@@ -9,10 +9,10 @@ use Rattle.control.specs.declared.Group.{Group}
 use Rattle.channel.specs.declared.Side.{Side}
 use Rattle.channel.specs.declared.Side.the-variants.{Input, Output}
 use Rattle.chip.specs.declared.Chip.{Chip}
-use Rattle.chip.specs.Handshakes.{linePin, enableOf, ownAddress, running}
+use Rattle.chip.specs.Handshakes.{linePin, enableOf, ownAddress, running, flagPin}
 use Rattle.status.specs.Status.{requestOf, intrOf}
 use Rattle.step.specs.Step.{stepOf}
-use Rattle.laws.specs.Seen.{pin, flagPin, commands}
+use Rattle.laws.specs.Seen.{pin, commands}
 
 -- One half of INTR, told by the pins: INTE and the flag and the line high and no own cycle running.
 abbrev pub half : Chip → Group → Side → Bool

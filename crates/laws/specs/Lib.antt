@@ -9,6 +9,7 @@ pub mod PortC
 pub mod OnePin
 pub mod Loads
 pub mod Flags
+pub mod Forcing
 pub mod Halves
 pub mod Quiet
 pub mod Altered

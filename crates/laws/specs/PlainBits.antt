@@ -62,6 +62,10 @@ freeOutput w n = not (used w n) && not (intoC w n)
 abbrev pub roleBy : ℕ → ℕ → Role
 roleBy w n = cond (used w n) (handshakeRole (into w B) n) (cond (freeInput w n) input output)
 
+-- IBF and OBF are on pins 1, 5 and 7.
+abbrev pub isFlagPin : ℕ → Bool
+isFlagPin n = eqb n 1 || (eqb n 5 || eqb n 7)
+
 -- STB and ACK are on pins 2, 4 and 6, and to these the chip listens where a handshake uses them.
 abbrev pub isLinePin : ℕ → Bool
 isLinePin n = eqb n 2 || (eqb n 4 || eqb n 6)

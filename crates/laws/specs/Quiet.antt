@@ -11,13 +11,13 @@ use Rattle.roles.specs.Role.{INTR, number, roleOf}
 use Rattle.channel.specs.declared.Side.{Side}
 use Rattle.channel.specs.declared.Side.the-variants.{Input, Output}
 use Rattle.chip.specs.declared.Chip.{Chip}
-use Rattle.chip.specs.Handshakes.{strobed, linePin, running}
+use Rattle.chip.specs.Handshakes.{strobed, linePin, running, flagPin}
 use Rattle.status.specs.declared.reasons.Reason.{Reason}
 use Rattle.status.specs.declared.reasons.Reason.the-variants.{EnableOff, FlagWrong, LineLow, OwnCycle, High}
 use Rattle.status.specs.declared.reasons.Explained.{Explained}
 use Rattle.status.specs.declared.reasons.Explained.the-variants.{NoGroup, ModeZero, InputHalf, OutputHalf, BothHalves}
 use Rattle.status.specs.Reasons.{inOrder, reasonNumber}
-use Rattle.laws.specs.Seen.{pin, told, intrPin, flagPin}
+use Rattle.laws.specs.Seen.{pin, told, intrPin}
 
 -- Each answer as it is seen: a read of port C tells, on the pin of STB or ACK, that the enable is off; the pin view shows IBF or OBF at 0;
 -- it shows STB or ACK low; the bus runs a read or a write of the port; the pin view shows INTR high.

@@ -1,6 +1,6 @@
 -- The words in which the theorems speak: what is seen of the chip from outside, and the pins of each channel.
-use mathlib.Core.Bool.{Bool, false, not, _&&_}
-use Prim.Native.Nat.{ℕ}
+use mathlib.Core.Bool.{Bool, false, cond, not, _&&_}
+use Prim.Native.Nat.{ℕ, _/_, _%_}
 use lib.Dec.{eqb}
 use Rattle.bits.specs.Bit.{bitOf}
 use Rattle.bus.specs.declared.Phase.{Phase}
@@ -8,7 +8,6 @@ use Rattle.bus.specs.declared.Phase.the-variants.{Idle, Reading, Writing}
 use Rattle.control.specs.declared.Group.{Group}
 use Rattle.control.specs.declared.Group.the-variants.{A, B}
 use Rattle.channel.specs.declared.Side.{Side}
-use Rattle.channel.specs.declared.Side.the-variants.{Input, Output}
 use Rattle.chip.specs.declared.Chip.{Chip}
 use Rattle.chip.specs.Handshakes.{linePin}
 use Rattle.ports.specs.Reads.{readOf}
@@ -26,15 +25,10 @@ told c n = bitOf (readOf c 2) n
 abbrev pub driven : Chip → ℕ → Bool
 driven c n = bitOf (pinsOf c 2 .driven) n
 
--- The pin of a group's INTR, and that of a channel's IBF or OBF ("Port C roles").
+-- The pin of a group's INTR ("Port C roles").
 abbrev pub intrPin : Group → ℕ
 intrPin A = 3
 intrPin B = 0
-
-abbrev pub flagPin : Group → Side → ℕ
-flagPin A Input = 5
-flagPin A Output = 7
-flagPin B s = 1
 
 -- Levels d on port x lower a channel's STB or ACK, which the pins show high.
 abbrev pub lowers : Chip → Group → Side → ℕ → ℕ → Bool
@@ -51,3 +45,9 @@ abbrev pub commands : Phase → Bool
 commands Idle = false
 commands (Reading p) = false
 commands (Writing a d) = eqb a 3
+
+-- A write of bit set/reset runs, which will put pin n of port C to v at its end ("Writes and bit set/reset").
+abbrev pub puts : Phase → ℕ → Bool → Bool
+puts Idle n v = false
+puts (Reading p) n v = false
+puts (Writing a d) n v = eqb a 3 && (not (bitOf d 7) && (eqb (d / 2 % 8) n && cond v (bitOf d 0) (not (bitOf d 0))))

@@ -120,7 +120,7 @@ pub fn pins(rack: Rack, place: u8, port: u8) -> CardPins
     }
 }
 
-// What became of the bytes offered to a channel of the card at a place.
+// What became of the bytes offered to a channel of the card at a place, or planted in it.
 pub fn tally(rack: Rack, place: u8, group: Group, side: Side) -> CardTally
     ensures { λ r. ⌜ r ≡ cardTally rack place group side ⌝ }
 {
@@ -138,6 +138,8 @@ pub fn tally(rack: Rack, place: u8, group: Group, side: Side) -> CardTally
             overwritten: 0,
             swallowed: 0,
             cleared: 0,
+            planted: 0,
+            struck: 0,
         },
     }
 }

@@ -1,5 +1,5 @@
 -- What is promised of each card of a rack that was built, by what is promised of a chip alone; and of a place without a card.
--- Rests on Followed and Projected, on the fates' Demand and Discipline, and on the account's Account.
+-- Rests on Followed and Projected, on the fates' Demand, Discipline and Unforced, and on the account's Account.
 use mathlib.Core.Path.{_≡_, refl, sym, ap, _∙_}
 use mathlib.Core.Bool.{true}
 use mathlib.Core.List.{List}
@@ -21,6 +21,7 @@ use Rattle.rack.specs.Views.{cardOf, cardPins, cardTally, cardExplained}
 use Rattle.fates.specs.Promise.{run}
 use Rattle.fates.proofs.Demand.{fates-from, fates, disciplined}
 use Rattle.fates.proofs.Discipline.{disciplined-from}
+use Rattle.fates.proofs.Unforced.{unforced-from, unforced}
 use Rattle.account.proofs.Account.{account-from, account}
 use Rattle.racklaws.specs.Whom.{RackEvent, free, eventsFor}
 use Rattle.racklaws.specs.Promise.{rackRun, basesOf, eventsIn, Whole, GoesOn, AsAlone, AsAloneFrom, NoneThere}
@@ -87,6 +88,7 @@ module _ (bs : List ℕ) (few : length bs ≤ mostCards) where
       explains = λ g. rw (is-there, alone);
       fates = λ g s. fates g s allLow (eventsFor i bs free es);
       discipline = λ g. disciplined g allLow (eventsFor i bs free es);
+      unforced = λ g s. unforced g s allLow (eventsFor i bs free es);
       account = account allLow (eventsFor i bs free es);
     }
 
@@ -110,5 +112,6 @@ module _ (r : Rack) (whole : Whole r) (es : List RackEvent) (i : ℕ) (h : i < m
     explains = λ there g. rw (still-there ∙ there, after-from .card i h);
     fates = λ g s bits. fates-from g s (chipAt r i) bits (eventsIn i r es);
     discipline = λ g found. disciplined-from g (chipAt r i) found (eventsIn i r es);
+    unforced = λ g s. unforced-from g s (chipAt r i) (eventsIn i r es);
     account = account-from (chipAt r i) (eventsIn i r es);
   }

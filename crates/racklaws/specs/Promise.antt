@@ -26,7 +26,7 @@ use Rattle.rack.specs.Views.{cardOf, cardPins, cardTally, cardExplained}
 use Rattle.fates.specs.Surroundings.{atPowerUp}
 use Rattle.fates.specs.Bytes.{bytesOf}
 use Rattle.fates.specs.Promise.{run, surroundingsOf, newBytes, oldByte, Fates, SixteenBits}
-use Rattle.fates.specs.Discipline.{HasFound, Disciplined, NoneLost}
+use Rattle.fates.specs.Discipline.{HasFound, Disciplined, NoneLost, NeverForced, NoneForced}
 use Rattle.account.specs.Account.{opened}
 use Rattle.account.specs.Promise.{accountOf, Accounted}
 use Rattle.racklaws.specs.Whom.{RackEvent, Bus, free, takenBy, Whom, nobody, everybody, card, whom, eventsFor, busOver}
@@ -112,6 +112,7 @@ pub record AsAlone (bs : List ℕ) (es : List RackEvent) (i : ℕ) (events : Lis
   pub explains : (g : ℕ) → cardExplained (rackRun (rackOf bs) es) i g ≡ record { number = 0; explained = explainedOf (run powerUp events) g }
   pub fates : (g : Group) (s : Side) → Fates g s powerUp events noTally (bytesOf g s allLow events) (bytesOf g s allLow events)
   pub discipline : (g : Group) → Disciplined g (atPowerUp allLow) powerUp events → NoneLost (bytesOf g Input allLow events)
+  pub unforced : (g : Group) (s : Side) → NeverForced g s (atPowerUp allLow) events → NoneForced (bytesOf g s allLow events) (bytesOf g s allLow events)
   pub account : Accounted powerUp (opened allLow) events
 
 -- The same of a card of any rack, from whatever it is there: a byte that waits in it counts as offered already.
@@ -126,6 +127,8 @@ pub record AsAloneFrom (r : Rack) (es : List RackEvent) (i : ℕ) (c : Chip) (ev
   pub fates : (g : Group) (s : Side) → SixteenBits (tallyOf c g s)
       → Fates g s c events (tallyOf c g s) (newBytes g s c events) (oldByte g s c events ++ newBytes g s c events)
   pub discipline : (g : Group) → HasFound g c → Disciplined g (surroundingsOf c) c events → NoneLost (oldByte g Input c events ++ newBytes g Input c events)
+  pub unforced : (g : Group) (s : Side) → NeverForced g s (surroundingsOf c) events
+      → NoneForced (newBytes g s c events) (oldByte g s c events ++ newBytes g s c events)
   pub account : Accounted c (accountOf c) events
 
 -- Where there is no card, each view is 10, and shows nothing.

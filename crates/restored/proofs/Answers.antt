@@ -1,5 +1,5 @@
 -- What the calls answer along a host's whole run, from every power-up and from every image.
--- Rests on Holds, Saved, Shown, SameDiscipline and Counts, on account's Account, and on fates' Demand.
+-- Rests on Holds, Saved, Shown, SameDiscipline and Counts, on account's Account, and on fates' Unforced and Demand.
 use mathlib.Core.Path.{_≡_}
 use mathlib.Core.Bool.{true}
 use mathlib.Core.List.{List, [], _∷_, _++_}
@@ -15,6 +15,7 @@ use Rattle.chip.specs.State.{noTally, powerUpWith, tallyOf}
 use Rattle.fates.specs.Surroundings.{atPowerUp}
 use Rattle.fates.specs.Bytes.{handedOver, Byte, bytesOf}
 use Rattle.fates.specs.Promise.{run, newBytes, oldByte, Each, ShownAt, Fates}
+use Rattle.fates.proofs.Unforced.{unforced}
 use Rattle.fates.proofs.Demand.{fates, disciplined}
 use Rattle.account.specs.Account.{Account, opened}
 use Rattle.account.specs.Promise.{over, accountOf, Accounted}
@@ -68,6 +69,7 @@ host-kept l v es long =
           answers (powerUpIn l v) (powerUpWith v) (opened v) es h (account v es)
           (λ k n. 0) (λ g s. noTally) numbered-none bytes bytes (λ g s. fates g s v es);
       noneLost = λ g kept. disciplined g v es (rw (← same-discipline g (atPowerUp v) (powerUpIn l v) (powerUpWith v) es h) kept);
+      noneForced = λ g s. unforced g s v es;
     }
 
 -- From every image.

@@ -49,7 +49,9 @@ counted g s c es start new all f (suc zero) few = f .tallyHanded
 counted g s c es start new all f (suc (suc zero)) few = f .tallyOverwritten
 counted g s c es start new all f (suc (suc (suc zero))) few = f .tallySwallowed
 counted g s c es start new all f (suc (suc (suc (suc zero)))) few = f .tallyCleared
-counted g s c es start new all f (suc (suc (suc (suc (suc n))))) few = absurd (omega arith)
+counted g s c es start new all f (suc (suc (suc (suc (suc zero))))) few = f .tallyPlanted
+counted g s c es start new all f (suc (suc (suc (suc (suc (suc zero)))))) few = f .tallyStruck
+counted g s c es start new all f (suc (suc (suc (suc (suc (suc (suc n))))))) few = absurd (omega arith)
 
 module _ (l : List ℕ) (c : Chip) (es : List Event) (h : Holds l c) (start : ℕ → ℕ → ℕ) (tallies : Group → Side → Tally)
     (starts : Numbered start tallies) (new all : Group → Side → List Byte)

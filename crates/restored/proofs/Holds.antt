@@ -40,7 +40,7 @@ module _ (l : List ℕ) (c : Chip) (h : Holds l c) where
       let has-next = image-stays (stateOf l) e has in
       rw (← h .state)
       (by-number l (e .kind) (e .first) (e .second) Holds (h .image)
-      (record { image = has-image (after (stateOf l) e) has-next; state = comes-back (after (stateOf l) e); has = has-next })
+      (record { image = has-image (after (stateOf l) e) has-next; state = comes-back (after (stateOf l) e) has-next; has = has-next })
       (record { image = h .image; state = refl; has = has }))
 
   pub answer-held : (e : Event) → answerTo l e ≡ packed (stepped c e .number) (stepped c e .byte) 0
@@ -68,7 +68,7 @@ holds-run l c (e ∷ es) h = holds-run (passed l e) (after c e) es (holds-next l
 pub holds-new : (l : List ℕ) (v : Levels) → length l ≡ places.length → Holds (powerUpIn l v) (powerUpWith v)
 holds-new l v long =
     let c = powerUpWith v in
-    rw (written-over l c long) (record { image = has-image c (power-up-has v); state = comes-back c; has = power-up-has v })
+    rw (written-over l c long) (record { image = has-image c (power-up-has v); state = comes-back c (power-up-has v); has = power-up-has v })
 
 -- and from an image.
 pub holds-image : (l : List ℕ) → Bytes l → isImage l ≡ true → Holds l (stateOf l)

@@ -2,6 +2,7 @@ pub mod Conditions
 pub mod Stays
 pub mod Holds
 pub mod Saved
+pub mod Converted
 pub mod Shown
 pub mod SameDiscipline
 pub mod Counts

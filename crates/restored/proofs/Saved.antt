@@ -1,6 +1,6 @@
 -- Demand 3 from a chip that a host restores from an image; and what the host holds after a power-up.
--- Rests on Conditions and Holds, on image's ComesBack, OneImage and SameBytes, and on fates' Tables, SurroundingsKept, Followed, SameByte,
--- InTheLatch, Discipline and Demand.
+-- Rests on Conditions, Stays and Holds, on image's ComesBack, OneImage and SameBytes, and on fates' Tables, SurroundingsKept, Followed, SameByte,
+-- InTheLatch, Discipline, Unforced and Demand.
 use mathlib.Core.Path.{_≡_, _∙_, ap, sym, subst}
 use mathlib.Core.Bool.{true}
 use mathlib.Core.List.{List, [], _∷_}
@@ -24,6 +24,7 @@ use Rattle.fates.proofs.Followed.{after}
 use Rattle.fates.proofs.SameByte.{strobed-alone}
 use Rattle.fates.proofs.InTheLatch.{held-from}
 use Rattle.fates.proofs.Discipline.{found-next, disciplined-from}
+use Rattle.fates.proofs.Unforced.{unforced-from}
 use Rattle.fates.proofs.Demand.{fates-from, no-read}
 use Rattle.image.specs.Places as places
 use Rattle.image.specs.Layout.{imageOf}
@@ -31,13 +32,13 @@ use Rattle.image.specs.Loaded.{byteAt, tallyAt, stateOf}
 use Rattle.image.specs.Good.{allowed, hasImage, isImage, Bytes}
 use Rattle.image.proofs.ComesBack.{comes-back}
 use Rattle.image.proofs.SameBytes.{small}
-use Rattle.image.proofs.OneImage.{tells-such}
 use Rattle.restored.specs.Host.{powerUpIn, GoesOn, PoweredUp, StillNoneLost}
 use Rattle.restored.proofs.Conditions.{apart}
-use Rattle.restored.proofs.Holds.{holds-new, holds-image, holds-run}
+use Rattle.restored.proofs.Stays.{reached}
+use Rattle.restored.proofs.Holds.{Holds, holds-new, holds-image, holds-run}
 
 -- Tallies of two bytes each.
-two-bytes : (b h : ℕ) → b < 256 → h < 256 → b + 256 * h < 65536
+pub two-bytes : (b h : ℕ) → b < 256 → h < 256 → b + 256 * h < 65536
 two-bytes b h lb lh = omega (arith, lb, lh)
 
 module _ (l : List ℕ) (bytes : Bytes l) where
@@ -51,6 +52,8 @@ module _ (l : List ℕ) (bytes : Bytes l) where
     overwritten = wide-small (i + 4) (i + 4 + 1);
     swallowed = wide-small (i + 6) (i + 6 + 1);
     cleared = wide-small (i + 8) (i + 8 + 1);
+    planted = wide-small (i + 10) (i + 10 + 1);
+    struck = wide-small (i + 12) (i + 12 + 1);
   }
 
   sixteen-bits : (g : Group) (s : Side) → SixteenBits (tallyOf (stateOf l) g s)
@@ -66,16 +69,21 @@ waits-strobed g s c has waits =
     let w = c .core .word in
     strobed-alone w g s (strobes-same w g s ∙ sym (ap (allowed (strobed w g s) s) waits) ∙ apart c has .channel g s)
 
--- From every image, over all events.
-pub goes-on : (l : List ℕ) → Bytes l → isImage l ≡ true → (es : List Event) → GoesOn l es
-goes-on l bytes good es =
-    let at-end = holds-run l (stateOf l) es (holds-image l bytes good) in
+-- From bytes that are the image of a chip whose tallies have sixteen bits, over all events.
+pub goes-from : (l : List ℕ) → Holds l (stateOf l) → ((g : Group) (s : Side) → SixteenBits (tallyOf (stateOf l) g s)) → (es : List Event) → GoesOn l es
+goes-from l h small es =
+    let at-end = holds-run l (stateOf l) es h in
     record {
       image = at-end .image;
       state = at-end .state;
-      fates = λ g s. fates-from g s (stateOf l) (sixteen-bits l bytes g s) es;
-      held = λ g s. held-from g s (stateOf l) (waits-strobed g s (stateOf l) (tells-such l bytes good)) es;
+      fates = λ g s. fates-from g s (stateOf l) (small g s) es;
+      held = λ g s. held-from g s (stateOf l) (waits-strobed g s (stateOf l) (h .has)) es;
+      unforced = λ g s. unforced-from g s (stateOf l) es;
     }
+
+-- From every image.
+pub goes-on : (l : List ℕ) → Bytes l → isImage l ≡ true → (es : List Event) → GoesOn l es
+goes-on l bytes good es = goes-from l (holds-image l bytes good) (sixteen-bits l bytes) es
 
 -- From every power-up, in as many bytes as an image has, that held anything.
 pub powered-up : (l : List ℕ) (v : Levels) (es : List Event) → length l ≡ places.length → PoweredUp l v es
@@ -94,4 +102,4 @@ pub still-none-lost : (g : Group) (l : Levels) (before es : List Event) → Stil
 still-none-lost g l before es kept-before kept =
     let c = run (powerUpWith l) before in
     disciplined-from g (stateOf (imageOf c))
-    (subst (HasFound g) (sym (comes-back c)) (has-found g (powerUpWith l) before (no-read g l) kept-before)) es kept
+    (subst (HasFound g) (sym (comes-back c (reached l before))) (has-found g (powerUpWith l) before (no-read g l) kept-before)) es kept

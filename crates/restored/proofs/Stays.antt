@@ -21,8 +21,9 @@ use Rattle.chip.specs.State.{powerUpWith}
 use Rattle.fates.specs.Kinds.{Kind, reset, cycleEnded, unknown, readBegun, writeBegun, newLevels, free, accepts, kindOf}
 use Rattle.fates.specs.Surroundings.{Surroundings, ofModeWord, brought, phaseAfter, wordAfter, surroundingsAfter, surroundingsNext}
 use Rattle.fates.specs.Effects.{clearedAway, strobes, when, ownEffect, clears, effectOf}
+use Rattle.fates.specs.Left.{afterForcedFull}
 use Rattle.fates.specs.Promise.{run, surroundingsOf}
-use Rattle.fates.proofs.Shapes.{Shape, passes, offers, decides, Gone, shapeOf, fillAfter}
+use Rattle.fates.proofs.Shapes.{Shape, passes, offers, plants, decides, Gone, shapeOf, fillAfter}
 use Rattle.fates.proofs.Tables.{strobes-same}
 use Rattle.fates.proofs.SurroundingsKept.{surroundings-next}
 use Rattle.fates.proofs.SameByte.{word-stays}
@@ -66,10 +67,18 @@ gone-keeps s f Waiting gone was = refl
 gone-keeps Input f Fetching gone was = refl
 gone-keeps Output f Fetching gone was = rw (gone) at was
 
+-- So has one in which a byte may have been planted.
+planted-keeps : (s : Side) (f : Fill) → allowed true s f ≡ true → allowed true s (afterForcedFull s f) ≡ true
+planted-keeps s Empty was = refl
+planted-keeps s Waiting was = refl
+planted-keeps Input Fetching was = refl
+planted-keeps Output Fetching was = refl
+
 -- No effect leaves a strobed output fetching.
 effect-keeps : (s : Side) (f : Fill) (d : Shape) → allowed true s f ≡ true → allowed true s (fillAfter s f d) ≡ true
 effect-keeps s f (passes to) was = was
 effect-keeps s f (offers v) was = refl
+effect-keeps s f plants was = planted-keeps s f was
 effect-keeps s f (decides x) was = gone-keeps s f (x .left s f) (x .gone s f) was
 
 -- A channel under an accepted event: all are emptied, or the word stays and only a strobed one takes part.

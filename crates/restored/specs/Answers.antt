@@ -5,20 +5,20 @@ use mathlib.Core.Bool.{Bool, cond, _||_}
 use mathlib.Core.List.{List, [], _∷_, _++_}
 use Prim.Native.Nat.{ℕ, zero, suc, _+_, _*_, _/_, _%_}
 use lib.Dec.{ltb}
-use lib.ListN.{length, getD}
+use lib.ListN.{getD}
 use Rattle.bits.specs.Bit.{bitOf}
 use Rattle.events.specs.Event.{Event}
 use Rattle.control.specs.declared.Group.{Group}
 use Rattle.channel.specs.declared.Side.{Side}
 use Rattle.channel.specs.declared.Side.the-variants.{Input, Output}
 use Rattle.chip.specs.declared.Levels.{Levels}
-use Rattle.laws.specs.Seen.{flagPin}
+use Rattle.chip.specs.Handshakes.{flagPin}
 use Rattle.fates.specs.Kinds.{kindOf}
 use Rattle.fates.specs.Surroundings.{Surroundings, atPowerUp, surroundingsNext}
 use Rattle.fates.specs.Effects.{portNumber, effect}
-use Rattle.fates.specs.Bytes.{handedOver, overwritten, swallowed, cleared, Byte, bytesOf, count}
+use Rattle.fates.specs.Bytes.{handedOver, overwritten, swallowed, cleared, struck, Byte, bytesOf, plantedAmong, offeredAmong, count}
 use Rattle.fates.specs.Promise.{newBytes, oldByte, Each}
-use Rattle.fates.specs.Discipline.{Minds, NoneLost}
+use Rattle.fates.specs.Discipline.{Minds, NoneLost, NeverForced, NoneForced}
 use Rattle.account.specs.Acts.{numberBy}
 use Rattle.account.specs.Account.{Account, opened}
 use Rattle.account.specs.Views.{levelsShown, maskShown, byteAnswered}
@@ -44,17 +44,20 @@ pinsBy a p = cond (ltb 2 p) 2 (packed 0 (levelsShown a p) (maskShown a p))
 abbrev pub explainedBy : Account → ℕ → ℕ
 explainedBy a n = reasonsGiven (explained a n)
 
--- What the tallies of a channel count, by their numbers: the bytes offered since the start; then, of these and the one that waited there,
--- those that were handed over, overwritten, swallowed and cleared.
+-- What the tallies of a channel count, by their numbers: of the bytes that came since the start those that were offered; of these bytes and the
+-- one that waited there those that were handed over, overwritten, swallowed and cleared; of those that came since the ones that were planted;
+-- and of all again those that were struck.
 abbrev pub counts : List Byte → List Byte → List ℕ
-counts new all = length new ∷ count handedOver all ∷ count overwritten all ∷ count swallowed all ∷ count cleared all ∷ []
+counts new all =
+    offeredAmong new ∷ count handedOver all ∷ count overwritten all ∷ count swallowed all ∷ count cleared all
+    ∷ plantedAmong new ∷ count struck all ∷ []
 
--- What the tally call answers of tally n of channel k by these counts, which go on from the tallies at the start; 2 above channel 3 and tally 4.
+-- What the tally call answers of tally n of channel k by these counts, which go on from the tallies at the start; 2 above channel 3 and tally 6.
 abbrev pub tallyBy : (ℕ → ℕ → ℕ) → (Group → Side → List Byte) → (Group → Side → List Byte) → ℕ → ℕ → ℕ
 tallyBy start new all k n =
     let g = groupNumbered k in
     let s = sideNumbered k in
-    cond (ltb 3 k || ltb 4 n) 2 (256 * ((start k n + getD (counts (new g s) (all g s)) n 0) % 65536))
+    cond (ltb 3 k || ltb 6 n) 2 (256 * ((start k n + getD (counts (new g s) (all g s)) n 0) % 65536))
 
 -- The call to which an event is passed shows the byte v: to the program, by the number 0 with that byte; to the device, by the number 0,
 -- and the pins call right after it answers that byte with all eight lines of the port driven.
@@ -70,7 +73,7 @@ AnsweredAt g s l (e ∷ es) (suc zero) v = AnswerShows g s l e v
 AnsweredAt g s l (e ∷ es) (suc (suc n)) v = AnsweredAt g s (passed l e) es (suc n) v
 
 -- What the calls answer after the events es, passed one by one to the bytes l, where a is the account of the beginning, `start` are the
--- tallies there, `new` are the bytes offered since, and `all` are these and the one that waited at the start.
+-- tallies there, `new` are the bytes offered and planted since, and `all` are these and the one that waited at the start.
 pub record Answers (l : List ℕ) (a : Account) (es : List Event) (start : ℕ → ℕ → ℕ) (new all : Group → Side → List Byte) : Type 0 where
   -- The step, whatever event comes next; the pin view of every port; what is said of every group's INTR; every tally of every channel.
   pub next : (e : Event) → answerTo (hostRun l es) e ≡ answerBy (over a es) e
@@ -90,12 +93,13 @@ abbrev pub HostDisciplined : Group → Surroundings → List ℕ → List Event 
 HostDisciplined g a l [] = Unit {0}
 HostDisciplined g a l (e ∷ es) = Minds (ibfAnswered l g) (effect g Input a e) × HostDisciplined g (surroundingsNext a e) (passed l e) es
 
--- What is promised of a host that powers its chip up, under any levels, in 64 bytes that held anything, and passes it any events: what the
+-- What is promised of a host that powers its chip up, under any levels, in 96 bytes that held anything, and passes it any events: what the
 -- calls answer, the tallies counting from 0; and that no input byte is overwritten or swallowed where device and program keep to the
--- discipline. Nothing here asks a chip.
+-- discipline, and none planted or struck where no flag is forced. Nothing here asks a chip.
 pub record HostKept (l : List ℕ) (v : Levels) (es : List Event) : Type 0 where
   pub answers : Answers (powerUpIn l v) (opened v) es (λ k n. 0) (λ g s. bytesOf g s v es) (λ g s. bytesOf g s v es)
   pub noneLost : (g : Group) → HostDisciplined g (atPowerUp v) (powerUpIn l v) es → NoneLost (bytesOf g Input v es)
+  pub noneForced : (g : Group) (s : Side) → NeverForced g s (atPowerUp v) es → NoneForced (bytesOf g s v es) (bytesOf g s v es)
 
 -- What is promised of an image and any events after it: what the calls answer, by the account of the chip that the image tells, the tallies
 -- counting from what the tally call answers there.

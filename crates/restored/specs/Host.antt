@@ -11,7 +11,7 @@ use Rattle.chip.specs.declared.Levels.{Levels}
 use Rattle.chip.specs.State.{powerUpWith, tallyOf}
 use Rattle.fates.specs.Surroundings.{atPowerUp}
 use Rattle.fates.specs.Promise.{run, surroundingsOf, newBytes, oldByte, HeldInTheLatch, Fates}
-use Rattle.fates.specs.Discipline.{Disciplined, NoneLost}
+use Rattle.fates.specs.Discipline.{Disciplined, NoneLost, NeverForced, NoneForced}
 use Rattle.image.specs.Layout.{imageOf}
 use Rattle.image.specs.Loaded.{stateOf}
 use Rattle.image.specs.Good.{isImage}
@@ -31,16 +31,19 @@ abbrev pub powerUpIn : List ℕ → Levels → List ℕ
 powerUpIn l v = powerUpImageWith l (v .a) (v .b) (v .c)
 
 -- What is promised of an image and any events after it: the host always holds an image, that of the chip after these events; on each
--- channel the counts go on from the image's tallies, a byte that waits in it being offered already, with the latch's value, which later
--- levels may change; and a byte that still waits in the end, be it that one, is what the latch holds then.
+-- channel the counts go on from the image's tallies, a byte that waits in it counting as offered already, with the latch's value, which later
+-- levels may change; a byte that still waits in the end, be it that one, is what the latch holds then; and where no flag of the channel is
+-- forced, none is planted or struck.
 pub record GoesOn (l : List ℕ) (es : List Event) : Type 0 where
   pub image : isImage (hostRun l es) ≡ true
   pub state : stateOf (hostRun l es) ≡ run (stateOf l) es
   pub fates : (g : Group) (s : Side)
       → Fates g s (stateOf l) es (tallyOf (stateOf l) g s) (newBytes g s (stateOf l) es) (oldByte g s (stateOf l) es ++ newBytes g s (stateOf l) es)
   pub held : (g : Group) (s : Side) → HeldInTheLatch g s (stateOf l) es (oldByte g s (stateOf l) es ++ newBytes g s (stateOf l) es)
+  pub unforced : (g : Group) (s : Side) → NeverForced g s (surroundingsOf (stateOf l)) es
+      → NoneForced (newBytes g s (stateOf l) es) (oldByte g s (stateOf l) es ++ newBytes g s (stateOf l) es)
 
--- What is promised of a host that powers its chip up, under any levels, in 64 bytes that held anything, and passes it any events: it
+-- What is promised of a host that powers its chip up, under any levels, in 96 bytes that held anything, and passes it any events: it
 -- always holds an image, that of the chip after these events, from that power-up.
 pub record PoweredUp (l : List ℕ) (v : Levels) (es : List Event) : Type 0 where
   pub image : isImage (hostRun (powerUpIn l v) es) ≡ true

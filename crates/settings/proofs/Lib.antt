@@ -1,2 +1,3 @@
 pub mod PinByMasks
+pub mod Flags
 pub mod PortsAfter

@@ -16,24 +16,28 @@ use Rattle.roles.proofs.PinByMasks.{sorted, role-by-masks}
 use Rattle.channel.specs.declared.Side.the-variants.{Input, Output}
 use Rattle.chip.specs.declared.Core.{Core}
 use Rattle.chip.specs.State.{withLatch, withEnables}
-use Rattle.settings.specs.ControlWord.{enabled, setAs, pinSet}
+use Rattle.settings.specs.ControlWord.{enabled, flagPut, setAs, pinSet}
 
--- A handshake's pin by its number: 4, 6 and 2 are STB and ACK.
-abbrev pub lineSet : Core → Bool → ℕ → Core
-lineSet c v n =
+-- A handshake's pin by its number: 4, 6 and 2 are STB and ACK, 5, 7 and 1 IBF and OBF.
+abbrev pub lineSet : Core → Bool → Bool → ℕ → Core
+lineSet c v taking n =
     cond (eqb n 4) (withEnables c (enabled (c .inte) A Input v))
     (cond (eqb n 6) (withEnables c (enabled (c .inte) A Output v))
     (cond (eqb n 2) (withEnables c (enabled (c .inte) B Input v))
-    c))
+    (cond (eqb n 5) (flagPut c A Input v)
+    (cond (eqb n 7) (flagPut c A Output v)
+    (cond (eqb n 1) (flagPut c B (cond taking Input Output) v)
+    c)))))
 
-told : (c : Core) (v taking : Bool) → table (lineSet c v) 8 ≡ table (λ n. setAs c n v (handshakeRole taking n)) 8
+told : (c : Core) (v taking : Bool) → table (lineSet c v taking) 8 ≡ table (λ n. setAs c n v (handshakeRole taking n)) 8
 told c v true = refl
 told c v false = refl
 
-pub line-by-role : (c : Core) (n : ℕ) (v : Bool) → n < 8 → lineSet c v n ≡ setAs c n v (handshakeRole (strobedInput (c .word) B) n)
+pub line-by-role : (c : Core) (n : ℕ) (v : Bool) → n < 8
+    → lineSet c v (strobedInput (c .word) B) n ≡ setAs c n v (handshakeRole (strobedInput (c .word) B) n)
 line-by-role c n v h =
     let taking = strobedInput (c .word) B in
-    sym (table-at (lineSet c v) c 8 n h) ∙ ap (λ (cs : List Core). getD cs n c) (told c v taking)
+    sym (table-at (lineSet c v taking) c 8 n h) ∙ ap (λ (cs : List Core). getD cs n c) (told c v taking)
     ∙ table-at (λ n. setAs c n v (handshakeRole taking n)) c 8 n h
 
 set-sorted : (c : Core) (n : ℕ) (v used out taking : Bool)

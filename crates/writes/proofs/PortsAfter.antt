@@ -2,7 +2,7 @@
 -- Rests on bits' Logic, settings' PortsAfter, and on chip's OnPort and Surrounded.
 use mathlib.Core.Path.{_≡_, refl, ap}
 use mathlib.Core.Bool.{Bool, true, false, cond, _&&_}
-use Prim.Native.Nat.{ℕ, _<_}
+use Prim.Native.Nat.{ℕ, _/_, _%_, _<_}
 use native.Mathlib.Omega.{arith}
 use lib.Dec.{eqb}
 use borrow.Author.Tests.{eqb-true, ne-eqb}
@@ -18,11 +18,11 @@ use Rattle.chip.specs.declared.Core.{Core}
 use Rattle.chip.specs.Addresses.{portC, control}
 use Rattle.chip.specs.State.{portOf, channelOf, withOutput, withLatch, onPort}
 use Rattle.chip.specs.Handshakes.{ownAddress}
-use Rattle.chip.proofs.OnPort.{lines-not-own, control-not-own, no-port, port-on, lines-on, enables-on}
+use Rattle.chip.proofs.OnPort.{no-port, port-on, lines-on, enables-on}
 use Rattle.chip.proofs.Surrounded.{Surrounded, surrounded-on, Spared, latch-spares}
 use Rattle.settings.specs.ModeWord.{afterModeWord}
 use Rattle.settings.specs.ControlWord.{afterControlWord}
-use Rattle.settings.proofs.PortsAfter.{mode-word, bit-spares}
+use Rattle.settings.proofs.PortsAfter.{PinPut, mode-word, bit-put}
 use Rattle.writes.specs.Write.{storedIn, storedBy, latchWritten, afterWriteEnds}
 
 -- A byte d for the port at the address x: its output channel takes it where the port is an output, and all else stays.
@@ -76,17 +76,19 @@ by-write P c x d w = go (eqb x portC) (eqb x control) refl refl
     go false true e f = to-control (eqb-true x control f) (bitOf d 7) refl
     go false false e f = w .port f _ (stored c x d)
 
--- The same for what bit set/reset and a byte for port C spare alike.
+-- The same by what each write can have changed of the channels and their surroundings: everything, one flag, nothing, or the output of a
+-- port.
 pub by-address : (P : Core → Type 0) (c : Core) (x d : ℕ)
     → ((eqb x control && bitOf d 7) ≡ true → P (afterModeWord c d))
-    → ((eqb x control && bitOf d 7) ≡ false → ((g : Group) → ownAddress x g ≡ false) → (c′ : Core) → Spared c′ c → P c′)
-    → ((eqb x control && bitOf d 7) ≡ false → (c′ : Core) → Stored c′ c x d → P c′)
+    → ((eqb x control && bitOf d 7) ≡ false → x ≡ control → (c′ : Core) → PinPut c′ c (d / 2 % 8) (bitOf d 0) → P c′)
+    → ((eqb x control && bitOf d 7) ≡ false → x ≡ portC → (c′ : Core) → Spared c′ c → P c′)
+    → ((eqb x control && bitOf d 7) ≡ false → eqb x control ≡ false → (c′ : Core) → Stored c′ c x d → P c′)
     → P (afterWriteEnds c x d)
-by-address P c x d mode spared kept = by-write P c x d (record {
+by-address P c x d mode put spared kept = by-write P c x d (record {
   modeWord = λ three seven. mode (rw (three, seven));
-  bitWord = λ three seven. spared (rw (three, seven)) (control-not-own x (rw (three))) _ (bit-spares c d seven);
-  lines = λ two. spared (rw (two)) (lines-not-own x (rw (two))) _ (latch-spares c _);
-  port = λ elsewhere. kept (rw (elsewhere));
+  bitWord = λ three seven. put (rw (three, seven)) three _ (bit-put c d seven);
+  lines = λ two. spared (rw (two)) two _ (latch-spares c _);
+  port = λ elsewhere. kept (rw (elsewhere)) elsewhere;
 })
 
 -- At a port's own address the byte is for that port.

@@ -2,7 +2,8 @@
 use native.Mathlib.Omega.{arith}
 use borrow.Author.Tests.{lt-ltb, le-ltb}
 use Rattle.calls.specs.Calls.{lastPort, pinsAnswer}
-use Rattle.calls.proofs.Asked.{is-bad, is-good}
+use Rattle.image.proofs.Long.{is-long}
+use Rattle.image.proofs.Asked.{is-bad, is-good}
 use Rattle.calls.proofs.towanchor_pins.Statement.{statement}
 use Rattle.calls.proofs.towanchor_pins.Tie as tie
 
@@ -14,7 +15,7 @@ towanchor-pins-spec = tie.close (tie.spec
     (λ c.
     let a = c .before .before .before .before .args in
     rw (is-good _ _ (c .before .before .good2 .ensures) (c .before .if1 .left), lt-ltb lastPort (a .port) (omega (arith, c .if2 .taken))))
-    (λ c κs. is-good _ _ (c .before .before .good2 .ensures) (c .before .if1 .left))
+    (λ c κs. is-long _ (is-good _ _ (c .before .before .good2 .ensures) (c .before .if1 .left)))
     (λ c κs. tt)
     (λ c κs. tt)
     (λ c.

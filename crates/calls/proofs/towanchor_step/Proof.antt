@@ -1,12 +1,14 @@
 -- `calls::towanchor_step` meets its contract: 8 before the step's own numbers, and only what is accepted writes.
--- Rests on Asked, Stepping and HostStep.
+-- Rests on Stepping and HostStep, and on image's Asked, Long and SameBytes.
 use mathlib.Core.Path.{_≡_, _∙_, ap}
 use native.Mathlib.Omega.{arith}
 use borrow.Author.Needs.{needs}
 use Rattle.bus.specs.Refusals.{numberOf}
 use Rattle.bus.specs.declared.Phase.{Phase}
 use Rattle.step.specs.Step.{limits}
-use Rattle.calls.proofs.Asked.{is-bad, is-good}
+use Rattle.image.proofs.Long.{is-long}
+use Rattle.image.proofs.SameBytes.{slice-told}
+use Rattle.image.proofs.Asked.{is-bad, is-good}
 use Rattle.calls.proofs.Stepping.{refused-answer, refused-image, accepted-answer, accepted-image}
 use Rattle.calls.proofs.HostStep.{bad-answer, bad-stays}
 use Rattle.calls.proofs.towanchor_step.Statement.{statement}
@@ -23,7 +25,7 @@ towanchor-step-spec = tie.close (tie.spec
       rw (bad-answer (a .image .now) (a .kind) (a .first) (a .second) bad),
       rw (bad-stays (a .image .now) (a .kind) (a .first) (a .second) bad),
     ))
-    (λ c κs. is-good _ _ (c .before .before .good2 .ensures) (c .before .if1 .left))
+    (λ c κs. is-long _ (is-good _ _ (c .before .before .good2 .ensures) (c .before .if1 .left)))
     (λ c κs. tt)
     (λ c. search needs)
     (λ c. search needs)
@@ -39,7 +41,8 @@ towanchor-step-spec = tie.close (tie.spec
     ))
     (λ c κs.
     let found = c .before .before .before .before .before in
-    is-good _ _ (found .before .good2 .ensures) (found .if1 .left))
+    let known = found .before .before .before in
+    slice-told _ (λ i. known .slice-known .given i) (is-good _ _ (found .before .good2 .ensures) (found .if1 .left)))
     (λ c κs. tt)
     (λ c. search needs)
     (λ c.

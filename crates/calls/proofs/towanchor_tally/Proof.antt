@@ -1,7 +1,8 @@
 -- `calls::towanchor_tally` meets its contract: 8 before 2, and then the tally.
 use borrow.Author.Needs.{needs}
 use Rattle.calls.specs.Calls.{tallyAnswer}
-use Rattle.calls.proofs.Asked.{is-bad, is-good}
+use Rattle.image.proofs.Long.{is-long}
+use Rattle.image.proofs.Asked.{is-bad, is-good}
 use Rattle.calls.proofs.towanchor_tally.Statement.{statement}
 use Rattle.calls.proofs.towanchor_tally.Tie as tie
 
@@ -11,7 +12,7 @@ towanchor-tally-spec = tie.close (tie.spec
     (λ c κs. tt)
     (λ c. rw (is-bad _ _ (c .before .good2 .ensures) (c .if1 .taken)))
     (λ c. rw (is-good _ _ (c .before .before .good2 .ensures) (c .before .if1 .left), c .if2 .taken))
-    (λ c κs. is-good _ _ (c .before .before .good2 .ensures) (c .before .if1 .left))
+    (λ c κs. is-long _ (is-good _ _ (c .before .before .good2 .ensures) (c .before .if1 .left)))
     (λ c κs. tt) (λ c κs. tt) (λ c κs. tt) (λ c κs. tt) (λ c. search needs) (λ c. search needs)
     (λ c.
     let tally = c .before in

@@ -3,6 +3,7 @@
 use super::Machine;
 use super::channels;
 use super::digits;
+use super::forcing;
 use super::handshake;
 use super::words;
 
@@ -31,16 +32,21 @@ fn cleared(machine: Machine, channel: usize) -> Machine {
     handshake::settle(machine, channel, handshake::CLEARED, handshake::EMPTY)
 }
 
-// One pin of port C by its number: the latch of a free output, or the enable that lies behind a strobe of the outside. Behind any
-// other pin there is nothing to set.
+// The number of the pin that a word below 128 names.
+pub(super) fn pin_named(word: u8) -> usize {
+    (word / 2 % 8) as usize
+}
+
+// One pin of port C: the latch of a free output, the enable that lies behind a strobe of the outside, or a buffer flag. Behind any other
+// pin there is nothing to set.
 fn set_pin(mut machine: Machine, word: u8) -> Machine {
-    let pin = (word / 2 % 8) as usize;
+    let pin = pin_named(word);
     let value = word % 2 == 1;
-    let role = words::roles_of(machine.word)[pin];
+    let role = words::role_of(machine.word, pin);
     match role {
         words::OUTPUT => machine.latch_c = digits::with_bit(machine.latch_c, pin, value),
         words::STROBE => machine.enable = digits::with_bit(machine.enable, pin, value),
-        _ => {}
+        _ => machine = forcing::turn(machine, forcing::channel_of(role), value),
     }
     machine
 }

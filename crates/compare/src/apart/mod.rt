@@ -7,7 +7,8 @@ mod commands; // mode words and bit set/reset
 mod cycles; // reset, the beginnings of reads and writes, and the end of either
 mod digits; // single bits of a byte
 mod edges; // new outside levels, the falls among them, and the latches that follow them
-mod handshake; // what happens to an offered byte, and the tallies
+mod forcing; // IBF and OBF turned over by the program
+mod handshake; // what happens to a byte, and the tallies
 mod numbers; // which events are refused, and by which number
 mod pins; // levels, driven pins and read values
 mod reasons; // why INTR is low
@@ -26,7 +27,7 @@ pub(super) struct Machine {
     pub(super) latch_c: u8,
     pub(super) enable: u8, // INTE at the pin behind which it lies: 4 A in, 6 A out, 2 B
     pub(super) fill: [u8; 4], // A in, A out, B in, B out: 0 empty, 1 waiting, 2 fetching
-    pub(super) tally: [u16; 20], // channel * 5 + (offered, handed over, overwritten, swallowed, cleared)
+    pub(super) tally: [u16; 28], // channel * 7 + (offered, handed over, overwritten, swallowed, cleared, planted, struck)
 }
 
 pub(super) struct Answer {
@@ -54,7 +55,7 @@ pub(super) fn power_up_with_levels(a: u8, b: u8, c: u8) -> Machine {
         latch_c: 0,
         enable: 0,
         fill: [0, 0, 0, 0],
-        tally: [0u16; 20],
+        tally: [0u16; 28],
     }
 }
 
@@ -107,4 +108,14 @@ pub(super) fn explain(machine: Machine, group: u8) -> Explanation {
         input: reasons::of_input(machine, group),
         output: reasons::of_output(machine, group),
     }
+}
+
+// What a word below 128, written to control, is about under a mode word: the role of the pin that it names.
+pub(super) fn role_named(mode: u8, word: u8) -> u8 {
+    words::role_of(mode, commands::pin_named(word))
+}
+
+// The channel whose flag the role is: 0 A in, 1 A out, 2 B in, 3 B out; 4 where it is none.
+pub(super) fn flag_of(role: u8) -> usize {
+    forcing::channel_of(role)
 }

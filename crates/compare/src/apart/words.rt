@@ -63,3 +63,7 @@ pub(super) fn roles_of(word: u8) -> [u8; 8] {
         digits::pick(a_out, OBF_A, high),
     ]
 }
+
+pub(super) fn role_of(word: u8, pin: usize) -> u8 {
+    roles_of(word)[pin % 8]
+}

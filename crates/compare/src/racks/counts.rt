@@ -2,19 +2,21 @@
 //
 //     0 histories, 1 events, 2 to 7 by kind, as for the 8255A; 8 to 14 by number, of which the last is 10
 //     15 racks that were built, 16 that were refused with 9
-//     17 to 56 what became of bytes at each of the eight places, all four channels of a card together, in the order of the tallies
-//     57 cycles begun by the first copy of a register and 58 by the second; 59 kept out by a cycle on the same card and 60 on another
-//     61 ends on the first card and 62 on another; 63 levels within a cycle on the same card and 64 on another; 65 resets within a cycle
-//     66 differences
+//     17 to 72 what became of bytes at each of the eight places, all four channels of a card together, in the order of the tallies
+//     73 cycles begun by the first copy of a register and 74 by the second; 75 kept out by a cycle on the same card and 76 on another
+//     77 ends on the first card and 78 on another; 79 levels within a cycle on the same card and 80 on another; 81 resets within a cycle
+//     82 differences
 use super::super::counts;
 use super::super::counts::flag;
 use super::super::twins;
+use super::super::twins::PER_CHANNEL;
+use super::super::twins::Tallies;
 use super::apart;
 use super::apart::NOWHERE;
 use super::who;
 use rack::Rack;
 
-pub(super) type Counts = [u64; 67];
+pub(super) type Counts = [u64; 83];
 
 const NUMBERS: usize = 8;
 
@@ -22,28 +24,28 @@ const BUILDS: usize = 15;
 
 const FATES: usize = 17;
 
-const FIRST_COPY: usize = 57;
+const FIRST_COPY: usize = 73;
 
-const SECOND_COPY: usize = 58;
+const SECOND_COPY: usize = 74;
 
-const KEPT_OUT_BY_SAME: usize = 59;
+const KEPT_OUT_BY_SAME: usize = 75;
 
-const KEPT_OUT_BY_OTHER: usize = 60;
+const KEPT_OUT_BY_OTHER: usize = 76;
 
-const END_ON_FIRST: usize = 61;
+const END_ON_FIRST: usize = 77;
 
-const END_ON_OTHER: usize = 62;
+const END_ON_OTHER: usize = 78;
 
-const LEVELS_WITHIN_SAME: usize = 63;
+const LEVELS_WITHIN_SAME: usize = 79;
 
-const LEVELS_WITHIN_OTHER: usize = 64;
+const LEVELS_WITHIN_OTHER: usize = 80;
 
-const RESET_WITHIN: usize = 65;
+const RESET_WITHIN: usize = 81;
 
-pub(super) const DIFFERENCES: usize = 66;
+pub(super) const DIFFERENCES: usize = 82;
 
 // The place of what is not counted: behind the row.
-const BEHIND: usize = 67;
+const BEHIND: usize = 83;
 
 // The numbers of events: 10 stands behind 5, and one that no event gives behind the row.
 fn place_of_number(number: u8) -> usize {
@@ -104,21 +106,21 @@ pub(super) fn event(counts: &mut Counts, aim: Aim, kind: u8, number: u8) {
 }
 
 // How far the event moved each tally of a card, which may have passed its end.
-fn fates_at(counts: &mut Counts, first: usize, before: [u16; 20], after: [u16; 20]) {
-    for at in 0..20 {
+fn fates_at(counts: &mut Counts, first: usize, before: Tallies, after: Tallies) {
+    for at in 0..28 {
         let by = std::num::wrapping_sub_u16(after[at], before[at]);
-        counts::add(counts, first, (at % 5) as u8, by);
+        counts::add(counts, first, (at % PER_CHANNEL) as u8, by);
     }
 }
 
-fn tallies(rack: Rack, place: u8) -> [u16; 20] {
+fn tallies(rack: Rack, place: u8) -> Tallies {
     let card = rack::views::card_at(rack, place);
     twins::tallies(card.chip)
 }
 
 pub(super) fn fates(counts: &mut Counts, before: Rack, after: Rack) {
     for place in 0u8..8 {
-        let first = FATES + place as usize * 5;
+        let first = FATES + place as usize * PER_CHANNEL;
         fates_at(counts, first, tallies(before, place), tallies(after, place));
     }
 }

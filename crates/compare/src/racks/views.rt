@@ -15,9 +15,9 @@ use rack::event::Stepped;
 use rack::views::CardTally;
 
 // 0 the number, 1 the byte, 2 whether a cycle runs; and of the place that is asked: 3 to 5 the number, the levels and the driven pins of
-// a port; 6 to 16 the number and the tallies of a channel, two bytes each; 17 to 20 the number and what is said of an INTR, by three
+// a port; 6 to 20 the number and the tallies of a channel, two bytes each; 21 to 24 the number and what is said of an INTR, by three
 // numbers.
-pub(super) type View = [u8; 21];
+pub(super) type View = [u8; 25];
 
 // What is asked by itself: a place, and there a port, a group and a channel.
 pub(super) struct Question {
@@ -92,6 +92,10 @@ pub(super) fn of_proved(last: Stepped, question: Question) -> View {
         high(counted.tally.swallowed),
         low(counted.tally.cleared),
         high(counted.tally.cleared),
+        low(counted.tally.planted),
+        high(counted.tally.planted),
+        low(counted.tally.struck),
+        high(counted.tally.struck),
         said.number,
         numbers.number,
         numbers.input,
@@ -104,7 +108,7 @@ pub(super) fn of_apart(last: Answer, question: Question) -> View {
     let card = apart::card(shelf, question.place);
     let said = apart::explain(shelf, question.place, question.group);
     let tally = card.machine.tally;
-    let first = (question.channel % 4) as usize * 5;
+    let first = (question.channel % 4) as usize * twins::PER_CHANNEL;
     [
         last.number,
         last.byte,
@@ -123,6 +127,10 @@ pub(super) fn of_apart(last: Answer, question: Question) -> View {
         high(tally[first + 3]),
         low(tally[first + 4]),
         high(tally[first + 4]),
+        low(tally[first + 5]),
+        high(tally[first + 5]),
+        low(tally[first + 6]),
+        high(tally[first + 6]),
         card.number,
         said.number,
         said.input,

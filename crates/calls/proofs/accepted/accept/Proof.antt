@@ -11,7 +11,7 @@ accept-spec = tie.close (tie.spec
     (λ c.
     let call = c .before .before in
     let key = call .before .before .match .keys1 in
-    (rw (key), rw (call .reset .ensures, key)))
+    (rw (key), rw (call .renew .ensures, key)))
     (λ c. search needs)
     (λ c.
     let call = c .before .before in

@@ -1,4 +1,4 @@
--- `compare::agree::same_tallies` is safe and ends: its loop counts to 20.
+-- `compare::agree::same_tallies` is safe and ends: its loop counts to 28.
 -- Rests on nothing.
 use Prim.Native.Nat.{_≤_, _-_}
 use borrow.Author.Needs.{needs}
@@ -6,10 +6,10 @@ use Rattle.compare.proofs.agree.same_tallies.Statement.{statement}
 use Rattle.compare.proofs.agree.same_tallies.Tie as tie
 
 abbrev Inv-loop : tie.InvT-loop
-Inv-loop one other at₀ at = at ≤ 20
+Inv-loop one other at₀ at = at ≤ 28
 
 abbrev μ-loop : tie.MeasureT-loop
-μ-loop one other at₀ at = 20 - at
+μ-loop one other at₀ at = 28 - at
 
 pub same-tallies-spec : {M : Type 1} → statement M
 same-tallies-spec = tie.close (tie.spec Inv-loop μ-loop (λ c. search needs) (λ c. search needs) (λ c. search needs) (λ c. search needs) (λ c. search needs) (λ c. search needs) (λ c. search needs) (λ c. search needs) (λ c. search needs) (λ c. search needs))

@@ -10,5 +10,5 @@ pub bus-spec : {M : Type 1} → statement M
 unfolding stateOf loadedFrom
 bus-spec = tie.close (tie.spec
     (λ c. rw (ne-eqb _ _ (c .if1 .taken)))
-    (λ c. search needs) (λ c. search needs) (λ c. search needs) (λ c κs. tt)
-    (λ c. rw (c .phase .ensures, eq-eqb _ _ (c .before .before .before .before .if1 .left))))
+    (λ c. search needs) (λ c. search needs) (λ c κs. tt)
+    (λ c. rw (c .phase .ensures, eq-eqb _ _ (c .before .before .before .if1 .left))))

@@ -1,19 +1,25 @@
--- `save::whole` meets its contract: the three parts fill the slice.
+-- `save::whole` meets its contract: the parts fill the slice.
 use mathlib.Core.Path.{_≡_, _∙_}
 use mathlib.Core.List.{List, append-nil}
-use Prim.Native.Nat.{ℕ}
+use Prim.Native.Nat.{ℕ, _+_}
 use native.Mathlib.Omega.{arith}
-use lib.ListN.{length, drop-of-length-le}
+use lib.ListN.{length, replicate, drop-of-length-le}
 use lib.Seq.{sets, sets-eq}
 use borrow.Author.Needs.{needs}
 use Rattle.chip.specs.declared.Chip.{Chip}
 use Rattle.image.specs.Places as places
-use Rattle.image.specs.Layout.{allTallies, portBytes, controlBytes, imageOf}
+use Rattle.image.specs.Layout.{coreBytes, busBytes, imageOf}
 use Rattle.image.proofs.save.whole.Statement.{statement}
 use Rattle.image.proofs.save.whole.Tie as tie
 
+abbrev eight : List ℕ
+eight = replicate 8 0
+
+abbrev parted : List ℕ → Chip → List ℕ
+parted l c = sets (sets l places.tallies (coreBytes (c .core))) places.bus (busBytes (c .phase))
+
 filled : (l : List ℕ) (c : Chip) → length l ≡ places.length
-    → sets (sets (sets l places.tallies (allTallies (c .core))) places.levelsA (portBytes (c .core))) places.word (controlBytes c) ≡ imageOf c
+    → sets (sets (sets (parted l c) places.unused eight) (places.unused + 8) eight) (places.unused + 16) eight ≡ imageOf c
 unfolding imageOf
 filled l c h =
     sets-eq (imageOf c) l 0 (omega (arith, h))
@@ -21,11 +27,20 @@ filled l c h =
 
 pub whole-spec : {M : Type 1} → statement M
 whole-spec = tie.close (tie.spec
-    (λ c κs. search needs) (λ c κs. search needs) (λ c κs. search needs) (λ c. search needs)
+    (λ c κs. search needs) (λ c κs. search needs) (λ c κs. search needs)
+    (λ c. search needs) (λ c κs. search needs) (λ c. search needs) (λ c κs. search needs) (λ c. search needs)
     (λ c.
     let third = c .before .before in
     let second = third .before .before .before .before in
     let first = second .before .before .before .before in
-    let at-start = first .before .before .before .args in
-    rw (third .put-control .ensures, second .put-ports .ensures, first .put-tallies .ensures)
+    let bus = first .before .before .before .before in
+    let core = bus .before .before .before .before in
+    let at-start = core .before .before .before .args in
+    rw (
+      third .put-zeros3 .ensures,
+      second .put-zeros2 .ensures,
+      first .put-zeros .ensures,
+      bus .put-bus .ensures,
+      core .put-core .ensures,
+    )
     (filled (at-start .image .now) (at-start .chip) (search needs))))

@@ -1,0 +1,10 @@
+-- The chips that there were when older images were saved.
+use mathlib.Core.Path.{_≡_}
+use Rattle.control.specs.declared.Group.{Group}
+use Rattle.channel.specs.declared.Side.{Side}
+use Rattle.chip.specs.declared.Chip.{Chip}
+use Rattle.chip.specs.State.{tallyOf}
+
+-- It is as they were: in no channel was a byte planted or struck.
+abbrev pub FromBefore : Chip → Type 0
+FromBefore c = (g : Group) (s : Side) → (tallyOf c g s .planted ≡ 0) × (tallyOf c g s .struck ≡ 0)
