@@ -8,8 +8,9 @@ int memcmp(const void *left, const void *right, size_t length);
 
 /* A slice of any length up to 255 is lent now and then, so each image lies in a room of that size. */
 enum { IMAGE = TOWANCHOR_IMAGE_SIZE, ROOM = 255, EVENTS = 200000, DAMAGED = 200000, HISTORY = 50 };
-enum { TALLIES_END = 56, CONDITIONS = 64, WORD = 68, ENABLES = 69, BUS = 70, DATA = 71, UNUSED = 72 };
-enum { KEPT_FOR_LATER = 3, WRITING = 4, IDLE = 8 };
+enum { TALLIES_END = 56, CONDITIONS = 64, WORD = 68, ENABLES = 69, BUS = 70, DATA = 71, EDITION = 72, UNUSED = 73 };
+enum { READING_CONTROL = 3, WRITING = 4, IDLE = 8 };
+enum { OLDER, NEWER };
 
 /* Pseudo-random numbers, the same in every run: high bits of a linear congruential sequence. */
 static unsigned char random_byte(void)
@@ -55,7 +56,8 @@ static void make_good(unsigned char *image)
         image[CONDITIONS + i] %= last_condition(image, i) + 1;
     image[ENABLES] &= 0x54;
     image[BUS] %= IDLE + 1;
-    if (image[BUS] == KEPT_FOR_LATER)
+    image[EDITION] %= NEWER + 1;
+    if (image[BUS] == READING_CONTROL && image[EDITION] == OLDER)
         image[BUS] = IDLE;
     if (image[BUS] < WRITING || image[BUS] == IDLE)
         image[DATA] = 0;
@@ -68,17 +70,23 @@ static void damage(unsigned char *image)
 {
     static const unsigned char no_enable[] = { 0x01, 0x02, 0x08, 0x20, 0x80 };
     int channel = random_byte() % 4;
-    switch (random_byte() % 6) {
+    switch (random_byte() % 7) {
     case 0: image[CONDITIONS + channel] = above(last_condition(image, channel)); break;
     case 1: image[WORD] &= 0x7f; break;
     case 2: image[ENABLES] |= no_enable[random_byte() % sizeof no_enable]; break;
-    case 3: image[BUS] = random_byte() & 1 ? KEPT_FOR_LATER : above(IDLE); break;
+    case 3:
+        if (image[EDITION] == OLDER && random_byte() & 1)
+            image[BUS] = READING_CONTROL;
+        else
+            image[BUS] = above(IDLE);
+        break;
     case 4:
         if (image[BUS] >= WRITING && image[BUS] < IDLE)
             image[BUS] = random_byte() & 1 ? 0 : IDLE, image[DATA] |= 1;
         else
             image[DATA] = above(0);
         break;
+    case 5: image[EDITION] = above(NEWER); break;
     default: image[UNUSED + random_byte() % (IMAGE - UNUSED)] = above(0);
     }
 }

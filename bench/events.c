@@ -12,6 +12,8 @@ enum { IMAGE = TOWANCHOR_IMAGE_SIZE, MOST_CALLS = 16, SIGCONT = 18 };
 
 enum function { STEP, PINS, TALLY, EXPLAIN };
 
+enum edition { OLDER = TOWANCHOR_8255A, NEWER = TOWANCHOR_82C55A };
+
 /* The operands of a call: a frame for a step, a port for the pins, a channel and a tally for a tally, a group for an explanation.
    Those it lacks are 0. */
 struct call {
@@ -53,42 +55,46 @@ static const struct model empty = { "empty", empty_step, empty_pins, empty_tally
 /* Port A in mode 2 and port B in mode 1 input, with a byte waiting in each of their three channels. */
 #define BYTES_WAIT_IN_MODE_2 "0502FF 0303C6 02 030055 02 0502EB 0502FF "
 
-/* What is counted: the calls of a round, each answered with the number, from the state that a history from power-up leaves. */
+/* What is counted: the calls of a round, each answered with the number, from the state that a history from a power-up of the
+   edition leaves. */
 static const struct {
     const char *name;
+    enum edition edition;
     enum function function;
     const char *history;
     const char *round;
     unsigned int number;
 } kinds[] = {
-    { "refused, no such kind", STEP, A_BYTE_WAITS, "09", TOWANCHOR_NO_SUCH_KIND },
-    { "reset", STEP, A_BYTE_WAITS, "00", 0 },
-    { "begin read of A, a byte waits", STEP, A_BYTE_WAITS, "0100", 0 },
-    { "begin read of B in mode 0", STEP, "", "0101", 0 },
-    { "begin read of C, mode 1", STEP, A_BYTE_WAITS, "0102", 0 },
-    { "begin read of C, mode 2", STEP, BYTES_WAIT_IN_MODE_2, "0102", 0 },
-    { "end read of A", STEP, A_BYTE_WAITS "0100", "02", 0 },
-    { "begin write", STEP, SCALE_AND_PRINTER, "030154", 0 },
-    { "end write to B, strobed", STEP, SCALE_AND_PRINTER "030154", "02", 0 },
-    { "end write to C", STEP, SCALE_AND_PRINTER "0302FF", "02", 0 },
-    { "end write of a mode word", STEP, A_BYTE_WAITS "0303B4", "02", 0 },
-    { "end write of a bit set/reset", STEP, SCALE_AND_PRINTER "030308", "02", 0 },
-    { "end write that forces IBF", STEP, SCALE_AND_PRINTER "03030B", "02", 0 },
-    { "levels on A", STEP, SCALE_AND_PRINTER, "050041", 0 },
-    { "levels on A, STB low", STEP, SCALE_AND_PRINTER "0502EF", "050041", 0 },
-    { "levels on C, STB falls", STEP, SCALE_AND_PRINTER, "0502EF", 0 },
-    { "levels on C, ACK falls", STEP, SCALE_AND_PRINTER "030154 02", "0502FB", 0 },
-    { "levels on C, three edges", STEP, BYTES_WAIT_IN_MODE_2, "0502AB", 0 },
-    { "levels on C, nothing falls", STEP, SCALE_AND_PRINTER, "0502FF", 0 },
-    { "view of A", PINS, A_BYTE_WAITS, "00", 0 },
-    { "view of B", PINS, A_BYTE_WAITS, "01", 0 },
-    { "view of C, mode 1", PINS, A_BYTE_WAITS, "02", 0 },
-    { "view of C, mode 2", PINS, BYTES_WAIT_IN_MODE_2, "02", 0 },
-    { "explain A, mode 1", EXPLAIN, A_BYTE_WAITS, "00", 0 },
-    { "explain A, mode 2", EXPLAIN, BYTES_WAIT_IN_MODE_2, "00", 0 },
-    { "explain B, mode 0", EXPLAIN, "", "01", 0 },
-    { "a tally", TALLY, A_BYTE_WAITS, "0000", 0 },
-    { "scale and printer, an event", STEP, SCALE_AND_PRINTER, "050041 0502EF 0502FF 0100 02 030154 02 0502FB 0502FF 0102 02", 0 },
+    { "refused, no such kind", OLDER, STEP, A_BYTE_WAITS, "09", TOWANCHOR_NO_SUCH_KIND },
+    { "reset", OLDER, STEP, A_BYTE_WAITS, "00", 0 },
+    { "begin read of A, a byte waits", OLDER, STEP, A_BYTE_WAITS, "0100", 0 },
+    { "begin read of B in mode 0", OLDER, STEP, "", "0101", 0 },
+    { "begin read of C, mode 1", OLDER, STEP, A_BYTE_WAITS, "0102", 0 },
+    { "begin read of C, mode 2", OLDER, STEP, BYTES_WAIT_IN_MODE_2, "0102", 0 },
+    { "begin read of control, 82C55A", NEWER, STEP, A_BYTE_WAITS, "0103", 0 },
+    { "end read of control, 82C55A", NEWER, STEP, A_BYTE_WAITS "0103", "02", 0 },
+    { "end read of A", OLDER, STEP, A_BYTE_WAITS "0100", "02", 0 },
+    { "begin write", OLDER, STEP, SCALE_AND_PRINTER, "030154", 0 },
+    { "end write to B, strobed", OLDER, STEP, SCALE_AND_PRINTER "030154", "02", 0 },
+    { "end write to C", OLDER, STEP, SCALE_AND_PRINTER "0302FF", "02", 0 },
+    { "end write of a mode word", OLDER, STEP, A_BYTE_WAITS "0303B4", "02", 0 },
+    { "end write of a bit set/reset", OLDER, STEP, SCALE_AND_PRINTER "030308", "02", 0 },
+    { "end write that forces IBF", OLDER, STEP, SCALE_AND_PRINTER "03030B", "02", 0 },
+    { "levels on A", OLDER, STEP, SCALE_AND_PRINTER, "050041", 0 },
+    { "levels on A, STB low", OLDER, STEP, SCALE_AND_PRINTER "0502EF", "050041", 0 },
+    { "levels on C, STB falls", OLDER, STEP, SCALE_AND_PRINTER, "0502EF", 0 },
+    { "levels on C, ACK falls", OLDER, STEP, SCALE_AND_PRINTER "030154 02", "0502FB", 0 },
+    { "levels on C, three edges", OLDER, STEP, BYTES_WAIT_IN_MODE_2, "0502AB", 0 },
+    { "levels on C, nothing falls", OLDER, STEP, SCALE_AND_PRINTER, "0502FF", 0 },
+    { "view of A", OLDER, PINS, A_BYTE_WAITS, "00", 0 },
+    { "view of B", OLDER, PINS, A_BYTE_WAITS, "01", 0 },
+    { "view of C, mode 1", OLDER, PINS, A_BYTE_WAITS, "02", 0 },
+    { "view of C, mode 2", OLDER, PINS, BYTES_WAIT_IN_MODE_2, "02", 0 },
+    { "explain A, mode 1", OLDER, EXPLAIN, A_BYTE_WAITS, "00", 0 },
+    { "explain A, mode 2", OLDER, EXPLAIN, BYTES_WAIT_IN_MODE_2, "00", 0 },
+    { "explain B, mode 0", OLDER, EXPLAIN, "", "01", 0 },
+    { "a tally", OLDER, TALLY, A_BYTE_WAITS, "0000", 0 },
+    { "scale and printer, an event", OLDER, STEP, SCALE_AND_PRINTER, "050041 0502EF 0502FF 0100 02 030154 02 0502FB 0502FF 0102 02", 0 },
 };
 enum { KINDS = sizeof kinds / sizeof kinds[0] };
 
@@ -161,7 +167,7 @@ int main(int argc, char **argv)
     model = atoi(argv[1]), kind = atoi(argv[2]);
     if (model < 0 || model > MODELS || kind < 0 || kind >= KINDS)
         return 2;
-    towanchor_power_up(saved, IMAGE);
+    towanchor_power_up_as(saved, IMAGE, kinds[kind].edition, 0, 0, 0);
     if (!answered(saved, STEP, kinds[kind].history, TOWANCHOR_ACCEPTED))
         return 2;
     memcpy(image, saved, IMAGE);

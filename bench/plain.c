@@ -1,5 +1,5 @@
-/* A plain model of the 8255A in C, which the proved functions are measured against: the rules written once, over a chip that lies
-   in memory as the image does, and two ways in, one that works on the image in place and one that loads and saves it. */
+/* A plain model of the 8255A and the 82C55A in C, which the proved functions are measured against: the rules written once, over a
+   chip that lies in memory as the image does, and two ways in, one that works on the image in place and one that loads and saves it. */
 #include "plain.h"
 
 enum { PORT_A, PORT_B, PORT_C, CONTROL };
@@ -8,8 +8,10 @@ enum { A_IN, A_OUT, B_IN, B_OUT, CHANNELS };
 enum { EMPTY, WAITING, FETCHING };
 enum { OFFERED, HANDED_OVER, OVERWRITTEN, SWALLOWED, CLEARED, PLANTED, STRUCK, TALLIES };
 
-/* What runs on the bus: a read at its port, or a write at WRITING and its address, or nothing. */
+/* What runs on the bus: a read at its address, or a write at WRITING and its address, or nothing. */
 enum { READING, WRITING = 4, IDLE = 8 };
+
+enum { OLDER, NEWER };
 
 enum { RESET, BEGIN_READ, END_CYCLE, BEGIN_WRITE, OUTSIDE_LEVELS = 5 };
 
@@ -42,7 +44,8 @@ struct __attribute__((packed, may_alias)) chip {
     unsigned char enables;
     unsigned char bus;
     unsigned char data;
-    unsigned char unused[24];
+    unsigned char edition;
+    unsigned char unused[23];
 };
 
 enum { IMAGE = 96 };
@@ -88,9 +91,10 @@ static int writes(const struct chip *chip)
     return chip->bus >= WRITING && chip->bus < IDLE;
 }
 
+/* The older edition does not read control. */
 static int good_bus(const struct chip *chip)
 {
-    return chip->bus <= IDLE && chip->bus != READING + CONTROL && (writes(chip) || chip->data == 0);
+    return chip->bus <= IDLE && (chip->bus != READING + CONTROL || chip->edition != OLDER) && (writes(chip) || chip->data == 0);
 }
 
 static int good_condition(const struct chip *chip, int channel, unsigned char last)
@@ -104,7 +108,7 @@ static int good(const struct chip *chip)
     return (chip->word & MODE_WORD) && !(chip->enables & ~FROM_OUTSIDE) && good_bus(chip)
         && good_condition(chip, A_IN, FETCHING) && good_condition(chip, A_OUT, WAITING)
         && good_condition(chip, B_IN, FETCHING) && good_condition(chip, B_OUT, WAITING)
-        && memcmp(chip->unused, zeros, sizeof zeros) == 0;
+        && chip->edition <= NEWER && memcmp(chip->unused, zeros, sizeof zeros) == 0;
 }
 
 /* Port C. */
@@ -341,7 +345,7 @@ static unsigned int begin_read(struct chip *chip, unsigned char address)
     unsigned char answer;
     if (address > CONTROL)
         return OUT_OF_RANGE;
-    if (address == CONTROL)
+    if (address == CONTROL && chip->edition == OLDER)
         return NOT_READABLE;
     if (chip->bus != IDLE)
         return CYCLE_RUNS;
@@ -349,8 +353,10 @@ static unsigned int begin_read(struct chip *chip, unsigned char address)
         answer = read_port(chip, A_IN, A_OUT, chip->outside[PORT_A], chip->word & INPUT_A);
     else if (address == PORT_B)
         answer = read_port(chip, B_IN, B_OUT, chip->outside[PORT_B], chip->word & INPUT_B);
-    else
+    else if (address == PORT_C)
         answer = read_c(chip);
+    else
+        answer = chip->word | MODE_WORD;
     chip->bus = READING + address;
     return ACCEPTED | (unsigned int)answer << 8;
 }
@@ -534,7 +540,7 @@ unsigned int plain_explain(const unsigned char *image, size_t length, unsigned c
 /* Loaded. The image's numbers of two bytes have the low byte first. */
 
 enum { TALLIES_AT = 0, TALLIES_EACH = 14, OUTSIDE_AT = 56, LATCH_C_AT = 59, LATCHES_AT = 60, CONDITIONS_AT = 64, WORD_AT = 68, ENABLES_AT,
-       BUS_AT, DATA_AT, UNUSED_AT };
+       BUS_AT, DATA_AT, EDITION_AT, UNUSED_AT };
 
 static void load(struct chip *chip, const unsigned char *image)
 {
@@ -554,6 +560,7 @@ static void load(struct chip *chip, const unsigned char *image)
     chip->enables = image[ENABLES_AT];
     chip->bus = image[BUS_AT];
     chip->data = image[DATA_AT];
+    chip->edition = image[EDITION_AT];
     for (i = 0; i < IMAGE - UNUSED_AT; i++)
         chip->unused[i] = image[UNUSED_AT + i];
 }
@@ -577,6 +584,7 @@ static void save(const struct chip *chip, unsigned char *image)
     image[ENABLES_AT] = chip->enables;
     image[BUS_AT] = chip->bus;
     image[DATA_AT] = chip->data;
+    image[EDITION_AT] = chip->edition;
 }
 
 unsigned int loaded_step(unsigned char *image, size_t length, unsigned char kind, unsigned char first, unsigned char second)

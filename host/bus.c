@@ -15,7 +15,8 @@ static unsigned int accepted(unsigned int answer)
     return answer;
 }
 
-/* Whether a cycle runs that the guest began. The card may have refused it: it has no such address, or its control register is not read.
+/* Whether a cycle runs that the guest began. The card may have refused it: it has no such address, or it carries an 8255A, whose control is
+ * not read.
  * That is the guest's own affair, and the machine goes on. Any other refusal is this emulator's fault. */
 static int runs(unsigned int answer)
 {
@@ -37,7 +38,7 @@ static unsigned int view(const struct bus *bus, unsigned char port)
     return accepted(bus->view(bus->image, sizeof bus->image, port));
 }
 
-void bus_power_up(struct bus *bus, pin_view its_view)
+void bus_power_up(struct bus *bus, unsigned char edition, pin_view its_view)
 {
     /* On the store's old backplane idle lines are high, and scale and printer count on that: their STB and ACK are high before the
      * first byte, and so is the line by which the scale says that it still sends. The card's default is low, so the levels are named. */
@@ -45,7 +46,7 @@ void bus_power_up(struct bus *bus, pin_view its_view)
 
     bus->view = its_view;
     bus->outside_c = high;
-    accepted(towanchor_power_up_with_levels(bus->image, sizeof bus->image, high, high, high));
+    accepted(towanchor_power_up_as(bus->image, sizeof bus->image, edition, high, high, high));
 }
 
 int bus_begin_read(struct bus *bus, unsigned char address, unsigned char *byte)

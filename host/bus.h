@@ -16,8 +16,8 @@ struct bus {
 /* What a read gets that the card refuses: nothing drives the data lines then, and on this backplane idle lines are high. */
 #define BUS_FLOATING 0xFF
 
-/* Powers the card up, with every line high. */
-void bus_power_up(struct bus *bus, pin_view view);
+/* Powers the card up, with every line high. 'edition' is the part that it carries. */
+void bus_power_up(struct bus *bus, unsigned char edition, pin_view view);
 
 /* The processor's side. A cycle takes time: between its beginning and its end the outside goes on. A beginning answers whether the cycle
  * runs. Where the card refuses what the guest began, none does, and none is ended: a read has BUS_FLOATING, and a written byte is lost. */

@@ -1,9 +1,9 @@
 /* The machine: nothing stands still while the processor reads or writes. */
 #include "machine.h"
 
-void machine_start(struct machine *machine, pin_view view, enum scale_kind kind, const char *digits)
+void machine_start(struct machine *machine, unsigned char edition, pin_view view, enum scale_kind kind, const char *digits)
 {
-    bus_power_up(&machine->bus, view);
+    bus_power_up(&machine->bus, edition, view);
     machine->scale.kind = kind;
     machine->scale.digits = digits;
     machine->printer.text[0] = '\0';

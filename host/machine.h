@@ -11,8 +11,8 @@ struct machine {
     struct printer printer;
 };
 
-/* Switches the machine on, with a bale on the scale and no text on the paper. */
-void machine_start(struct machine *machine, pin_view view, enum scale_kind kind, const char *digits);
+/* Switches the machine on, with a bale on the scale and no text on the paper. 'edition' is the part that its card carries. */
+void machine_start(struct machine *machine, unsigned char edition, pin_view view, enum scale_kind kind, const char *digits);
 
 /* Gives the outside a moment: the scale and the printer. */
 void machine_outside(struct machine *machine);

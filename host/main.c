@@ -1,5 +1,5 @@
-/* One bale is weighed four times: on this card, on this card with its image saved and restored at every turn, on this card by a scale that
- * strobes too early, and on last season's card. Printer and program are the same. */
+/* One bale is weighed five times: on this card, on this card with its image saved and restored at every turn, on this card by a scale that
+ * strobes too early, on last season's card, and on a new one, which carries an 82C55A. Printer and program are the same. */
 #include "old_card.h"
 #include "program.h"
 
@@ -31,12 +31,12 @@ static void save_and_restore(struct bus *bus, struct restorations *restorations)
 }
 
 /* Weighs the bale and prints its ticket; on the way the card is saved and restored, unless 'restorations' is NULL. */
-static void weigh(struct machine *machine, pin_view view, enum scale_kind kind, struct restorations *restorations)
+static void weigh(struct machine *machine, unsigned char edition, pin_view view, enum scale_kind kind, struct restorations *restorations)
 {
     struct program program;
     int turn;
 
-    machine_start(machine, view, kind, WEIGHT);
+    machine_start(machine, edition, view, kind, WEIGHT);
     program_start(&program, machine);
     for (turn = 0; turn < MOST_TURNS && !program_done(&program, machine); turn++) {
         if (restorations != NULL)
@@ -65,13 +65,14 @@ static const char *compared(const struct machine *machine, const struct machine 
 
 int main(void)
 {
-    struct machine plain, restored, hasty, old;
+    struct machine plain, restored, hasty, old, renewed;
     struct restorations restorations = {0, 0};
 
-    weigh(&plain, towanchor_pins, SCALE_STEADY, NULL);
-    weigh(&restored, towanchor_pins, SCALE_STEADY, &restorations);
-    weigh(&hasty, towanchor_pins, SCALE_HASTY, NULL);
-    weigh(&old, old_card_pins, SCALE_STEADY, NULL);
+    weigh(&plain, TOWANCHOR_8255A, towanchor_pins, SCALE_STEADY, NULL);
+    weigh(&restored, TOWANCHOR_8255A, towanchor_pins, SCALE_STEADY, &restorations);
+    weigh(&hasty, TOWANCHOR_8255A, towanchor_pins, SCALE_HASTY, NULL);
+    weigh(&old, TOWANCHOR_8255A, old_card_pins, SCALE_STEADY, NULL);
+    weigh(&renewed, TOWANCHOR_82C55A, towanchor_pins, SCALE_STEADY, NULL);
 
     printf("the scale sends: %s\n", WEIGHT);
     report("this card", &plain);
@@ -82,5 +83,9 @@ int main(void)
     printf("    its ticket and the first: %s\n", compared(&plain, &hasty));
     report("last season's card", &old);
     printf("    its ticket and the first: %s\n", compared(&plain, &old));
+    report("a new card, which carries an 82C55A", &renewed);
+    printf("    its ticket and the first: %s\n", compared(&plain, &renewed));
+    printf("    control is read back as %02X, and as %02X on the first card, which refuses that\n",
+           machine_read(&renewed, TOWANCHOR_CONTROL), machine_read(&plain, TOWANCHOR_CONTROL));
     return 0;
 }

@@ -1,13 +1,13 @@
 /*
- * Towanchor: a proved model of Intel's 8255A, as C functions over an image of 96 bytes.
+ * Towanchor: a proved model of Intel's 8255A and of its newer edition, the 82C55A, as C functions over an image of 96 bytes.
  *
  * An image is the whole state of one chip. The host owns it: it may lie at any address, be copied, saved, moved and restored
  * byte by byte, and there may be as many as the host likes, one for each chip. The host need not look inside. A new image is
- * made by towanchor_power_up or towanchor_power_up_with_levels; one that came from elsewhere, a file perhaps, is judged by every
- * function that is given it, and refused with TOWANCHOR_NO_STATE where it is the image of no state.
+ * made by towanchor_power_up, towanchor_power_up_with_levels or towanchor_power_up_as; one that came from elsewhere, a file perhaps, is
+ * judged by every function that is given it, and refused with TOWANCHOR_NO_STATE where it is the image of no state.
  *
  * A machine that was saved by an earlier version may have an older image, of 64 bytes. towanchor_convert makes an image of it; every
- * other function refuses it.
+ * other function refuses it. Whatever an earlier version saved is of the 8255A.
  *
  * Saved machines: the outside levels are part of an image, so that a restored machine goes on under the levels that it was saved
  * with; restoring is no power-up. A machine that was made for lines which idle high, as they did on the old backplane, names them
@@ -31,14 +31,19 @@ extern "C" {
 #define TOWANCHOR_IMAGE_SIZE 96
 #define TOWANCHOR_OLDER_IMAGE_SIZE 64
 
+/* Editions: which part the chip is. It is named at power-up and kept in the image, and no event changes it. The two differ in one thing: in
+ * an 82C55A control can be read, see towanchor_power_up_as. Its bus-hold circuits are not modelled. */
+#define TOWANCHOR_8255A 0          /* the older part; it is made where no edition is named */
+#define TOWANCHOR_82C55A 1         /* the newer part */
+
 /* The number of an answer. Where several would apply, TOWANCHOR_NO_STATE comes first, and then the lowest. */
 #define TOWANCHOR_ACCEPTED 0       /* nothing was refused */
 #define TOWANCHOR_NO_SUCH_KIND 1   /* the kind of an event is none of those below */
 #define TOWANCHOR_OUT_OF_RANGE 2   /* an address above 3, a port above 2, a channel above 3, a tally above 6 or a group above 1 */
-#define TOWANCHOR_NOT_READABLE 3   /* a read was begun at the control address */
+#define TOWANCHOR_NOT_READABLE 3   /* a read was begun at the control address of an 8255A; an 82C55A never gives this number */
 #define TOWANCHOR_CYCLE_RUNS 4     /* a read or a write was begun while one runs */
 #define TOWANCHOR_NO_CYCLE_RUNS 5  /* a cycle was ended while none runs */
-#define TOWANCHOR_NO_STATE 8       /* a length is not that of an image, or the image, or older image, is of no state */
+#define TOWANCHOR_NO_STATE 8       /* a length is not that of an image, the image, or older image, is of no state, or the edition is none */
 
 /* Kinds of events, with the operands that each takes; those that a kind lacks are ignored.
  *
@@ -54,7 +59,7 @@ extern "C" {
 #define TOWANCHOR_A 0              /* port A, of group A */
 #define TOWANCHOR_B 1              /* port B, of group B */
 #define TOWANCHOR_C 2              /* port C, whose pins serve the handshakes of the others */
-#define TOWANCHOR_CONTROL 3        /* for writes alone: mode words, and bit set/reset of one pin of port C, of one enable or of one flag */
+#define TOWANCHOR_CONTROL 3        /* mode words, and bit set/reset of one pin of port C, one enable or one flag; read in an 82C55A alone */
 
 /* The pins of port C that handshakes use, as numbers of pins; see TOWANCHOR_PIN. STB and ACK come from outside, and act when they
  * fall; the chip drives the others. While STB is low, levels put on its port go through to the port's input latch, and a byte that waits
@@ -133,7 +138,16 @@ unsigned int towanchor_power_up(unsigned char *image, size_t length);
 unsigned int towanchor_power_up_with_levels(unsigned char *image, size_t length, unsigned char levels_a, unsigned char levels_b,
                                             unsigned char levels_c);
 
-/* Makes an image of an older one: the image of the same state, in which nothing was planted or struck. 'older' points to
+/* The same of the edition that the host names, TOWANCHOR_8255A or TOWANCHOR_82C55A; the two functions above make an 8255A. Any other edition
+ * is refused with TOWANCHOR_NO_STATE, as a wrong length is.
+ *
+ * An 82C55A answers a read at TOWANCHOR_CONTROL by the last mode word, with bit 7 set; it is 0x9B where none came since power-up or the last
+ * reset. Bit set/reset does not change it. The read is a cycle, and none begins before it has ended, but it is no port's own: INTR does
+ * not fall, and its end changes nothing else. */
+unsigned int towanchor_power_up_as(unsigned char *image, size_t length, unsigned char edition, unsigned char levels_a,
+                                   unsigned char levels_b, unsigned char levels_c);
+
+/* Makes an image of an older one: the image of the same state, an 8255A's, in which nothing was planted or struck. 'older' points to
  * 'older_length' bytes, which must be TOWANCHOR_OLDER_IMAGE_SIZE and are not written to; it shares none with 'image', in which it does not
  * matter what stood. Refuses, with TOWANCHOR_NO_STATE, a wrong length of either, and bytes that are no older image. */
 unsigned int towanchor_convert(const unsigned char *older, size_t older_length, unsigned char *image, size_t length);

@@ -173,6 +173,7 @@ static void is_taken(const unsigned char *right)
 
     memcpy(image, right, SIZE);
     check(is_image(image), "a converted image is one, under mode word", image[MODE_WORD]);
+    check(image[EDITION] == TOWANCHOR_8255A, "a converted image is an 8255A's, under mode word", image[MODE_WORD]);
     for (channel = 0; channel < CHANNELS; channel++) {
         check(towanchor_tally(image, SIZE, channel, TOWANCHOR_PLANTED) == TOWANCHOR_ACCEPTED, "none planted, of channel", channel);
         check(towanchor_tally(image, SIZE, channel, TOWANCHOR_STRUCK) == TOWANCHOR_ACCEPTED, "none struck, of channel", channel);
@@ -220,6 +221,7 @@ static void by_others(const unsigned char *older)
 
     check(towanchor_power_up(image, OLDER_SIZE) == TOWANCHOR_NO_STATE, "power-up of an older image", 0);
     check(towanchor_power_up_with_levels(image, OLDER_SIZE, 1, 2, 3) == TOWANCHOR_NO_STATE, "power-up of an older image with levels", 0);
+    check(towanchor_power_up_as(image, OLDER_SIZE, TOWANCHOR_8255A, 1, 2, 3) == TOWANCHOR_NO_STATE, "power-up of an older one as 8255A", 0);
     check(towanchor_step(image, OLDER_SIZE, TOWANCHOR_RESET, 0, 0) == TOWANCHOR_NO_STATE, "the step of an older image", 0);
     check(towanchor_pins(image, OLDER_SIZE, TOWANCHOR_A) == TOWANCHOR_NO_STATE, "the pins of an older image", 0);
     check(towanchor_tally(image, OLDER_SIZE, 0, 0) == TOWANCHOR_NO_STATE, "a tally of an older image", 0);

@@ -12,19 +12,21 @@
 
 static void each_phase(void (*judge)(void))
 {
-    static const unsigned char phases[] = {IDLE,
-                                           READS + TOWANCHOR_A,
-                                           READS + TOWANCHOR_B,
-                                           READS + TOWANCHOR_C,
-                                           WRITES + TOWANCHOR_A,
-                                           WRITES + TOWANCHOR_B,
-                                           WRITES + TOWANCHOR_C,
-                                           WRITES + TOWANCHOR_CONTROL};
+    static const unsigned char phases[PHASES] = {IDLE,
+                                                 READS + TOWANCHOR_A,
+                                                 READS + TOWANCHOR_B,
+                                                 READS + TOWANCHOR_C,
+                                                 READS + TOWANCHOR_CONTROL,
+                                                 WRITES + TOWANCHOR_A,
+                                                 WRITES + TOWANCHOR_B,
+                                                 WRITES + TOWANCHOR_C,
+                                                 WRITES + TOWANCHOR_CONTROL};
     size_t each;
 
-    for (each = 0; each < sizeof phases; each++) {
+    for (each = 0; each < PHASES; each++) {
         image[BUS] = phases[each];
         image[BUS_BYTE] = image[BUS] >= WRITES && image[BUS] < IDLE ? image[0] : 0;
+        image[EDITION] = image[BUS] == READS + TOWANCHOR_CONTROL ? TOWANCHOR_82C55A : image[1] % 2;
         judge();
     }
 }

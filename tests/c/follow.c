@@ -18,11 +18,11 @@
 
 /* Of the 62 combinations of group A a strobed input has 54, six under each of eight words of mode 2 and three under each of two words of
  * mode 1; of the 14 of group B it has six. STB is low in half of all images, and two bytes of levels come. */
-#define FOLLOWED ((54ul * 14 + 62ul * 6) * 8 * 4 * 8 * 2)
+#define FOLLOWED ((54ul * 14 + 62ul * 6) * 8 * 4 * PHASES * 2)
 
 /* A strobed output has 52 combinations of group A, and four of group B. A line falls where it was high, in four of eight combinations of
  * levels, and is low after that, in four of the eight that come. */
-#define FALLEN ((54ul * 14 + 52ul * 14 + 62ul * 6 + 62ul * 4) * 8 * 4 * 8 * 4)
+#define FALLEN ((54ul * 14 + 52ul * 14 + 62ul * 6 + 62ul * 4) * 8 * 4 * PHASES * 4)
 
 static unsigned long judged, wrong;
 

@@ -8,6 +8,7 @@ int main()
 
     refused |= TOWANCHOR_NUMBER(towanchor_power_up(image, sizeof image));
     refused |= TOWANCHOR_NUMBER(towanchor_power_up_with_levels(image, sizeof image, 0xFF, 0xFF, 0xFF));
+    refused |= TOWANCHOR_NUMBER(towanchor_power_up_as(image, sizeof image, TOWANCHOR_82C55A, 0xFF, 0xFF, 0xFF));
     refused |= TOWANCHOR_NUMBER(towanchor_step(image, sizeof image, TOWANCHOR_RESET, 0, 0));
     refused |= TOWANCHOR_NUMBER(towanchor_pins(image, sizeof image, TOWANCHOR_A));
     refused |= TOWANCHOR_NUMBER(towanchor_tally(image, sizeof image, TOWANCHOR_A_IN, TOWANCHOR_OFFERED));

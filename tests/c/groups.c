@@ -16,13 +16,13 @@
 #define GROUPS 2
 #define CHANNELS_OF_A_GROUP 2
 
-/* In each image of the family with an idle bus group A is compared 25 times, and group B 30 times: after two bytes of levels on the other port;
+/* In each image of the family with an idle bus group A is compared 27 times, and group B 32 times: after two bytes of levels on the other port;
  * after levels on port C that differ at each pin on which the other group acts, at all of them and at none; and twice in each cycle, which are
- * a read and a write of the other port, bit reset and bit set of each of those pins, and a read of port C. */
-#define COMPARED (FAMILY / 8 * (25 + 30))
+ * a read and a write of the other port, bit reset and bit set of each of those pins, a read of port C, and one of control, in an 82C55A. */
+#define COMPARED (FAMILY / PHASES * (27 + 32))
 
-/* What is done: on a group, a read of port C, and what is no group's. */
-enum doing { PORT_LEVELS, LINE_LEVELS, READ, WRITE, BIT, STATUS_READ, MODE_WORD_WRITE, RESET, PORT_C_WRITE, BIT_3, LINE_3, DOINGS };
+/* What is done: on a group, a read of port C and one of control, and what is no group's. */
+enum doing { PORT_LEVELS, LINE_LEVELS, READ, WRITE, BIT, STATUS_READ, CONTROL_READ, MODE_WORD_WRITE, RESET, PORT_C_WRITE, BIT_3, LINE_3, DOINGS };
 
 /* Its name, and whether it must change group A and group B somewhere: pin 3 is a pin of group A. */
 static const struct {
@@ -34,6 +34,7 @@ static const struct {
                     {"a write", {1, 1}},
                     {"bit set/reset", {1, 1}},
                     {"a read of port C", {0, 0}},
+                    {"a read of control", {0, 0}},
                     {"a mode word", {1, 1}},
                     {"a reset", {1, 1}},
                     {"a write to port C", {1, 1}},
@@ -153,6 +154,16 @@ static unsigned int bit_word(int pin, int set)
     return (image[4] & 0x70u) | (unsigned int)(2 * pin + set);
 }
 
+/* A read of control, of the same chip as an 82C55A, which alone gives one. */
+static void control_is_read(int group)
+{
+    unsigned char edition = image[EDITION];
+
+    image[EDITION] = TOWANCHOR_82C55A;
+    cycle_goes(CONTROL_READ, group, TOWANCHOR_BEGIN_READ, TOWANCHOR_CONTROL, 0);
+    image[EDITION] = edition;
+}
+
 /* All that is done on a group. */
 static void do_on(int group)
 {
@@ -166,6 +177,7 @@ static void do_on(int group)
     cycle_goes(READ, group, TOWANCHOR_BEGIN_READ, port, 0);
     cycle_goes(WRITE, group, TOWANCHOR_BEGIN_WRITE, port, image[1]);
     cycle_goes(STATUS_READ, group, TOWANCHOR_BEGIN_READ, TOWANCHOR_C, 0);
+    control_is_read(group);
     for (pin = 0; pin < 8; pin++)
         if (acts_on[group] & TOWANCHOR_PIN(pin)) {
             levels_come(LINE_LEVELS, group, TOWANCHOR_C, lines ^ TOWANCHOR_PIN(pin));

@@ -1,5 +1,5 @@
 /* The machine of host/: what the outside puts on the lines of port C stays while the card drives the pins, and a guest may do what the card
- * refuses, and goes on. */
+ * refuses, and goes on; with an 82C55A it reads control. */
 #include "../../host/machine.h"
 #include "checks.h"
 
@@ -23,7 +23,7 @@ static void put_while_driven(unsigned char idle, unsigned char pin, int high)
 {
     unsigned int due = high ? idle | TOWANCHOR_PIN(pin) : idle & ~TOWANCHOR_PIN(pin);
 
-    bus_power_up(&machine.bus, towanchor_pins);
+    bus_power_up(&machine.bus, TOWANCHOR_8255A, towanchor_pins);
     bus_put_levels(&machine.bus, TOWANCHOR_C, idle);
     bus_put_levels(&machine.bus, TOWANCHOR_A, (unsigned char)~idle);
     bus_put_levels(&machine.bus, TOWANCHOR_B, (unsigned char)~idle);
@@ -37,7 +37,7 @@ static void put_while_driven(unsigned char idle, unsigned char pin, int high)
 /* From power-up, whose levels the bus names itself. */
 static void put_after_power_up(unsigned char pin)
 {
-    bus_power_up(&machine.bus, towanchor_pins);
+    bus_power_up(&machine.bus, TOWANCHOR_8255A, towanchor_pins);
     bus_put_pin(&machine.bus, pin, 0);
     check(bus_levels(&machine.bus, TOWANCHOR_C) == (0xFF & ~TOWANCHOR_PIN(pin)), "one pin put low after power-up", pin);
 }
@@ -64,6 +64,25 @@ static void goes_on(unsigned char address)
     check(machine_read(&machine, TOWANCHOR_A) == address, "the machine reads port A after it read", address);
 }
 
+/* The guest of a card that carries the edition, at every address from the first that it cannot read on. */
+static void guest(unsigned char edition, unsigned char first_refused)
+{
+    unsigned int address;
+
+    machine_start(&machine, edition, towanchor_pins, SCALE_STEADY, "");
+    for (address = first_refused; address < 256; address++) {
+        refused((unsigned char)address);
+        goes_on((unsigned char)address);
+    }
+}
+
+/* The control word, read back by the processor. */
+static void read_back(unsigned char word)
+{
+    write_byte(TOWANCHOR_CONTROL, word);
+    check(machine_read(&machine, TOWANCHOR_CONTROL) == word, "the machine reads control after mode word", word);
+}
+
 int main(void)
 {
     unsigned int value;
@@ -77,10 +96,9 @@ int main(void)
         }
     }
 
-    machine_start(&machine, towanchor_pins, SCALE_STEADY, "");
-    for (value = TOWANCHOR_CONTROL; value < 256; value++) {
-        refused((unsigned char)value);
-        goes_on((unsigned char)value);
-    }
+    guest(TOWANCHOR_8255A, TOWANCHOR_CONTROL);
+    guest(TOWANCHOR_82C55A, TOWANCHOR_CONTROL + 1);
+    for (value = 0x80; value < 256; value++)
+        read_back((unsigned char)value);
     return checked();
 }

@@ -28,6 +28,8 @@ static int good_bus(const unsigned char *image)
     case READS + TOWANCHOR_C:
     case IDLE:
         return image[BUS_BYTE] == 0;
+    case READS + TOWANCHOR_CONTROL:
+        return image[BUS_BYTE] == 0 && image[EDITION] == TOWANCHOR_82C55A;
     case WRITES + TOWANCHOR_A:
     case WRITES + TOWANCHOR_B:
     case WRITES + TOWANCHOR_C:
@@ -36,6 +38,11 @@ static int good_bus(const unsigned char *image)
     default:
         return 0;
     }
+}
+
+static int good_edition(const unsigned char *image)
+{
+    return image[EDITION] == TOWANCHOR_8255A || image[EDITION] == TOWANCHOR_82C55A;
 }
 
 static int good_rest(const unsigned char *image)
@@ -50,7 +57,7 @@ static int good_rest(const unsigned char *image)
 
 int is_image(const unsigned char *image)
 {
-    return good_channels(image) && good_settings(image) && good_bus(image) && good_rest(image);
+    return good_channels(image) && good_settings(image) && good_bus(image) && good_edition(image) && good_rest(image);
 }
 
 int cycle_runs(const unsigned char *image)

@@ -16,7 +16,8 @@
 #define ENABLES 69
 #define BUS 70
 #define BUS_BYTE 71
-#define UNUSED 72 /* the first of those that are 0 */
+#define EDITION 72 /* as the header numbers the editions */
+#define UNUSED 73  /* the first of those that are 0 */
 #define END 96
 
 /* The conditions of a channel. */
@@ -29,7 +30,7 @@
 #define INTE_OUT_A 0x40
 #define INTE_B 0x04
 
-/* What the bus does: a read at READS and its port, a write at WRITES and its address, nothing. A read of control is no image's. */
+/* What the bus does: a read at READS and its address, a write at WRITES and its address, nothing. A read of control is an 82C55A's alone. */
 #define READS 0
 #define WRITES 4
 #define IDLE 8

@@ -1,4 +1,4 @@
-/* Every number that a call can be refused with, and which comes first where two would apply; a refusal writes nothing. */
+/* Every number that a call can be refused with, in either edition, and which comes first where two would apply; a refusal writes nothing. */
 #include "checks.h"
 #include "towanchor.h"
 
@@ -24,7 +24,7 @@ static void event(unsigned char kind, unsigned char first, unsigned char second,
 }
 
 /* The refusals that hold whether or not a cycle runs. */
-static void always(void)
+static void always(unsigned char edition)
 {
     unsigned int value;
 
@@ -38,16 +38,17 @@ static void always(void)
     }
     for (value = 3; value < 256; value++)
         event(TOWANCHOR_OUTSIDE_LEVELS, (unsigned char)value, 0, TOWANCHOR_OUT_OF_RANGE, "levels on a port above 2");
-    event(TOWANCHOR_BEGIN_READ, TOWANCHOR_CONTROL, 0, TOWANCHOR_NOT_READABLE, "a read of control");
+    if (edition == TOWANCHOR_8255A)
+        event(TOWANCHOR_BEGIN_READ, TOWANCHOR_CONTROL, 0, TOWANCHOR_NOT_READABLE, "a read of control");
 }
 
 /* The refusals while a cycle runs. */
-static void meanwhile(void)
+static void meanwhile(unsigned char edition)
 {
-    unsigned char address;
+    unsigned char address, last_read = edition == TOWANCHOR_82C55A ? TOWANCHOR_CONTROL : TOWANCHOR_C;
 
-    always();
-    for (address = TOWANCHOR_A; address <= TOWANCHOR_C; address++)
+    always(edition);
+    for (address = TOWANCHOR_A; address <= last_read; address++)
         event(TOWANCHOR_BEGIN_READ, address, 0, TOWANCHOR_CYCLE_RUNS, "a read while a cycle runs");
     for (address = TOWANCHOR_A; address <= TOWANCHOR_CONTROL; address++)
         event(TOWANCHOR_BEGIN_WRITE, address, 0, TOWANCHOR_CYCLE_RUNS, "a write while a cycle runs");
@@ -79,27 +80,37 @@ static void views(void)
     check(memcmp(before, image, SIZE) == 0, "what is shown or refused wrote", 0);
 }
 
-int main(void)
+/* The refusals in a cycle, and after its end. */
+static void cycle(unsigned char edition, unsigned char kind, unsigned char address, unsigned char byte)
 {
-    check(towanchor_power_up(image, SIZE) == TOWANCHOR_ACCEPTED, "power-up", 0);
-    always();
+    event(kind, address, byte, TOWANCHOR_ACCEPTED, "the beginning of a cycle");
+    meanwhile(edition);
+    event(TOWANCHOR_END_CYCLE, 9, 9, TOWANCHOR_ACCEPTED, "the end of the cycle, operands ignored");
+    event(TOWANCHOR_END_CYCLE, 9, 9, TOWANCHOR_NO_CYCLE_RUNS, "a second end of the cycle");
+}
+
+static void refused_by(unsigned char edition)
+{
+    check(towanchor_power_up_as(image, SIZE, edition, 0, 0, 0) == TOWANCHOR_ACCEPTED, "power-up as an edition", edition);
+    always(edition);
     event(TOWANCHOR_END_CYCLE, 0, 0, TOWANCHOR_NO_CYCLE_RUNS, "an end before any beginning");
     views();
 
-    event(TOWANCHOR_BEGIN_READ, TOWANCHOR_A, 0, TOWANCHOR_ACCEPTED, "a read");
-    meanwhile();
-    event(TOWANCHOR_END_CYCLE, 9, 9, TOWANCHOR_ACCEPTED, "the end of the read, operands ignored");
-    event(TOWANCHOR_END_CYCLE, 9, 9, TOWANCHOR_NO_CYCLE_RUNS, "a second end of the read");
-
-    event(TOWANCHOR_BEGIN_WRITE, TOWANCHOR_CONTROL, 0x80, TOWANCHOR_ACCEPTED, "a write");
-    meanwhile();
-    event(TOWANCHOR_END_CYCLE, 9, 9, TOWANCHOR_ACCEPTED, "the end of the write, operands ignored");
-    event(TOWANCHOR_END_CYCLE, 9, 9, TOWANCHOR_NO_CYCLE_RUNS, "a second end of the write");
+    cycle(edition, TOWANCHOR_BEGIN_READ, TOWANCHOR_A, 0);
+    cycle(edition, TOWANCHOR_BEGIN_WRITE, TOWANCHOR_CONTROL, 0x80);
+    if (edition == TOWANCHOR_82C55A)
+        cycle(edition, TOWANCHOR_BEGIN_READ, TOWANCHOR_CONTROL, 0);
 
     image[SIZE - 1] = 1;
     event(TOWANCHOR_RESET, 0, 0, TOWANCHOR_NO_STATE, "the image of no state");
     event(9, 9, 9, TOWANCHOR_NO_STATE, "the image of no state comes first");
     image[SIZE - 1] = 0;
     event(TOWANCHOR_RESET, 9, 9, TOWANCHOR_ACCEPTED, "a reset, operands ignored");
+}
+
+int main(void)
+{
+    refused_by(TOWANCHOR_8255A);
+    refused_by(TOWANCHOR_82C55A);
     return checked();
 }

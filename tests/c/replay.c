@@ -1,7 +1,8 @@
-/* replay stay|move ANSWERS TALLIES SCRIPT..: answers scripts by the C functions, each from a power-up with every line high, as the
- * program does. The answers go to one file, a line for each line as the program writes it, and the tallies at the end of each script
- * to another, a line for each channel. With 'move' the image is saved after every line, its place scribbled over, and the image
- * restored at another address; and another chip takes events between, so that nothing may be kept from one call to the next. */
+/* replay 8255a|82c55a stay|move ANSWERS TALLIES SCRIPT..: answers scripts by the C functions, as one edition or the other, each from a
+ * power-up with every line high, as the program does. The answers go to one file, a line for each line as the program writes it, and the
+ * tallies at the end of each script to another, a line for each channel. With 'move' the image is saved after every line, its place scribbled
+ * over, and the image restored at another address; and a chip of the other edition takes events between, so that nothing may be kept from
+ * one call to the next. */
 #include "script.h"
 #include "towanchor.h"
 
@@ -66,7 +67,7 @@ static void write_tallies(struct place *place, FILE *tallies)
     }
 }
 
-static void replay(const char *file, int moves, FILE *answers, FILE *tallies)
+static void replay(const char *file, unsigned char edition, int moves, FILE *answers, FILE *tallies)
 {
     static struct script script;
     struct place place;
@@ -75,8 +76,8 @@ static void replay(const char *file, int moves, FILE *answers, FILE *tallies)
 
     script_load(&script, file);
     place.offset = 0;
-    towanchor_power_up_with_levels(image(&place), TOWANCHOR_IMAGE_SIZE, 0xFF, 0xFF, 0xFF);
-    towanchor_power_up(other, sizeof other);
+    towanchor_power_up_as(image(&place), TOWANCHOR_IMAGE_SIZE, edition, 0xFF, 0xFF, 0xFF);
+    towanchor_power_up_as(other, sizeof other, edition == TOWANCHOR_8255A ? TOWANCHOR_82C55A : TOWANCHOR_8255A, 0, 0, 0);
     while (script_take(&script, &line)) {
         answer(&place, &line, answers);
         if (moves) {
@@ -90,15 +91,17 @@ static void replay(const char *file, int moves, FILE *answers, FILE *tallies)
 int main(int count, char **words)
 {
     FILE *answers, *tallies;
+    unsigned char edition;
     int each;
 
-    if (count < 5)
+    if (count < 6)
         return EXIT_FAILURE;
-    answers = fopen(words[2], "wb");
-    tallies = fopen(words[3], "wb");
+    edition = strcmp(words[1], "82c55a") == 0 ? TOWANCHOR_82C55A : TOWANCHOR_8255A;
+    answers = fopen(words[3], "wb");
+    tallies = fopen(words[4], "wb");
     if (answers == NULL || tallies == NULL)
         return EXIT_FAILURE;
-    for (each = 4; each < count; each++)
-        replay(words[each], strcmp(words[1], "move") == 0, answers, tallies);
+    for (each = 5; each < count; each++)
+        replay(words[each], edition, strcmp(words[2], "move") == 0, answers, tallies);
     return fclose(answers) == 0 && fclose(tallies) == 0 ? EXIT_SUCCESS : EXIT_FAILURE;
 }

@@ -39,7 +39,7 @@ static void write_out(char *text)
 
     for (each = 0; each < 4 * TALLY_BYTES / 2; each++)
         text += sprintf(text, each > 0 && each % (TALLY_BYTES / 2) == 0 ? " %u" : "%u", image[2 * each] + 256u * image[2 * each + 1]);
-    for (each = LEVELS_A; each < UNUSED; each++)
+    for (each = LEVELS_A; each < EDITION; each++)
         text += sprintf(text, begins(each) ? " %02X" : "%02X", image[each]);
 }
 
@@ -50,7 +50,7 @@ static void stands(unsigned int answer, unsigned int right_answer, const char *r
 
     write_out(text);
     judged++;
-    if (answer == right_answer && is_image(image) && strcmp(text, right_text) == 0)
+    if (answer == right_answer && is_image(image) && image[EDITION] == TOWANCHOR_8255A && strcmp(text, right_text) == 0)
         return;
     if (wrong++ < MOST_PRINTED)
         printf("wrong: answer %X and image %s\nfor    answer %X and image %s\n", answer, text, right_answer, right_text);

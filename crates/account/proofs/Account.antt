@@ -7,9 +7,10 @@ use Prim.Native.Nat.{ℕ}
 use Rattle.events.proofs.ByKind.{by-kind}
 use Rattle.events.specs.Event.{Event, event}
 use Rattle.bus.specs.Device.{byteIn}
+use Rattle.chip.specs.declared.Edition.{Edition}
 use Rattle.chip.specs.declared.Chip.{Chip}
 use Rattle.chip.specs.declared.Levels.{Levels}
-use Rattle.chip.specs.State.{powerUpWith}
+use Rattle.chip.specs.State.{powerUpAs}
 use Rattle.step.specs.Step.{device, stepped}
 use Rattle.step.proofs.Outcome.{step-number}
 use Rattle.fates.specs.Kinds.{kindOf, accepts}
@@ -26,14 +27,14 @@ use Rattle.account.proofs.Views.{levels-shown, mask-shown, read-answere
 use Rattle.account.proofs.Numbers.{number-same}
 
 module _ (c : Chip) (a : Account) (k : Agrees c a) where
-  pub number-told : (e : Event) → stepped c e .number ≡ numberBy (a .surroundings .phase) (kindOf e)
+  pub number-told : (e : Event) → stepped c e .number ≡ numberBy (a .surroundings .edition) (a .surroundings .phase) (kindOf e)
   number-told e =
-      step-number c (e .kind) (e .first) (e .second) ∙ number-same (c .phase) (e .kind) (e .first) (e .second)
-      ∙ sym (ap (λ r. numberBy (r .phase) (kindOf e)) (k .surroundings))
+      step-number c (e .kind) (e .first) (e .second) ∙ number-same (c .edition) (c .phase) (e .kind) (e .first) (e .second)
+      ∙ sym (ap (λ r. numberBy (r .edition) (r .phase) (kindOf e)) (k .surroundings))
 
   -- The byte of an accepted event.
   abbrev Answers : Event → Type 0
-  Answers e = accepts (c .phase) (kindOf e) ≡ true → byteIn device c (e .kind) (e .first) ≡ byteFor a (kindOf e)
+  Answers e = accepts (c .edition) (c .phase) (kindOf e) ≡ true → byteIn device c (e .kind) (e .first) ≡ byteFor a (kindOf e)
 
   answers : (n x d : ℕ) → Answers (event n x d)
   answers n x d =
@@ -43,13 +44,13 @@ module _ (c : Chip) (a : Account) (k : Agrees c a) where
       (λ ok. refl)
       (λ ok. refl)
       (λ ok. refl)
-      (λ n none ok. absurd (no-kind-accepted (c .phase) n x d none ok))
+      (λ n none ok. absurd (no-kind-accepted (c .edition) (c .phase) n x d none ok))
       n
 
   pub byte-told : (e : Event) → stepped c e .byte ≡ byteAnswered a e
   byte-told e =
       by-result (λ r ok. r .byte ≡ cond ok (byteFor a (kindOf e)) 0) c e (answers (e .kind) (e .first) (e .second)) (λ n. refl)
-      ∙ sym (ap (λ r. cond (accepts (r .phase) (kindOf e)) (byteFor a (kindOf e)) 0) (k .surroundings))
+      ∙ sym (ap (λ r. cond (accepts (r .edition) (r .phase) (kindOf e)) (byteFor a (kindOf e)) 0) (k .surroundings))
 
 -- Over a history.
 agrees-over : (es : List Event) (c : Chip) (a : Account) → Agrees c a → Agrees (run c es) (over a es)
@@ -73,6 +74,6 @@ accounted c a es start =
 pub account-from : (c : Chip) (es : List Event) → Accounted c (accountOf c) es
 account-from c es = accounted c (accountOf c) es (agrees-of c)
 
--- From power-up, under any levels.
-pub account : (l : Levels) (es : List Event) → Accounted (powerUpWith l) (opened l) es
-account l es = accounted (powerUpWith l) (opened l) es (agrees-opened l)
+-- From power-up, of either edition and under any levels.
+pub account : (ed : Edition) (l : Levels) (es : List Event) → Accounted (powerUpAs ed l) (opened ed l) es
+account ed l es = accounted (powerUpAs ed l) (opened ed l) es (agrees-opened ed l)

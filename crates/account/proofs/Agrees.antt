@@ -10,10 +10,11 @@ use Rattle.control.specs.declared.Group.{Group}
 use Rattle.control.specs.declared.Group.the-variants.{A, B}
 use Rattle.channel.specs.declared.Side.{Side}
 use Rattle.channel.specs.declared.Side.the-variants.{Input, Output}
+use Rattle.chip.specs.declared.Edition.{Edition}
 use Rattle.chip.specs.declared.Core.{Core}
 use Rattle.chip.specs.declared.Chip.{Chip}
 use Rattle.chip.specs.declared.Levels.{Levels}
-use Rattle.chip.specs.State.{powerUpWith, channelOf}
+use Rattle.chip.specs.State.{powerUpAs, channelOf}
 use Rattle.chip.specs.Handshakes.{strobed, enableOf}
 use Rattle.step.specs.Step.{stepped}
 use Rattle.fates.specs.Surroundings.{atPowerUp, surroundingsNext}
@@ -105,11 +106,11 @@ module _ (c : Chip) where
   }
 
 -- So does the account that is opened at power-up.
-pub agrees-opened : (l : Levels) → Agrees (powerUpWith l) (opened l)
+pub agrees-opened : (ed : Edition) (l : Levels) → Agrees (powerUpAs ed l) (opened ed l)
 unfolding bitOf
-agrees-opened l = record {
+agrees-opened ed l = record {
   surroundings = refl;
-  bit = bits 8 (λ n. false) (λ n. bitHere (powerUpWith l .core) n (signalAt 0x9b n)) tt;
+  bit = bits 8 (λ n. false) (λ n. bitHere (powerUpAs ed l .core) n (signalAt 0x9b n)) tt;
   output = zeros Output;
   input = zeros Input;
   ibf = empty;
@@ -118,24 +119,24 @@ agrees-opened l = record {
   even = low;
 }
   where
-    zeros : (s : Side) (g : Group) → 0 ≡ channelOf (powerUpWith l .core) g s .latch
+    zeros : (s : Side) (g : Group) → 0 ≡ channelOf (powerUpAs ed l .core) g s .latch
     zeros Input A = refl
     zeros Input B = refl
     zeros Output A = refl
     zeros Output B = refl
 
-    empty : (g : Group) → false ≡ full (channelOf (powerUpWith l .core) g Input)
+    empty : (g : Group) → false ≡ full (channelOf (powerUpAs ed l .core) g Input)
     empty A = refl
     empty B = refl
 
-    room : (g : Group) → true ≡ vacant (channelOf (powerUpWith l .core) g Output)
+    room : (g : Group) → true ≡ vacant (channelOf (powerUpAs ed l .core) g Output)
     room A = refl
     room B = refl
 
-    none : (g : Group) → false ≡ given (channelOf (powerUpWith l .core) g Input)
+    none : (g : Group) → false ≡ given (channelOf (powerUpAs ed l .core) g Input)
     none A = refl
     none B = refl
 
-    low : Even (opened l)
-    low g Input = sym (and-false (Account·strobed (atPowerUp l) g Input))
-    low g Output = sym (and-false (Account·strobed (atPowerUp l) g Output))
+    low : Even (opened ed l)
+    low g Input = sym (and-false (Account·strobed (atPowerUp ed l) g Input))
+    low g Output = sym (and-false (Account·strobed (atPowerUp ed l) g Output))

@@ -25,6 +25,7 @@ use Rattle.events.proofs.ByKind.{by-kind}
 use Rattle.events.specs.Event.{Event, event}
 use Rattle.step.specs.Step.{device, afterEnd}
 use Rattle.fates.specs.Kinds.{kindOf, accepts}
+use Rattle.fates.specs.Promise.{surroundingsOf}
 use Rattle.fates.proofs.Accepted.{no-kind-accepted, by-outcome}
 use Rattle.account.specs.Acts.{Act, nothing, anew, readBegins, readEnds, writeBegins, written, levels, ending, actOf, act}
 
@@ -63,7 +64,7 @@ module _ (P : Core → Act → Type 0) (c : Chip)
   cycle-ended (Writing x d) = by-address x d (eqb x 2) (eqb x 3) refl refl
 
   abbrev Acts : Event → Type 0
-  Acts e = accepts (c .phase) (kindOf e) ≡ true → P (afterIn device c (e .kind) (e .first) (e .second) .core) (actOf (c .phase) (kindOf e))
+  Acts e = accepts (c .edition) (c .phase) (kindOf e) ≡ true → P (afterIn device c (e .kind) (e .first) (e .second) .core) (actOf (c .phase) (kindOf e))
 
   accepted-act : (k x d : ℕ) → Acts (event k x d)
   accepted-act k x d =
@@ -73,10 +74,10 @@ module _ (P : Core → Act → Type 0) (c : Chip)
       (λ ok. cycle-ended (c .phase))
       (λ ok. write-begins x)
       (λ ok. levels-come x d)
-      (λ k none ok. absurd (no-kind-accepted (c .phase) k x d none ok))
+      (λ k none ok. absurd (no-kind-accepted (c .edition) (c .phase) k x d none ok))
       k
 
-  pub by-act : (e : Event) → P (stepped c e .chip .core) (act (c .phase) e)
+  pub by-act : (e : Event) → P (stepped c e .chip .core) (act (surroundingsOf c) e)
   by-act e =
       by-outcome (λ c′ ok. P (c′ .core) (cond ok (actOf (c .phase) (kindOf e)) nothing)) c e
       (accepted-act (e .kind) (e .first) (e .second)) still

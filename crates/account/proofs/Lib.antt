@@ -22,3 +22,4 @@ pub mod Unreached
 pub mod Script
 pub mod Texts
 pub mod RunNumbers
+pub mod ReadBack

@@ -139,7 +139,7 @@ module _ (c : Chip) (n : ℕ) (hn : n < 8) where
       (λ e. refl) (λ e. refl) (λ e. refl) (λ g at e. refl) (λ g at e. refl)
       w hn refl)
 
-  pub bit-next : (e : Event) → Goes (stepped c e .chip .core) (bitAfter (surroundingsHere c) n now (act (c .phase) e))
+  pub bit-next : (e : Event) → Goes (stepped c e .chip .core) (bitAfter (surroundingsHere c) n now (act (surroundingsHere c) e))
   bit-next =
       by-act (λ c′ t. Goes c′ (bitAfter (surroundingsHere c) n now t)) c
       refl

@@ -81,7 +81,7 @@ module _ (c : Chip) (g : Group) where
   storing d g p = storedBy p w g d
 
   pub output-next : (e : Event)
-      → channelOf (stepped c e .chip .core) g Output .latch ≡ outputAfter (surroundingsHere c) g (channelOf core g Output .latch) (act (c .phase) e)
+      → channelOf (stepped c e .chip .core) g Output .latch ≡ outputAfter (surroundingsHere c) g (channelOf core g Output .latch) (act (surroundingsHere c) e)
   unfolding storedBy
   output-next =
       by-act (λ c′ t. channelOf c′ g Output .latch ≡ outputAfter (surroundingsHere c) g (channelOf core g Output .latch) t) c
@@ -97,7 +97,7 @@ module _ (c : Chip) (g : Group) where
       (λ x d. rw (levels-output core x d g) (handed-latch (channelOf core g Output) Empty (eqb x 2 && lineFalls core d g Output)))
 
   pub obf-next : (e : Event)
-      → vacant (channelOf (stepped c e .chip .core) g Output) ≡ obfAfter (surroundingsHere c) g (vacant (channelOf core g Output)) (act (c .phase) e)
+      → vacant (channelOf (stepped c e .chip .core) g Output) ≡ obfAfter (surroundingsHere c) g (vacant (channelOf core g Output)) (act (surroundingsHere c) e)
   unfolding storedBy fallen
   obf-next =
       by-act (λ c′ t. vacant (channelOf c′ g Output) ≡ obfAfter (surroundingsHere c) g (vacant (channelOf core g Output)) t) c
@@ -115,7 +115,7 @@ module _ (c : Chip) (g : Group) where
       (taken-vacant (channelOf core g Output) (eqb x 2) (strobedOutput w g) (fallen (core .c .outside) d (linePin g Output))))
 
   pub input-next : (e : Event)
-      → channelOf (stepped c e .chip .core) g Input .latch ≡ inputAfter (surroundingsHere c) g (channelOf core g Input .latch) (act (c .phase) e)
+      → channelOf (stepped c e .chip .core) g Input .latch ≡ inputAfter (surroundingsHere c) g (channelOf core g Input .latch) (act (surroundingsHere c) e)
   unfolding storedBy fallen
   input-next =
       by-act (λ c′ t. channelOf c′ g Input .latch ≡ inputAfter (surroundingsHere c) g (channelOf core g Input .latch) t) c
@@ -134,7 +134,7 @@ module _ (c : Chip) (g : Group) where
 
   pub ibf-next : (e : Event)
       → full (channelOf (stepped c e .chip .core) g Input)
-      ≡ ibfAfter (surroundingsHere c) g (full (channelOf core g Input)) (given (channelOf core g Input)) (act (c .phase) e)
+      ≡ ibfAfter (surroundingsHere c) g (full (channelOf core g Input)) (given (channelOf core g Input)) (act (surroundingsHere c) e)
   unfolding storedBy fallen
   ibf-next =
       by-act (λ c′ t. full (channelOf c′ g Input) ≡ ibfAfter (surroundingsHere c) g (full (channelOf core g Input)) (given (channelOf core g Input)) t) c
@@ -153,7 +153,7 @@ module _ (c : Chip) (g : Group) where
 
   pub given-next : (e : Event)
       → given (channelOf (stepped c e .chip .core) g Input)
-      ≡ givenAfter (surroundingsHere c) g (full (channelOf core g Input)) (given (channelOf core g Input)) (act (c .phase) e)
+      ≡ givenAfter (surroundingsHere c) g (full (channelOf core g Input)) (given (channelOf core g Input)) (act (surroundingsHere c) e)
   unfolding storedBy fallen
   given-next =
       by-act (λ c′ t. given (channelOf c′ g Input) ≡ givenAfter (surroundingsHere c) g (full (channelOf core g Input)) (given (channelOf core g Input)) t) c

@@ -4,8 +4,9 @@ use mathlib.Core.Path.{_≡_, _∙_, refl}
 use mathlib.Core.List.{List, [], _∷_}
 use Prim.Native.Nat.{ℕ}
 use Rattle.events.specs.Event.{Event}
+use Rattle.chip.specs.declared.Edition.{Edition}
 use Rattle.chip.specs.declared.Chip.{Chip}
-use Rattle.chip.specs.State.{allHigh, powerUpWith}
+use Rattle.chip.specs.State.{allHigh, powerUpAs}
 use Rattle.step.specs.Step.{stepped}
 use Rattle.text.specs.History.{historyOf}
 use Rattle.script.specs.Answers.{as8255A, by8255A, lineText, shownAfter}
@@ -26,5 +27,5 @@ lines-are : (es : List Event) (c : Chip) (a : Account) → Agrees c a → answer
 lines-are [] c a k = refl
 lines-are (e ∷ es) c a k = cc (line-is c a e k, lines-are es (stepped c e .chip) (accountNext a e) (agrees-next c a e k))
 
-pub answered-by : (text : List ℕ) → AnsweredBy text
-answered-by text = run-kept text .answers ∙ lines-are (historyOf text) (powerUpWith allHigh) (opened allHigh) (agrees-opened allHigh)
+pub answered-by : (ed : Edition) (text : List ℕ) → AnsweredBy ed text
+answered-by ed text = run-kept ed text .answers ∙ lines-are (historyOf text) (powerUpAs ed allHigh) (opened ed allHigh) (agrees-opened ed allHigh)

@@ -1,12 +1,13 @@
 -- What is seen of a chip is what an account that agrees with it shows.
--- Rests on Agrees, Here, Interrupts, Columns and Signals, and on bits' Sum.
+-- Rests on Agrees, Here, Interrupts, Words, Columns and Signals, and on bits' Sum.
 use mathlib.Core.Path.{_≡_, _∙_, refl, ap, ap₂, sym}
 use mathlib.Core.Bool.{Bool, true, false, cond, not}
 use Prim.Native.Nat.{ℕ, zero, suc, _<_}
 use native.Mathlib.Omega.{arith}
 use lib.Dec.{eqb, lit<}
 use borrow.Author.Tests.{ne-eqb}
-use Rattle.bits.specs.Bit.{bitOf}
+use Rattle.bits.specs.Bit.{bitOf, withBit}
+use Rattle.bits.specs.Sum.{byteBy}
 use Rattle.bits.proofs.Sum.{byte-same}
 use Rattle.control.specs.declared.Group.{Group}
 use Rattle.control.specs.declared.Group.the-variants.{A, B}
@@ -18,22 +19,26 @@ use Rattle.channel.specs.Channel.{flagOf}
 use Rattle.chip.specs.declared.Chip.{Chip}
 use Rattle.chip.specs.State.{portOf}
 use Rattle.chip.specs.Handshakes.{groupAt, enableOf}
-use Rattle.ports.specs.Reads.{readPort, readAs, readLines, readOf}
+use Rattle.ports.specs.Reads.{readPort, readAs, readLines, readControl, readOf}
 use Rattle.ports.specs.Pins.{drivesPort, pinsOfPort, isDriven, levelAs, pinsOfLines, pinsOf}
 use Rattle.fates.specs.Effects.{strobePin}
 use Rattle.account.specs.Summary.{Column, plainIn, plainOut, strobedIn, strobedOut, bothWays, columnOf, takes, keeps, Signal, io, INTR, IBF, OBF, STB, ACK, signalAt, isIn, driven}
 use Rattle.account.specs.Account.{Account}
-use Rattle.account.specs.Views.{portRead, drives, driving, portLevels, toldOf, told, pinDriven, pinLevel, levelsShown, maskShown, readAnswer}
+use Rattle.account.specs.Views.{portRead, drives, driving, portLevels, toldOf, told, pinDriven, pinLevel, levelsShown, maskShown, portAnswer, readAnswer}
 use Rattle.account.specs.Promise.{bitHere}
+use Rattle.account.proofs.Words.{with-bit-7-bits}
 use Rattle.account.proofs.Columns.{takes-same, keeps-same, isTwo, two-same, columnB}
 use Rattle.account.proofs.Signals.{roleBy, role-same, by-signal}
 use Rattle.account.proofs.Agrees.{Agrees}
 use Rattle.account.proofs.Here.{column-here, signal-here, in-here, lines-here, levels-here}
 use Rattle.account.proofs.Interrupts.{intr-same}
 
--- Above 2 there is no port.
+-- Above 2 there is no port, and above 3 no address.
 no-port : (p k : ℕ) → k < 3 → eqb (suc (suc (suc p))) k ≡ false
 no-port p k h = ne-eqb (suc (suc (suc p))) k (λ e. omega (arith, e, h))
+
+no-address : (p : ℕ) → eqb (suc (suc (suc (suc p)))) 3 ≡ false
+no-address p = ne-eqb (suc (suc (suc (suc p)))) 3 (λ e. omega (arith, e))
 
 group-at : (g : Group) (s : Side) → groupAt (strobePin g s) ≡ g
 group-at A Input = refl
@@ -46,7 +51,7 @@ module _ (c : Chip) (a : Account) (k : Agrees c a) where
   w = c .core .word
 
   -- Ports A and B, column by column.
-  read-same : (g : Group) → readPort w g (portOf (c .core) g) ≡ portRead a g (columnOf (a .surroundings .word) g)
+  read-same : (g : Group) → readPort w g (portOf (c .core) g) ≡ portAnswer a g
   unfolding readPort
   read-same g = rw (column-here c a k g, ← takes-same w g, ← keeps-same w g) (go (columnOf w g))
     where
@@ -142,9 +147,18 @@ module _ (c : Chip) (a : Account) (k : Agrees c a) where
   mask-shown (suc (suc zero)) = byte-same (λ n. isDriven (roleOf w n)) (pinDriven a) driven-same
   mask-shown (suc (suc (suc p))) = rw (no-port p 0 (lit< tt), no-port p 1 (lit< tt), no-port p 2 (lit< tt))
 
+  -- Control, bit by bit.
+  control-same : readControl w ≡ byteBy (bitOf (a .surroundings .word))
+  unfolding readControl withBit
+  control-same =
+      byte-same (λ n. cond (eqb n 7) true (bitOf w n)) (bitOf (a .surroundings .word))
+      (λ n hn. rw (k .surroundings) (with-bit-7-bits w n hn))
+
   pub read-answered : (p : ℕ) → readOf c p ≡ readAnswer a p
   unfolding readOf readLines
   read-answered zero = read-same A
   read-answered (suc zero) = read-same B
   read-answered (suc (suc zero)) = byte-same (λ n. readAs c n (roleOf w n)) (told a) told-same
-  read-answered (suc (suc (suc p))) = rw (no-port p 0 (lit< tt), no-port p 1 (lit< tt), no-port p 2 (lit< tt))
+  read-answered (suc (suc (suc zero))) = control-same
+  read-answered (suc (suc (suc (suc p)))) =
+      rw (no-port (suc p) 0 (lit< tt), no-port (suc p) 1 (lit< tt), no-port (suc p) 2 (lit< tt), no-address p)

@@ -1,10 +1,12 @@
 -- Mode words with the same bits 0 to 6 have the same place in the summary; so bit 7 is asked for nothing.
 -- Rests on bits' Logic and laws' PlainBits.
-use mathlib.Core.Path.{_≡_, refl, ap, ap₂}
+use mathlib.Core.Path.{_≡_, _∙_, refl, ap, ap₂, sym}
+use mathlib.Core.Bool.{Bool, true, false, cond}
 use Prim.Native.Nat.{ℕ, _+_, _/_, _%_, _^_, _<_}
 use native.Mathlib.Omega.{arith}
 use lib.Dec.{eqb, lit<}
 use lib.ListN.{getD}
+use borrow.Author.Tests.{eqb-true, eqb-false, eq-eqb}
 use Rattle.bits.specs.Bit.{bitOf}
 use Rattle.bits.proofs.Logic.{either-way}
 use Rattle.control.specs.declared.Group.{Group}
@@ -43,3 +45,19 @@ set-alike w k h =
 
 pub with-bit-7-alike : (w : ℕ) → Alike (withBit7 w) w
 with-bit-7-alike w k h = either-way (λ v. bitOf v k) (bitOf w k) (bitOf w 7) w (w + 128) refl (set-alike w k h)
+
+-- Bit 7 is set then, and so a word is read back bit by bit.
+pub with-bit-7-set : (w : ℕ) → bitOf (withBit7 w) 7 ≡ true
+unfolding bitOf
+with-bit-7-set w = go (eqb (w / 2 ^ 7 % 2) 1) refl
+  where
+    go : (set : Bool) → eqb (w / 2 ^ 7 % 2) 1 ≡ set → eqb (cond set w (w + 128) / 2 ^ 7 % 2) 1 ≡ true
+    go true is = is
+    go false is = let clear = eqb-false (w / 2 ^ 7 % 2) 1 is in eq-eqb ((w + 128) / 2 ^ 7 % 2) 1 (omega (arith, clear))
+
+pub with-bit-7-bits : (w n : ℕ) → n < 8 → cond (eqb n 7) true (bitOf w n) ≡ bitOf (withBit7 w) n
+with-bit-7-bits w n below = go (eqb n 7) refl
+  where
+    go : (seven : Bool) → eqb n 7 ≡ seven → cond seven true (bitOf w n) ≡ bitOf (withBit7 w) n
+    go true is = sym (ap (bitOf (withBit7 w)) (eqb-true n 7 is) ∙ with-bit-7-set w)
+    go false is = let other = eqb-false n 7 is in sym (with-bit-7-alike w n (omega (arith, below, other)))

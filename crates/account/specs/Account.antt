@@ -8,15 +8,16 @@ use Rattle.events.specs.Event.{Event}
 use Rattle.control.specs.declared.Group.{Group}
 use Rattle.channel.specs.declared.Side.{Side}
 use Rattle.channel.specs.declared.Side.the-variants.{Input, Output}
+use Rattle.chip.specs.declared.Edition.{Edition}
 use Rattle.chip.specs.declared.Levels.{Levels}
 use Rattle.fates.specs.Surroundings.{Surroundings, atPowerUp, surroundingsNext}
 use Rattle.fates.specs.Effects.{portNumber, levelsOn, strobePin, fullPin, readRuns, writeRuns, pinNamed, falls, underLow}
 use Rattle.account.specs.Summary.{columnOf, takes, gives, keeps, signalAt, isIn, settable, reached}
 use Rattle.account.specs.Acts.{Act, nothing, anew, readBegins, readEnds, writeBegins, written, levels, act}
 
--- The bus, the mode word and the levels outside; for each pin of port C the one bit that a program can put there, the latch of a free output
--- or the INTE of STB or ACK; the latches of ports A and B; IBF and OBF; whether IBF is up for a byte that a read has been given; and the two
--- halves of each INTR.
+-- The bus, the edition, the mode word and the levels outside; for each pin of port C the one bit that a program can put there, the latch of a
+-- free output or the INTE of STB or ACK; the latches of ports A and B; IBF and OBF; whether IBF is up for a byte that a read has been given; and
+-- the two halves of each INTR.
 pub record Account : Type 0 where
   pub surroundings : Surroundings
   pub bit : ℕ → Bool
@@ -169,12 +170,12 @@ accountAfter a later t = record {
 
 -- After an event.
 abbrev pub accountNext : Account → Event → Account
-accountNext a e = accountAfter a (surroundingsNext (a .surroundings) e) (act (a .surroundings .phase) e)
+accountNext a e = accountAfter a (surroundingsNext (a .surroundings) e) (act (a .surroundings) e)
 
 -- At power-up nothing is put, latched or asked for, IBF is low, and OBF is high.
-abbrev pub opened : Levels → Account
-opened l = record {
-  surroundings = atPowerUp l;
+abbrev pub opened : Edition → Levels → Account
+opened ed l = record {
+  surroundings = atPowerUp ed l;
   bit = λ n. false;
   output = λ g. 0;
   input = λ g. 0;

@@ -5,5 +5,6 @@ pub mod Views
 pub mod Reasons
 pub mod Promise
 pub mod Unreached
+pub mod ReadBack
 pub mod Script
 pub mod Texts

@@ -41,6 +41,7 @@ withBit7 w = cond (bitOf w 7) w (w + 128)
 abbrev pub surroundingsHere : Chip → Surroundings
 surroundingsHere c = record {
   phase = c .phase;
+  edition = c .edition;
   word = withBit7 (c .core .word);
   levelsA = c .core .a .outside;
   levelsB = c .core .b .outside;
@@ -81,9 +82,10 @@ accountOf c = record {
 }
 
 -- What is promised after the events es from the chip c, where a is the account of their beginning: the number and the byte of whatever event
--- comes next, and of each port the levels, the mask of the pins that the chip drives and the answer of a read; both INTRs, and why one is low.
+-- comes next, and of each port the levels, the mask of the pins that the chip drives and the answer of a read, which control has too; both INTRs,
+-- and why one is low.
 pub record Accounted (c : Chip) (a : Account) (es : List Event) : Type 0 where
-  pub number : (e : Event) → stepped (run c es) e .number ≡ numberBy (over a es .surroundings .phase) (kindOf e)
+  pub number : (e : Event) → stepped (run c es) e .number ≡ numberBy (over a es .surroundings .edition) (over a es .surroundings .phase) (kindOf e)
   pub byte : (e : Event) → stepped (run c es) e .byte ≡ byteAnswered (over a es) e
   pub levels : (p : ℕ) → pinsOf (run c es) p .levels ≡ levelsShown (over a es) p
   pub driven : (p : ℕ) → pinsOf (run c es) p .driven ≡ maskShown (over a es) p

@@ -7,12 +7,13 @@ use lib.Dec.{eqb}
 use lib.ListN.{length}
 use Rattle.bits.specs.Bit.{num}
 use Rattle.events.specs.Event.{Event}
+use Rattle.chip.specs.declared.Edition.{Edition}
 use Rattle.chip.specs.State.{allHigh}
 use Rattle.text.specs.History.{historyOf}
-use Rattle.script.specs.declared.Device.the-variants.{I8255A}
 use Rattle.script.specs.Answers.{lineText, atStart, answersOf}
 use Rattle.script.specs.Run.{ranOf}
 use Rattle.fates.specs.Kinds.{kindOf}
+use Rattle.fates.specs.ScriptRun.{deviceFor}
 use Rattle.account.specs.Acts.{numberBy}
 use Rattle.account.specs.Account.{Account, accountNext, opened}
 use Rattle.account.specs.Views.{levelsShown, byteAnswered}
@@ -21,7 +22,7 @@ use Rattle.account.specs.Views.{levelsShown, byteAnswered}
 abbrev pub lineBy : Account → Event → List ℕ
 lineBy a e =
     lineText (record {
-      number = numberBy (a .surroundings .phase) (kindOf e);
+      number = numberBy (a .surroundings .edition) (a .surroundings .phase) (kindOf e);
       byte = byteAnswered a e;
       a = levelsShown (accountNext a e) 0;
       b = levelsShown (accountNext a e) 1;
@@ -33,9 +34,9 @@ abbrev pub linesBy : Account → List Event → List ℕ
 linesBy a [] = []
 linesBy a (e ∷ es) = lineBy a e ++ linesBy (accountNext a e) es
 
--- What is promised of a text: its answers are the account's, from a power-up with every line high.
-abbrev pub AnsweredBy : List ℕ → Type 0
-AnsweredBy text = answersOf (atStart I8255A) text ≡ linesBy (opened allHigh) (historyOf text)
+-- What is promised of a text for a chip of either edition: its answers are the account's, from a power-up with every line high.
+abbrev pub AnsweredBy : Edition → List ℕ → Type 0
+AnsweredBy ed text = answersOf (atStart (deviceFor ed)) text ≡ linesBy (opened ed allHigh) (historyOf text)
 
 -- How many lines a text has, by its LFs: one for each, and one more where bytes follow the last.
 abbrev pub endings : List ℕ → ℕ

@@ -20,12 +20,17 @@ withCondition c g f =
     let p = portOf (c .core) g in
     record {
       phase = c .phase;
+      edition = c .edition;
       core = withPort (c .core) g (withOutput p (record { fill = f; latch = p .output .latch; tally = p .output .tally }));
     }
 
 -- A chip with another mode word.
 abbrev pub withWord : Chip → ℕ → Chip
-withWord c w = record { phase = c .phase; core = record { word = w; a = c .core .a; b = c .core .b; c = c .core .c; inte = c .core .inte } }
+withWord c w = record {
+  phase = c .phase;
+  edition = c .edition;
+  core = record { word = w; a = c .core .a; b = c .core .b; c = c .core .c; inte = c .core .inte };
+}
 
 -- After the events es the two answer whatever event comes next alike, and show and tell the same.
 pub record SameSight (c c′ : Chip) (es : List Event) : Type 0 where

@@ -64,15 +64,21 @@ pinDriven a n = driven (signalAt (a .surroundings .word) n) (isIn (a .surroundin
 abbrev pub pinLevel : Account → ℕ → Bool
 pinLevel a n = cond (pinDriven a n) (told a n) (bitOf (a .surroundings .levelsC) n)
 
--- Ports A, B and C: the levels, the mask of driven pins, and what a read answers; where there is no port, nothing.
+-- Ports A, B and C: the levels, and the mask of driven pins; where there is no port, nothing.
 abbrev pub levelsShown : Account → ℕ → ℕ
 levelsShown a p = getD (portLevels a A ∷ portLevels a B ∷ byteBy (pinLevel a) ∷ []) p 0
 
 abbrev pub maskShown : Account → ℕ → ℕ
 maskShown a p = getD (cond (driving a A) 0xff 0 ∷ cond (driving a B) 0xff 0 ∷ byteBy (pinDriven a) ∷ []) p 0
 
+-- A read of port A or B, by the port's own column.
+abbrev pub portAnswer : Account → Group → ℕ
+portAnswer a g = portRead a g (columnOf (a .surroundings .word) g)
+
+-- What a read answers: A, B and C, and at control the mode word in force, bit by bit ("The 82C55A"); elsewhere nothing. Whether there is an answer
+-- to be had, the number says.
 abbrev pub readAnswer : Account → ℕ → ℕ
-readAnswer a p = getD (portRead a A (columnOf (a .surroundings .word) A) ∷ portRead a B (columnOf (a .surroundings .word) B) ∷ byteBy (told a) ∷ []) p 0
+readAnswer a p = getD (portAnswer a A ∷ portAnswer a B ∷ byteBy (told a) ∷ byteBy (bitOf (a .surroundings .word)) ∷ []) p 0
 
 -- The byte of an accepted event: only a read that begins has one to give.
 abbrev pub byteFor : Account → Kind → ℕ
@@ -85,4 +91,4 @@ byteFor a unknown = 0
 
 -- The byte of an event; a refused one has none.
 abbrev pub byteAnswered : Account → Event → ℕ
-byteAnswered a e = cond (accepts (a .surroundings .phase) (kindOf e)) (byteFor a (kindOf e)) 0
+byteAnswered a e = cond (accepts (a .surroundings .edition) (a .surroundings .phase) (kindOf e)) (byteFor a (kindOf e)) 0

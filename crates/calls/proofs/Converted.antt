@@ -1,4 +1,5 @@
--- What becomes of an older image: the image of the state that it tells, in which nothing was planted or struck; and bad bytes are refused.
+-- What becomes of an older image: the image of the state that it tells, of the older edition, in which nothing was planted or struck; and
+-- bad bytes are refused.
 -- Rests on image's ComesBack, OneImage and Long, and on older's ComesBack, Long and OneImage.
 use mathlib.Core.Path.{_≡_, _∙_, refl, ap}
 use mathlib.Core.Bool.{true, false}
@@ -21,7 +22,7 @@ use Rattle.image.proofs.Long.{written-over}
 use Rattle.older.specs.Layout.{olderOf}
 use Rattle.older.specs.Loaded.{olderState}
 use Rattle.older.specs.Good.{isOlder}
-use Rattle.older.specs.Before.{FromBefore}
+use Rattle.older.specs.Before.{NoneForced, FromBefore}
 use Rattle.older.proofs.ComesBack as older
 use Rattle.older.proofs.Long.{is-long}
 use Rattle.older.proofs.OneImage.{older-where, tells-such}
@@ -55,31 +56,34 @@ module _ (o l : List ℕ) where
     pub convert-tells : stateOf (convertImage o l) ≡ olderState o
     convert-tells = ap stateOf convert-same ∙ comes-back (olderState o) (tells-such o bytes good)
 
--- Nothing was planted or struck in a chip that an older image tells.
+-- A chip that an older image tells is of the older edition, and nothing was planted or struck in it.
 from-before : (o : List ℕ) → FromBefore (olderState o)
 unfolding olderState
-from-before o A Input = (refl, refl)
-from-before o A Output = (refl, refl)
-from-before o B Input = (refl, refl)
-from-before o B Output = (refl, refl)
+from-before o = (refl, none)
+  where
+    none : NoneForced (olderState o)
+    none A Input = (refl, refl)
+    none A Output = (refl, refl)
+    none B Input = (refl, refl)
+    none B Output = (refl, refl)
 
 -- Both new tallies read 0 in every channel.
 module _ (o l : List ℕ) (bytes : Bytes o) (good : isOlder o ≡ true) (long : length l ≡ places.length) (k : ℕ) (channel : k < 4) where
   pub none-planted : tallyAnswer (convertImage o l) k 5 ≡ 0
   unfolding tallyAnswer counterNumbered
   none-planted =
-      rw (convert-good o l bytes good long, convert-tells o l bytes good long, le-ltb lastChannel k (omega (arith, channel)), from-before o _ _ .0)
+      rw (convert-good o l bytes good long, convert-tells o l bytes good long, le-ltb lastChannel k (omega (arith, channel)), from-before o .1 _ _ .0)
 
   pub none-struck : tallyAnswer (convertImage o l) k 6 ≡ 0
   unfolding tallyAnswer counterNumbered
   none-struck =
-      rw (convert-good o l bytes good long, convert-tells o l bytes good long, le-ltb lastChannel k (omega (arith, channel)), from-before o _ _ .1)
+      rw (convert-good o l bytes good long, convert-tells o l bytes good long, le-ltb lastChannel k (omega (arith, channel)), from-before o .1 _ _ .1)
 
--- Of every state with an image in which nothing was planted or struck, the older image becomes the image.
+-- Of every state of the older edition with an image, in which nothing was planted or struck, the older image becomes the image.
 pub brought-over : (c : Chip) (l : List ℕ) → hasImage c ≡ true → FromBefore c → length l ≡ places.length → convertImage (olderOf c) l ≡ imageOf c
 unfolding convertImage
-brought-over c l has none long =
-    rw (older-where c, has, written-over l (olderState (olderOf c)) long) (ap imageOf (older.comes-back c none))
+brought-over c l has before long =
+    rw (older-where c (before .0), has, written-over l (olderState (olderOf c)) long) (ap imageOf (older.comes-back c before))
 
 -- An older image is no image, for its length: every call that asks for an image answers it with 8.
 pub no-image : (o : List ℕ) → isOlder o ≡ true → isImage o ≡ false

@@ -13,6 +13,9 @@ good-determined c x y = equation-determines
 pub bus-determined : Determines image.load.bus.ended image.load.bus.Reads.Learnt
 bus-determined c x y = equation-determines
 
+pub edition-determined : Determines image.load.edition.ended image.load.edition.Reads.Learnt
+edition-determined c x y = equation-determines
+
 pub load-determined : Determines image.load.state.ended image.load.state.Reads.Learnt
 load-determined c x y = equation-determines
 
@@ -37,6 +40,9 @@ towanchor-power-up-determined c x y = equations-determine
 pub towanchor-power-up-with-levels-determined
     : Determines calls.towanchor_power_up_with_levels.ended calls.towanchor_power_up_with_levels.Reads.Learnt
 towanchor-power-up-with-levels-determined c x y = equations-determine
+
+pub towanchor-power-up-as-determined : Determines calls.towanchor_power_up_as.ended calls.towanchor_power_up_as.Reads.Learnt
+towanchor-power-up-as-determined c x y = equations-determine
 
 -- Before the image stands the older one, which is not written.
 pub towanchor-convert-determined : Determines calls.towanchor_convert.ended calls.towanchor_convert.Reads.Learnt

@@ -29,5 +29,5 @@ module _ (l : List ℕ) where
   none-runs above end = rw (le-ltb bus places.writes above, le-ltb bus places.idle end)
 
   -- On an idle bus there is nothing to end.
-  pub idle-stays : Told l → places.writes ≤ bus → places.idle ≤ bus → l ≡ imageOf (onBus Idle (stateOf l .core))
-  idle-stays told above end = sym told ∙ ap (λ (ph : Phase). imageOf (onBus ph (stateOf l .core))) (none-runs above end)
+  pub idle-stays : Told l → places.writes ≤ bus → places.idle ≤ bus → l ≡ imageOf (onBus Idle (stateOf l .edition) (stateOf l .core))
+  idle-stays told above end = sym told ∙ ap (λ (ph : Phase). imageOf (onBus ph (stateOf l .edition) (stateOf l .core))) (none-runs above end)

@@ -16,7 +16,7 @@ use Rattle.image.specs.Good.{isImage}
 use Rattle.calls.specs.Calls.{packed, stepAnswer, stepImage}
 
 module _ (l : List ℕ) (k x d n : ℕ) (good : isImage l ≡ true)
-    (asked : n ≡ numberOf limits (stateOf l .phase) k x) where
+    (asked : n ≡ numberOf (limits (stateOf l .edition)) (stateOf l .phase) k x) where
   alone : n ≡ packed n 0 0
   alone = omega arith
 

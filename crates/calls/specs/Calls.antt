@@ -10,7 +10,7 @@ use Rattle.control.specs.declared.Group.the-variants.{A, B}
 use Rattle.channel.specs.declared.Side.{Side}
 use Rattle.channel.specs.declared.Side.the-variants.{Input, Output}
 use Rattle.channel.specs.declared.Tally.{Tally}
-use Rattle.chip.specs.State.{levelsBy, powerUpWith, powerUp, tallyOf}
+use Rattle.chip.specs.State.{levelsBy, powerUpAs, powerUpWith, powerUp, tallyOf}
 use Rattle.status.specs.declared.reasons.Numbers.{Numbers}
 use Rattle.status.specs.Reasons.{explainedOf, numbersOf}
 use Rattle.ports.specs.declared.Pins.{Pins}
@@ -19,8 +19,8 @@ use Rattle.step.specs.declared.Stepped.{Stepped}
 use Rattle.step.specs.Step.{stepOf}
 use Rattle.image.specs.Places as places
 use Rattle.image.specs.Layout.{imageOf}
-use Rattle.image.specs.Loaded.{stateOf}
-use Rattle.image.specs.Good.{isImage}
+use Rattle.image.specs.Loaded.{editionAs, stateOf}
+use Rattle.image.specs.Good.{editionFits, isImage}
 use Rattle.image.specs.Slices.{savedIn}
 use Rattle.older.specs.Loaded.{olderState}
 use Rattle.older.specs.Good.{isOlder}
@@ -29,7 +29,7 @@ use Rattle.older.specs.Good.{isOlder}
 abbrev pub packed : ℕ → ℕ → ℕ → ℕ
 packed number low high = number + 256 * low + 65536 * high
 
--- The bytes are no image: they are those of no state, or too few or too many.
+-- The bytes are no image: they are those of no state, or too few or too many. Or there is no such edition.
 abbrev pub noState : ℕ
 noState = 8
 
@@ -66,6 +66,14 @@ powerUpImage l = savedIn l powerUp
 -- and where those of ports A, B and C are.
 abbrev pub powerUpImageWith : List ℕ → ℕ → ℕ → ℕ → List ℕ
 powerUpImageWith l a b c = savedIn l (powerUpWith (levelsBy a b c))
+
+-- Where the edition is named too, by its number in an image, 0 or 1, the edition is asked for first ("The 82C55A").
+unfoldable pub powerUpAsAnswer : List ℕ → ℕ → ℕ
+powerUpAsAnswer l edition = cond (editionFits edition) (powerUpAnswer l) noState
+
+-- A refusal writes nothing.
+unfoldable pub powerUpAsImage : List ℕ → ℕ → ℕ → ℕ → ℕ → List ℕ
+powerUpAsImage l edition a b c = cond (editionFits edition) (savedIn l (powerUpAs (editionAs edition) (levelsBy a b c))) l
 
 -- An older image is asked for first; then, as power-up does, nothing of the bytes that are written over but their number.
 unfoldable pub convertAnswer : List ℕ → List ℕ → ℕ

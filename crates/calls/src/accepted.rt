@@ -37,25 +37,25 @@ fn read_b(image: &mut [u8]) -> u8
 }
 
 // Elsewhere a read changes the bus alone.
-fn read_other(image: &mut [u8], port: u8) -> u8
-    requires { ⌜ Told (now image) × (¬ (port ≡ portA)) × (¬ (port ≡ portB)) ⌝ }
-    ensures { λ r. ⌜ r ≡ readOf (stateOf (now (image .entry))) port ⌝ }
-    ensures { λ _. ⌜ now (image .exit) ≡ imageOf (readBegunIn device (stateOf (now (image .entry))) port) ⌝ }
+fn read_other(image: &mut [u8], address: u8) -> u8
+    requires { ⌜ Told (now image) × (¬ (address ≡ portA)) × (¬ (address ≡ portB)) ⌝ }
+    ensures { λ r. ⌜ r ≡ readOf (stateOf (now (image .entry))) address ⌝ }
+    ensures { λ _. ⌜ now (image .exit) ≡ imageOf (readBegunIn device (stateOf (now (image .entry))) address) ⌝ }
 {
     let chip = load::state(image);
-    image::save::bus(image, Phase::Reading(port));
-    ports::read::value(chip, port)
+    image::save::bus(image, Phase::Reading(address));
+    ports::read::value(chip, address)
 }
 
-fn begin_read(image: &mut [u8], port: u8) -> u8
+fn begin_read(image: &mut [u8], address: u8) -> u8
     requires { ⌜ Told (now image) ⌝ }
-    ensures { λ r. ⌜ r ≡ readOf (stateOf (now (image .entry))) port ⌝ }
-    ensures { λ _. ⌜ now (image .exit) ≡ imageOf (readBegunIn device (stateOf (now (image .entry))) port) ⌝ }
+    ensures { λ r. ⌜ r ≡ readOf (stateOf (now (image .entry))) address ⌝ }
+    ensures { λ _. ⌜ now (image .exit) ≡ imageOf (readBegunIn device (stateOf (now (image .entry))) address) ⌝ }
 {
-    match port {
+    match address {
         chip::PORT_A => read_a(image),
         chip::PORT_B => read_b(image),
-        _ => read_other(image, port),
+        _ => read_other(image, address),
     }
 }
 

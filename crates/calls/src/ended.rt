@@ -22,7 +22,7 @@ use image::places::WRITTEN;
 
 fn leave(image: &mut [u8], core: Core)
     requires { ⌜ Told (now image) ⌝ }
-    ensures { λ _. ⌜ now (image .exit) ≡ imageOf (onBus Idle core) ⌝ }
+    ensures { λ _. ⌜ now (image .exit) ≡ imageOf (onBus Idle (stateOf (now (image .entry)) .edition) core) ⌝ }
 {
     image::save::core(image, core);
     image::save::bus(image, Phase::Idle);
@@ -31,7 +31,7 @@ fn leave(image: &mut [u8], core: Core)
 // The chip under a new mode word, by which a reset is done too.
 pub(super) fn renew(image: &mut [u8], word: u8)
     requires { ⌜ Told (now image) ⌝ }
-    ensures { λ _. ⌜ now (image .exit) ≡ imageOf (onBus Idle (afterModeWord (stateOf (now (image .entry)) .core) word)) ⌝ }
+    ensures { λ _. ⌜ now (image .exit) ≡ imageOf (onBus Idle (stateOf (now (image .entry)) .edition) (afterModeWord (stateOf (now (image .entry)) .core) word)) ⌝ }
 {
     let chip = load::state(image);
     leave(image, settings::renew(chip.core, word));
@@ -39,7 +39,7 @@ pub(super) fn renew(image: &mut [u8], word: u8)
 
 fn set_pin(image: &mut [u8], byte: u8)
     requires { ⌜ Told (now image) ⌝ }
-    ensures { λ _. ⌜ now (image .exit) ≡ imageOf (onBus Idle (afterControlWord (stateOf (now (image .entry)) .core) byte)) ⌝ }
+    ensures { λ _. ⌜ now (image .exit) ≡ imageOf (onBus Idle (stateOf (now (image .entry)) .edition) (afterControlWord (stateOf (now (image .entry)) .core) byte)) ⌝ }
 {
     let chip = load::state(image);
     leave(image, settings::command(chip.core, byte));
@@ -48,7 +48,7 @@ fn set_pin(image: &mut [u8], byte: u8)
 // A write to the control address.
 fn command(image: &mut [u8], byte: u8)
     requires { ⌜ Told (now image) ⌝ }
-    ensures { λ _. ⌜ now (image .exit) ≡ imageOf (onBus Idle (afterControlWord (stateOf (now (image .entry)) .core) byte)) ⌝ }
+    ensures { λ _. ⌜ now (image .exit) ≡ imageOf (onBus Idle (stateOf (now (image .entry)) .edition) (afterControlWord (stateOf (now (image .entry)) .core) byte)) ⌝ }
 {
     let control = control::word::decode(byte);
     match control {
@@ -59,7 +59,7 @@ fn command(image: &mut [u8], byte: u8)
 
 fn store(image: &mut [u8], address: u8, byte: u8)
     requires { ⌜ Told (now image) ⌝ }
-    ensures { λ _. ⌜ now (image .exit) ≡ imageOf (onBus Idle (afterWriteEnds (stateOf (now (image .entry)) .core) address byte)) ⌝ }
+    ensures { λ _. ⌜ now (image .exit) ≡ imageOf (onBus Idle (stateOf (now (image .entry)) .edition) (afterWriteEnds (stateOf (now (image .entry)) .core) address byte)) ⌝ }
 {
     let chip = load::state(image);
     leave(image, writes::end(chip.core, address, byte));
@@ -67,7 +67,7 @@ fn store(image: &mut [u8], address: u8, byte: u8)
 
 fn end_write(image: &mut [u8], address: u8, byte: u8)
     requires { ⌜ Told (now image) ⌝ }
-    ensures { λ _. ⌜ now (image .exit) ≡ imageOf (onBus Idle (afterWriteEnds (stateOf (now (image .entry)) .core) address byte)) ⌝ }
+    ensures { λ _. ⌜ now (image .exit) ≡ imageOf (onBus Idle (stateOf (now (image .entry)) .edition) (afterWriteEnds (stateOf (now (image .entry)) .core) address byte)) ⌝ }
 {
     if address == chip::CONTROL {
         command(image, byte);
@@ -76,12 +76,12 @@ fn end_write(image: &mut [u8], address: u8, byte: u8)
     }
 }
 
-fn end_read(image: &mut [u8], port: u8)
+fn end_read(image: &mut [u8], address: u8)
     requires { ⌜ Told (now image) ⌝ }
-    ensures { λ _. ⌜ now (image .exit) ≡ imageOf (onBus Idle (afterReadEnds (stateOf (now (image .entry)) .core) port)) ⌝ }
+    ensures { λ _. ⌜ now (image .exit) ≡ imageOf (onBus Idle (stateOf (now (image .entry)) .edition) (afterReadEnds (stateOf (now (image .entry)) .core) address)) ⌝ }
 {
     let chip = load::state(image);
-    leave(image, reads::end(chip.core, port));
+    leave(image, reads::end(chip.core, address));
 }
 
 // Whatever runs on the bus ends.

@@ -3,7 +3,7 @@
 // include/towanchor.h declares them.
 ghost use mathlib.Core.Path.{_≡_};
 ghost use Rattle.image.specs.Slices.{savedIn};
-ghost use Rattle.calls.specs.Calls.{packed, powerUpAnswer, powerUpImage, powerUpImageWith, convertAnswer, convertImage, stepAnswer, stepImage, pinsGiven, pinsAnswer, groupNumbered, sideNumbered, counterNumbered, tallyAnswer, reasonsGiven, explainAnswer};
+ghost use Rattle.calls.specs.Calls.{packed, powerUpAnswer, powerUpImage, powerUpImageWith, powerUpAsAnswer, powerUpAsImage, convertAnswer, convertImage, stepAnswer, stepImage, pinsGiven, pinsAnswer, groupNumbered, sideNumbered, counterNumbered, tallyAnswer, reasonsGiven, explainAnswer};
 use bus::ACCEPTED;
 use channel::Side;
 use channel::Tally;
@@ -11,6 +11,7 @@ use chip::Chip;
 use chip::Levels;
 use control::Group;
 use image::places::LENGTH;
+use image::places::NEWER;
 use ports::Pins;
 use status::reasons::Numbers;
 
@@ -18,7 +19,7 @@ mod accepted;
 mod ended;
 mod load;
 
-// No image: the bytes are those of no state, or too few or too many.
+// No image: the bytes are those of no state, or too few or too many. Or there is no such edition.
 const NO_STATE: u32 = 8;
 
 // There is no such port, channel or tally.
@@ -70,6 +71,19 @@ pub extern "C" fn towanchor_power_up_with_levels(image: &mut [u8], a: u8, b: u8,
     start(image, chip)
 }
 
+// The same of a chip of the edition that the host names, by its number in an image.
+#[no_mangle]
+pub extern "C" fn towanchor_power_up_as(image: &mut [u8], edition: u8, a: u8, b: u8, c: u8) -> u32
+    ensures { λ r. ⌜ r ≡ powerUpAsAnswer (now (image .entry)) edition ⌝ }
+    ensures { λ _. ⌜ now (image .exit) ≡ powerUpAsImage (now (image .entry)) edition a b c ⌝ }
+{
+    if NEWER < edition {
+        return NO_STATE;
+    }
+    let chip = chip::power_up_as(image::load::edition(edition), Levels { a, b, c });
+    start(image, chip)
+}
+
 // An older image made the image of the same state.
 #[no_mangle]
 pub extern "C" fn towanchor_convert(older: &[u8], image: &mut [u8]) -> u32
@@ -98,7 +112,7 @@ pub extern "C" fn towanchor_step(image: &mut [u8], kind: u8, first: u8, second: 
         return NO_STATE;
     }
     let phase = load::bus(image);
-    let number = step::number(phase, kind, first);
+    let number = step::number(load::edition(image), phase, kind, first);
     if number != ACCEPTED {
         return number as u32;
     }

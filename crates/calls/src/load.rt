@@ -7,6 +7,8 @@ ghost use Rattle.image.specs.Places as places;
 ghost use Rattle.image.specs.Loaded.{stateOf};
 use bus::Phase;
 use chip::Chip;
+use chip::Edition;
+use image::places::EDITION;
 use image::places::LENGTH;
 
 pub(super) fn state(image: &[u8]) -> Chip
@@ -16,10 +18,17 @@ pub(super) fn state(image: &[u8]) -> Chip
     image::load::state(&image[..LENGTH])
 }
 
-// What runs on the bus, which is all that a refusal looks at.
+// What runs on the bus, and the edition, which are all that a refusal looks at.
 pub(super) fn bus(image: &[u8]) -> Phase
     requires { ⌜ length (now image) ≡ places.length ⌝ }
     ensures { λ r. ⌜ r ≡ stateOf (now (image .entry)) .phase ⌝ }
 {
     image::load::bus(&image[..LENGTH])
+}
+
+pub(super) fn edition(image: &[u8]) -> Edition
+    requires { ⌜ length (now image) ≡ places.length ⌝ }
+    ensures { λ r. ⌜ r ≡ stateOf (now (image .entry)) .edition ⌝ }
+{
+    image::load::edition(image[EDITION])
 }

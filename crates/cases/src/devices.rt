@@ -3,8 +3,9 @@ use super::show;
 use super::show_8355;
 use super::states;
 use super::states_8355;
+use chip::Edition;
 
-// A device, with the answer to its last event.
+// A device, with the answer to its last event. The 82C55A is a chip of the newer edition.
 pub(super) enum Last {
     I8255A(step::Stepped),
     I8355(i8355::step::Stepped),
@@ -25,13 +26,14 @@ pub(super) fn event(last: Last, digits: u64) -> Last {
 }
 
 pub(super) fn at_power_up() -> Last {
-    Last::I8255A(states::at_power_up())
+    Last::I8255A(states::at_power_up(Edition::Older))
 }
 
-// Two letters put a device at power-up, whichever there was before; any other letter is for the device that is there.
+// Three letters put a device at power-up, whichever there was before; any other letter is for the device that is there.
 pub(super) fn other(last: Last, name: u8) -> Last {
     match name {
         b'P' => return at_power_up(),
+        b'N' => return Last::I8255A(states::at_power_up(Edition::Newer)),
         b'Q' => return Last::I8355(states_8355::at_power_up()),
         _ => {}
     }

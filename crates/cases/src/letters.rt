@@ -1,4 +1,4 @@
-// The letters of the pins, the same for either device: A to D name a port, of which D is none, and for the 8355 C neither. A capital letter is the
+// The letters of the pins, the same for every device: A to D name a port, of which D is none, and for the 8355 C neither. A capital letter is the
 // levels of its pins, a small one those that are driven.
 use super::print;
 

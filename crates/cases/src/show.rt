@@ -1,10 +1,11 @@
-// What a letter names of the 8255A and of its last answer.
+// What a letter names of the chip, of either edition, and of its last answer.
 use super::letters;
 use super::print;
 use channel::Fill;
 use channel::Side;
 use channel::Tally;
 use chip::Chip;
+use chip::Edition;
 use control::Group;
 use status::reasons::Explained;
 use status::reasons::Reason;
@@ -82,6 +83,14 @@ pub(super) fn said(explained: Explained) {
     }
 }
 
+fn edition(chip: Chip) {
+    let edition = chip.edition;
+    match edition {
+        Edition::Older => print::word(b"older"),
+        Edition::Newer => print::word(b"newer"),
+    }
+}
+
 pub(super) fn field(last: Stepped, name: u8) {
     match name {
         b'0' => channel(last.chip, Group::A, Side::Input),
@@ -91,6 +100,7 @@ pub(super) fn field(last: Stepped, name: u8) {
         b'n' => print::byte(last.number),
         b'y' => print::byte(last.byte),
         b'r' => print::byte(ports::read::value(last.chip, 2)),
+        b'v' => edition(last.chip),
         b'w' => print::byte(last.chip.core.word),
         b'i' => said(status::reasons::explain(last.chip, 0)),
         b'j' => said(status::reasons::explain(last.chip, 1)),

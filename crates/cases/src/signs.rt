@@ -3,16 +3,17 @@
 //     <030309>   runs an event: a kind and two operands, in six hexadecimal digits
 //     %A %a      the levels and the driven pins of port A; so for B and C, and with D and d for a port that there is not
 //     %n %y      the number and the byte of the last event
-//     !P !Q      another device: an 8255A at power-up with every line high, and an 8355 at power-up
+//     !P !N !Q   another device: an 8255A and an 82C55A at power-up with every line high, and an 8355 at power-up
 //     !R         by any other letter, the same device in another state: as states.rt, states_8355.rt and phases.rt have it
 //
-// Of the 8255A alone, where the 8355 has a '-':
+// Of the 8255A and the 82C55A alone, where the 8355 has a '-':
 //
 //     %r %w      a read of port C, and the stored mode word
+//     %v         the edition
 //     %0 to %3   a channel and its tallies: A in, A out, B in, B out
 //     %i %j %k   what is said of the INTR of group A, of B, and of a group that there is not
 //
-// Of the 8355 alone, where the 8255A has a '-':
+// Of the 8355 alone, where the others have a '-':
 //
 //     %E %e      the latch and the direction of port A as they are stored; so with F and f for B
 //

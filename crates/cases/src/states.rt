@@ -1,9 +1,11 @@
-// The 8255A in a state that no single event gives it: at power-up, after very many strobes, or by hand, where no history leads there.
+// The chip, of either edition, in a state that no single event gives it: at power-up, after very many strobes, or by hand, where no history leads
+// there.
 use super::phases;
 use channel::Channel;
 use channel::Fill;
 use chip::Chip;
 use chip::Core;
+use chip::Edition;
 use chip::Levels;
 use chip::Port;
 use step::Stepped;
@@ -17,12 +19,13 @@ fn put(chip: Chip) -> Stepped {
 }
 
 // The cases are those of lines that idle high.
-pub(super) fn at_power_up() -> Stepped {
-    put(chip::power_up_with_levels(Levels {
+pub(super) fn at_power_up(edition: Edition) -> Stepped {
+    let levels = Levels {
         a: 0xff,
         b: 0xff,
         c: 0xff,
-    }))
+    };
+    put(chip::power_up_as(edition, levels))
 }
 
 // The STB of port A falls and rises.
@@ -81,8 +84,10 @@ fn core_by_hand(mut core: Core, name: u8) -> Core {
 
 fn by_hand(chip: Chip, name: u8) -> Chip {
     let phase = chip.phase;
+    let edition = chip.edition;
     Chip {
         phase: phases::by_hand(phase, name),
+        edition,
         core: core_by_hand(chip.core, name),
     }
 }

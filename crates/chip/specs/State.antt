@@ -13,6 +13,8 @@ use Rattle.channel.specs.declared.Channel.{Channel}
 use Rattle.chip.specs.declared.Port.{Port}
 use Rattle.chip.specs.declared.Enables.{Enables}
 use Rattle.chip.specs.declared.Core.{Core}
+use Rattle.chip.specs.declared.Edition.{Edition}
+use Rattle.chip.specs.declared.Edition.the-variants.{Older}
 use Rattle.chip.specs.declared.Chip.{Chip}
 use Rattle.chip.specs.declared.Levels.{Levels}
 use Rattle.chip.specs.Addresses.{portA, portB}
@@ -49,10 +51,12 @@ allHigh = levelsBy 0xff 0xff 0xff
 abbrev pub powerUpWord : ℕ
 powerUpWord = 0x9b
 
--- The chip as it is switched on under outside levels: under that word, with those levels on its lines, and nothing anywhere else.
-abbrev pub powerUpWith : Levels → Chip
-powerUpWith l = record {
+-- The chip as it is switched on, of the edition and under the outside levels that are named: under that word, with those levels on its lines,
+-- and nothing anywhere else ("The 82C55A").
+abbrev pub powerUpAs : Edition → Levels → Chip
+powerUpAs ed l = record {
   phase = Idle;
+  edition = ed;
   core = record {
     word = powerUpWord;
     a = freshPort (l .a);
@@ -61,6 +65,10 @@ powerUpWith l = record {
     inte = noEnables;
   };
 }
+
+-- Where no edition is named it is the older.
+abbrev pub powerUpWith : Levels → Chip
+powerUpWith l = powerUpAs Older l
 
 -- Where no levels are named, the backplane has pulled every line down.
 abbrev pub powerUp : Chip

@@ -1,6 +1,6 @@
-// The state of one 8255A, and what it is at power-up.
+// The state of one 8255A or 82C55A, and what it is at power-up.
 ghost use mathlib.Core.Path.{_≡_};
-ghost use Rattle.chip.specs.State.{freshPort, powerUpWith, powerUp};
+ghost use Rattle.chip.specs.State.{freshPort, powerUpAs, powerUpWith, powerUp};
 
 pub mod channels;
 pub mod handshakes;
@@ -30,7 +30,7 @@ pub struct Enables {
     pub b: bool,
 }
 
-// All of the chip but the bus: the last mode word, the ports and the enables.
+// All of the chip but the bus and the edition: the last mode word, the ports and the enables.
 pub struct Core {
     pub word: u8,
     pub a: Port,
@@ -39,8 +39,15 @@ pub struct Core {
     pub inte: Enables,
 }
 
+// Which part the chip is: the 8255A, or the later 82C55A, whose control word can be read back. No event changes it.
+pub enum Edition {
+    Older,
+    Newer,
+}
+
 pub struct Chip {
     pub phase: Phase,
+    pub edition: Edition,
     pub core: Core,
 }
 
@@ -87,9 +94,9 @@ fn fresh_port(outside: u8) -> Port
     }
 }
 
-// The chip at power-up, under the levels that the caller names.
-pub fn power_up_with_levels(levels: Levels) -> Chip
-    ensures { λ r. ⌜ r ≡ powerUpWith levels ⌝ }
+// The chip at power-up, of the edition and under the levels that the caller names.
+pub fn power_up_as(edition: Edition, levels: Levels) -> Chip
+    ensures { λ r. ⌜ r ≡ powerUpAs edition levels ⌝ }
 {
     let core = Core {
         word: POWER_UP_WORD,
@@ -107,11 +114,19 @@ pub fn power_up_with_levels(levels: Levels) -> Chip
     };
     Chip {
         phase: Phase::Idle,
+        edition,
         core,
     }
 }
 
-// The chip at power-up where no levels are named: the backplane pulls idle lines down.
+// The chip at power-up where levels are named, and no edition: it is the older.
+pub fn power_up_with_levels(levels: Levels) -> Chip
+    ensures { λ r. ⌜ r ≡ powerUpWith levels ⌝ }
+{
+    power_up_as(Edition::Older, levels)
+}
+
+// The chip at power-up where nothing is named: the backplane pulls idle lines down.
 pub fn power_up() -> Chip
     ensures { λ r. ⌜ r ≡ powerUp ⌝ }
 {

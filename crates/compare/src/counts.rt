@@ -4,7 +4,9 @@
 //     14 to 41 what became of bytes, in the order of the tallies; 42 bit words, 43 mode words; 44 to 52 bit words by the role of their pin
 //     53 to 76 flags that were forced: for each channel to 0 and to 1, and for each of these by the mark that the channel had
 //     77 to 83 what was said of the halves of INTR, by its number; 84 and 85 levels that went through to the input latches of A and B,
-//     where they were others than stood there; 86 differences
+//     where they were others than stood there
+//     86 reads of control that were answered, 87 those of them while an INTR was high; 88 those refused with 3, 89 those of them in a
+//     cycle; 90 those refused with 4; 91 differences
 //
 // The 8355 has a row of its own, of which the first fourteen are the same.
 use super::apart;
@@ -12,7 +14,7 @@ use super::twins;
 use super::twins::Tallies;
 use super::views::View;
 
-pub(super) type Counts = [u64; 87];
+pub(super) type Counts = [u64; 92];
 
 const FATES: usize = 14;
 
@@ -26,7 +28,9 @@ const REASONS: usize = 77;
 
 const THROUGH: usize = 84;
 
-pub(super) const DIFFERENCES: usize = 86;
+const CONTROL_READS: usize = 86;
+
+pub(super) const DIFFERENCES: usize = 91;
 
 // The places of the input latches of A and B and of the first mark in what a chip keeps.
 const LATCH_A: usize = 7;
@@ -71,7 +75,7 @@ fn fates(counts: &mut Counts, before: Tallies, after: Tallies) {
 }
 
 // The control word that the event brought into effect, if it did: the end of a write to address 3.
-fn word(counts: &mut Counts, kind: u8, kept: [u8; 17]) {
+fn word(counts: &mut Counts, kind: u8, kept: [u8; 18]) {
     if (kind != 2) | (kept[0] != twins::WRITING) | (kept[1] != 3) {
         return;
     }
@@ -83,7 +87,7 @@ fn word(counts: &mut Counts, kind: u8, kept: [u8; 17]) {
 }
 
 // A bit word at a pin of that role, with its value and what the chip kept before it.
-fn bit_word(counts: &mut Counts, role: u8, value: u8, kept: [u8; 17]) {
+fn bit_word(counts: &mut Counts, role: u8, value: u8, kept: [u8; 18]) {
     let channel = apart::flag_of(role);
     add(counts, ROLES, role, 1);
     if channel < 4 {
@@ -142,13 +146,37 @@ fn followed(counts: &mut Counts, kind: u8, before: View, after: View) {
     );
 }
 
-pub(super) fn count(counts: &mut Counts, kind: u8, before: View, after: View) {
+// A half of an INTR that is high, as it is said.
+const HIGH: u8 = 6;
+
+// A read of control by its number, and whether it found an INTR high or a cycle running.
+fn control_read(counts: &mut Counts, number: u8, said: [u8; 9], kept: [u8; 18]) {
+    let asks = (said[1] == HIGH) | (said[2] == HIGH) | (said[4] == HIGH) | (said[5] == HIGH);
+    match number {
+        0 => {
+            add(counts, CONTROL_READS, 0, 1);
+            add(counts, CONTROL_READS, 1, flag(asks));
+        }
+        3 => {
+            add(counts, CONTROL_READS, 2, 1);
+            add(counts, CONTROL_READS, 3, flag(kept[0] != twins::IDLE));
+        }
+        _ => add(counts, CONTROL_READS, 4, 1),
+    }
+}
+
+// Counts an event of a kind, with its first operand.
+pub(super) fn count(counts: &mut Counts, kind: u8, first: u8, before: View, after: View) {
     let is = after.shown;
+    let said_was = before.said;
     let said = after.said;
     let kept = before.kept;
     let tally_was = before.tally;
     let tally_is = after.tally;
     event(counts, kind, is[0]);
+    if (kind == 1) & (first == 3) {
+        control_read(counts, is[0], said_was, kept);
+    }
     word(counts, kind, kept);
     reasons(counts, said);
     followed(counts, kind, before, after);

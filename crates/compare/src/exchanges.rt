@@ -1,11 +1,12 @@
-// Exchanges: six events each in their proper order, so that bytes meet every fate, and flags are forced in every condition. An event is
-// eight digits, two each: its kind, its first operand, the bits of its second operand that are drawn, and the bits that are set.
-pub(super) const COUNT: u64 = 29;
+// Exchanges: six events each in their proper order, so that bytes meet every fate, flags are forced in every condition, and control is read
+// where it matters. An event is eight digits, two each: its kind, its first operand, the bits of its second operand that are drawn, and the
+// bits that are set.
+pub(super) const COUNT: u64 = 32;
 
 // The first of the two that set modes and enables.
 pub(super) const SETTINGS: u64 = 10;
 
-pub(super) const EVENTS: [u64; 174] = [
+pub(super) const EVENTS: [u64; 192] = [
     // A byte comes in at A and is read.
     0x0500ff00, // any levels
     0x050200ef, // STB falls, the other pins high
@@ -209,4 +210,25 @@ pub(super) const EVENTS: [u64; 174] = [
     0x02000000, // takes effect
     0x03037f00, // any pin set or reset
     0x02000000, // takes effect
+    // A mode word is read back, and a second read begun before the first has ended.
+    0x03037f80, // a mode word
+    0x02000000, // takes effect
+    0x01030000, // a read of control begins
+    0x01030000, // a second one begins
+    0x02000000, // the first ends
+    0x0502ff00, // any levels of C
+    // Any pin is set or reset, control is read, and a byte comes in at A within the read.
+    0x03037f00, // any pin set or reset
+    0x02000000, // takes effect
+    0x01030000, // a read of control begins
+    0x050200ef, // STB falls
+    0x0502ef10, // and rises
+    0x02000000, // the read ends
+    // Control is read while bytes wait at A and B.
+    0x050200eb, // STB of both falls
+    0x050200ff, // and rises
+    0x01030000, // a read of control begins
+    0x02000000, // and ends
+    0x01000000, // a read of A begins
+    0x02000000, // and ends
 ];

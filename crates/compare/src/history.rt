@@ -43,7 +43,13 @@ fn happen(mut pair: Pair, kind: u8, first: u8, second: u8) -> Pair {
 // Counts what the event did, and compares the models after it. Leaves what the proved one shows.
 fn judge(counts: &mut Counts, event: u64, place: u64, before: View, pair: Pair) -> View {
     let after = views::of_proved(pair.proved);
-    counts::count(counts, random::byte(event >> 16), before, after);
+    counts::count(
+        counts,
+        random::byte(event >> 16),
+        random::byte(event >> 8),
+        before,
+        after,
+    );
     agree::hold(counts, event, place, after, views::of_apart(pair.apart));
     after
 }

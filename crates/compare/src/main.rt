@@ -1,5 +1,6 @@
 // Runs two models of a chip over the same pseudo-random histories, the proved one and a second one that was written apart
-// from it, and compares what they show, keep and count after every event: first of the 8255A, then of the 8355 and of racks of cards.
+// from it, and compares what they show, keep and count after every event: first of the 8255A and the 82C55A, then of the 8355 and of
+// racks of cards.
 mod agree;
 mod apart; // the second model
 mod counts;
@@ -17,7 +18,7 @@ mod views;
 
 use libc::STDIN_FILENO;
 
-// The runs of the 8255A, each behind a word by the first part of the text. Leaves where the next part begins.
+// The runs of the 8255A and the 82C55A, each behind a word by the first part of the text. Leaves where the next part begins.
 fn runs_8255a(text: &[u8]) -> usize {
     let reached = runs::from_power_up();
     print::word(b"from power-up");

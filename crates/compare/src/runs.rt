@@ -1,5 +1,5 @@
-// The three runs: long histories from a power-up with every line high; short ones from arbitrary states, where a mode word or a reset soon
-// ends what is strange; and short ones from power-ups under other levels.
+// The three runs, of both editions: long histories from a power-up with every line high; short ones from arbitrary states, where a mode word or
+// a reset soon ends what is strange; and short ones from power-ups under other levels.
 use super::apart;
 use super::counts;
 use super::counts::Counts;
@@ -16,13 +16,15 @@ enum Start {
     Anywhere,
 }
 
-// A history from a power-up under these levels.
+// A history from a power-up under these levels, of the edition that the seed decides.
 fn powered(counts: &mut Counts, a: u8, b: u8, c: u8, seed: u64, length: u64) -> u64 {
-    let chip = chip::power_up_with_levels(Levels { a, b, c });
+    let part = random::byte(seed >> 56) % 2;
+    let edition = states::edition(seed >> 56);
+    let chip = chip::power_up_as(edition, Levels { a, b, c });
     history::run(
         counts,
         chip,
-        apart::power_up_with_levels(a, b, c),
+        apart::power_up_of(part, a, b, c),
         seed,
         length,
     )
@@ -61,7 +63,7 @@ fn one(counts: &mut Counts, start: Start, seed: u64) -> u64 {
 }
 
 fn all(start: Start, first: u64, histories: usize) -> Counts {
-    let mut counts = [0u64; 87];
+    let mut counts = [0u64; 92];
     let mut seed = first;
     for _ in 0..histories {
         seed = one(&mut counts, start, seed);

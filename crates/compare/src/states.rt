@@ -8,6 +8,7 @@ use channel::Fill;
 use channel::Tally;
 use chip::Chip;
 use chip::Core;
+use chip::Edition;
 use chip::Enables;
 use chip::Port;
 use chip::PortC;
@@ -57,7 +58,7 @@ fn port(seed: u64) -> Port {
     }
 }
 
-// No cycle, or one on any port or address at all: in one of two on one that there is.
+// No cycle, or one at any address at all: in one of two at one that there is.
 pub(super) fn phase(number: u64) -> Phase {
     let place = byte(number >> 8);
     let there = if number % 2 == 0 { place % 4 } else { place };
@@ -66,6 +67,14 @@ pub(super) fn phase(number: u64) -> Phase {
         1 => Phase::Reading(there),
         _ => Phase::Writing(there, byte(number >> 16)),
     }
+}
+
+// Either edition, by the lowest bit of a number.
+pub(super) fn edition(number: u64) -> Edition {
+    if number % 2 == 0 {
+        return Edition::Older;
+    }
+    Edition::Newer
 }
 
 // The levels of port C are all high in one of two, so that pins can fall. A mode word may lack its bit 7.
@@ -89,6 +98,7 @@ pub(super) fn arbitrary(seed: u64) -> Chip {
     };
     Chip {
         phase: phase(number >> 4),
+        edition: edition(number >> 56),
         core,
     }
 }

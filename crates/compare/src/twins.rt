@@ -4,6 +4,7 @@ use bus::Phase;
 use channel::Channel;
 use channel::Fill;
 use chip::Chip;
+use chip::Edition;
 
 // The phases of the bus.
 pub(super) const IDLE: u8 = 0;
@@ -85,15 +86,25 @@ pub(super) fn tallies(chip: Chip) -> Tallies {
     ]
 }
 
+// The edition by the number of the second model.
+fn part(edition: Edition) -> u8 {
+    match edition {
+        Edition::Older => 0,
+        Edition::Newer => 1,
+    }
+}
+
 fn bit(on: bool, worth: u8) -> u8 {
     if on { worth } else { 0 }
 }
 
 pub(super) fn machine(chip: Chip) -> Machine {
+    let edition = chip.edition;
     let phase = chip.phase;
     let bus = running(phase);
     let tally = tallies(chip);
     Machine {
+        part: part(edition),
         phase: bus.phase,
         place: bus.place,
         data: bus.data,

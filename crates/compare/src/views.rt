@@ -9,17 +9,17 @@ use step::Stepped;
 
 // What is shown: 0 the number, 1 the byte, 2 to 4 the levels of A, B and C, 5 to 7 their driven pins, 8 and 9 the levels and the driven pins of
 // a port that there is not, which is named by the mode word. What is said of INTR has three numbers each, the refusal, the input's half and
-// the output's: of A, of B, and of a group that there is not, which is named by the mode word too. What is kept: 0 to 2 the phase, its port
-// or address and its byte, 3 the mode word, 4 to 6 the outside levels of A, B and C, 7 to 10 the latches of A in, A out, B in and B out,
-// 11 that of C, 12 the enables, 13 to 16 the marks of the channels, in the order of the latches.
+// the output's: of A, of B, and of a group that there is not, which is named by the mode word too. What is kept: 0 to 2 the phase, its
+// address and its byte, 3 the mode word, 4 to 6 the outside levels of A, B and C, 7 to 10 the latches of A in, A out, B in and B out,
+// 11 that of C, 12 the enables, 13 to 16 the marks of the channels, in the order of the latches, 17 the edition.
 pub(super) struct View {
     pub(super) shown: [u8; 10],
     pub(super) said: [u8; 9],
-    pub(super) kept: [u8; 17],
+    pub(super) kept: [u8; 18],
     pub(super) tally: Tallies,
 }
 
-fn kept(machine: Machine) -> [u8; 17] {
+fn kept(machine: Machine) -> [u8; 18] {
     let latch = machine.latch;
     let fill = machine.fill;
     [
@@ -40,6 +40,7 @@ fn kept(machine: Machine) -> [u8; 17] {
         fill[1],
         fill[2],
         fill[3],
+        machine.part,
     ]
 }
 

@@ -13,9 +13,10 @@ use Rattle.channel.specs.declared.Side.the-variants.{Input, Output}
 use Rattle.channel.specs.declared.Fill.{Fill}
 use Rattle.channel.specs.declared.Tally.{Tally}
 use Rattle.channel.specs.Channel.{isWaiting}
+use Rattle.chip.specs.declared.Edition.{Edition}
 use Rattle.chip.specs.declared.Chip.{Chip}
 use Rattle.chip.specs.declared.Levels.{Levels}
-use Rattle.chip.specs.State.{powerUpWith, channelOf, tallyOf}
+use Rattle.chip.specs.State.{powerUpAs, channelOf, tallyOf}
 use Rattle.fates.specs.Effects.{effects}
 use Rattle.fates.specs.Bytes.{offeredAt}
 use Rattle.fates.specs.Promise.{run, tallies, surroundingsOf, newBytes, Balanced, SixteenBits}
@@ -68,10 +69,10 @@ stays-balanced g s c small before es =
     (counted-on (ch .tally) (ch .fill) (channelOf (run c es .core) g s .fill) _ _ _ _ _ _ _ before
     (rw (← k .waitsInTheChip, ← k .offeredOrPlanted) (sym held ∙ k .oneFateEach)))
 
--- From power-up, whatever the levels.
-pub balanced : (g : Group) (s : Side) (l : Levels) (es : List Event)
-    → Balanced (tallies g s (powerUpWith l) es) (channelOf (run (powerUpWith l) es .core) g s .fill)
-balanced A Input l es = stays-balanced A Input (powerUpWith l) none-counted refl es
-balanced A Output l es = stays-balanced A Output (powerUpWith l) none-counted refl es
-balanced B Input l es = stays-balanced B Input (powerUpWith l) none-counted refl es
-balanced B Output l es = stays-balanced B Output (powerUpWith l) none-counted refl es
+-- From power-up, whatever the edition and the levels.
+pub balanced : (g : Group) (s : Side) (ed : Edition) (l : Levels) (es : List Event)
+    → Balanced (tallies g s (powerUpAs ed l) es) (channelOf (run (powerUpAs ed l) es .core) g s .fill)
+balanced A Input ed l es = stays-balanced A Input (powerUpAs ed l) none-counted refl es
+balanced A Output ed l es = stays-balanced A Output (powerUpAs ed l) none-counted refl es
+balanced B Input ed l es = stays-balanced B Input (powerUpAs ed l) none-counted refl es
+balanced B Output ed l es = stays-balanced B Output (powerUpAs ed l) none-counted refl es

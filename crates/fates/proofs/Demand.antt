@@ -12,9 +12,10 @@ use Rattle.control.specs.declared.Group.the-variants.{A, B}
 use Rattle.channel.specs.declared.Side.{Side}
 use Rattle.channel.specs.declared.Side.the-variants.{Input, Output}
 use Rattle.channel.specs.Channel.{isWaiting}
+use Rattle.chip.specs.declared.Edition.{Edition}
 use Rattle.chip.specs.declared.Chip.{Chip}
 use Rattle.chip.specs.declared.Levels.{Levels}
-use Rattle.chip.specs.State.{noTally, powerUpWith, channelOf, tallyOf}
+use Rattle.chip.specs.State.{noTally, powerUpAs, channelOf, tallyOf}
 use Rattle.fates.specs.Surroundings.{atPowerUp}
 use Rattle.fates.specs.Effects.{strobes, effects}
 use Rattle.fates.specs.Bytes.{handedOver, overwritten, swallowed, cleared, struck, offeredAt, bytesOf}
@@ -66,18 +67,20 @@ none-counted = record {
   struck = omega arith;
 }
 
--- From power-up, whatever the levels: no byte waits there and nothing has been counted.
-pub fates : (g : Group) (s : Side) (l : Levels) (es : List Event) → Fates g s (powerUpWith l) es noTally (bytesOf g s l es) (bytesOf g s l es)
-fates A Input l es = fates-from A Input (powerUpWith l) none-counted es
-fates A Output l es = fates-from A Output (powerUpWith l) none-counted es
-fates B Input l es = fates-from B Input (powerUpWith l) none-counted es
-fates B Output l es = fates-from B Output (powerUpWith l) none-counted es
+-- From power-up, whatever the edition and the levels: no byte waits there and nothing has been counted.
+pub fates : (g : Group) (s : Side) (ed : Edition) (l : Levels) (es : List Event)
+    → Fates g s (powerUpAs ed l) es noTally (bytesOf g s ed l es) (bytesOf g s ed l es)
+fates A Input ed l es = fates-from A Input (powerUpAs ed l) none-counted es
+fates A Output ed l es = fates-from A Output (powerUpAs ed l) none-counted es
+fates B Input ed l es = fates-from B Input (powerUpAs ed l) none-counted es
+fates B Output ed l es = fates-from B Output (powerUpAs ed l) none-counted es
 
 -- No read runs at power-up.
-pub no-read : (g : Group) (l : Levels) → HasFound g (powerUpWith l)
-no-read g l runs = absurd (refused (strobes 0x9b g Input) runs)
+pub no-read : (g : Group) (ed : Edition) (l : Levels) → HasFound g (powerUpAs ed l)
+no-read g ed l runs = absurd (refused (strobes 0x9b g Input) runs)
 
 -- The discipline, from power-up.
-pub disciplined : (g : Group) (l : Levels) (es : List Event) → Disciplined g (atPowerUp l) (powerUpWith l) es → NoneLost (bytesOf g Input l es)
-disciplined A l es kept = disciplined-from A (powerUpWith l) (no-read A l) es kept
-disciplined B l es kept = disciplined-from B (powerUpWith l) (no-read B l) es kept
+pub disciplined : (g : Group) (ed : Edition) (l : Levels) (es : List Event) → Disciplined g (atPowerUp ed l) (powerUpAs ed l) es
+    → NoneLost (bytesOf g Input ed l es)
+disciplined A ed l es kept = disciplined-from A (powerUpAs ed l) (no-read A ed l) es kept
+disciplined B ed l es kept = disciplined-from B (powerUpAs ed l) (no-read B ed l) es kept

@@ -13,6 +13,7 @@ use Rattle.control.specs.Word.{controlOf}
 use Rattle.roles.specs.Role.{usesOf, freeRole, roleOf}
 use Rattle.channel.specs.Channel.{flagOf}
 use Rattle.channel.specs.Moves.{afterOffer, afterFollow, afterHandOver, afterEndRead, afterClear}
+use Rattle.chip.specs.declared.Edition.the-variants.{Older}
 use Rattle.chip.specs.State.{allHigh, powerUpWith}
 use Rattle.status.specs.Status.{requestOf, intrOf}
 use Rattle.settings.specs.ModeWord.{clearedPort, afterModeWord}
@@ -27,11 +28,11 @@ use Rattle.fates.specs.Surroundings.{atPowerUp}
 use Rattle.fates.specs.Examples.{lostBale, twoDigits}
 use Rattle.fates.specs.Discipline.{Disciplined}
 
-pub two-digits-disciplined : Disciplined A (atPowerUp allHigh) (powerUpWith allHigh) twoDigits
+pub two-digits-disciplined : Disciplined A (atPowerUp Older allHigh) (powerUpWith allHigh) twoDigits
 unfolding bitOf valueOf withBit modeOf inputOf upperInput lowerInput strobedInput strobedOutput outputOf controlOf usesOf freeRole roleOf flagOf afterOffer afterFollow afterHandOver afterEndRead afterClear requestOf intrOf clearedPort afterModeWord pinSet afterControlWord afterReadBegins afterReadEnds storedBy latchWritten afterWriteEnds fallen edged afterLevelsOnC portAfterLevels afterLevels readPort readLines readOf drivesPort pinsOfPort pinsOfLines pinsOf numberOf isKind stepOf stepIn
 two-digits-disciplined = (tt, (tt, (tt, (refl, (tt, (refl, (tt, (tt, (refl, (tt, (refl, (tt, tt))))))))))))
 
 -- The second digit of the lost bale comes while IBF is high.
-pub lost-bale-undisciplined : ¬ Disciplined A (atPowerUp allHigh) (powerUpWith allHigh) lostBale
+pub lost-bale-undisciplined : ¬ Disciplined A (atPowerUp Older allHigh) (powerUpWith allHigh) lostBale
 unfolding bitOf valueOf withBit modeOf inputOf upperInput lowerInput strobedInput strobedOutput outputOf controlOf usesOf freeRole roleOf flagOf afterOffer afterFollow afterHandOver afterEndRead afterClear requestOf intrOf clearedPort afterModeWord pinSet afterControlWord afterReadBegins afterReadEnds storedBy latchWritten afterWriteEnds fallen edged afterLevelsOnC portAfterLevels afterLevels readPort readLines readOf drivesPort pinsOfPort pinsOfLines pinsOf numberOf isKind stepOf stepIn
 lost-bale-undisciplined kept = subst T (kept .1 .1 .1 .1 .1 .1 .1 .0) tt

@@ -36,7 +36,7 @@ module _ (g : Group) (s : Side) where
   -- What follows of a strobed channel, and of one to which nothing happens, follows of any that is not cleared.
   by-strobed : (P : Effect → Type 0) (c : Chip) (e : Event) → P nothing → P clearedAway
       → (strobes (c .core .word) g s ≡ true → P (ownEffect g s (surroundingsOf c) (kindOf e))) → P (effect g s (surroundingsOf c) e)
-  by-strobed P c e rests cleared own = go (accepts (c .phase) (kindOf e)) (clears (c .phase) (kindOf e)) (strobes (c .core .word) g s) refl
+  by-strobed P c e rests cleared own = go (accepts (c .edition) (c .phase) (kindOf e)) (clears (c .phase) (kindOf e)) (strobes (c .core .word) g s) refl
     where
       go : (accepted all on : Bool) → strobes (c .core .word) g s ≡ on
           → P (when accepted (cond all clearedAway (when on (ownEffect g s (surroundingsOf c) (kindOf e)))))

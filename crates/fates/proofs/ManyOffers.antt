@@ -10,7 +10,8 @@ use Rattle.control.specs.declared.Group.the-variants.{A}
 use Rattle.channel.specs.declared.Side.the-variants.{Input}
 use Rattle.channel.specs.declared.Fill.{Fill}
 use Rattle.channel.specs.declared.Fill.the-variants.{Empty, Waiting}
-use Rattle.chip.specs.State.{allHigh, powerUpWith, tallyOf}
+use Rattle.chip.specs.declared.Edition.{Edition}
+use Rattle.chip.specs.State.{allHigh, powerUpAs, tallyOf}
 use Rattle.laws.specs.Marked.{strobe}
 use Rattle.fates.specs.Surroundings.{Surroundings}
 use Rattle.fates.specs.Effects.{effects}
@@ -21,17 +22,17 @@ use Rattle.fates.specs.Examples.{times, strobedTimes}
 use Rattle.fates.proofs.Demand.{fates}
 
 -- Port A in mode 1, an input, with the levels x on its lines and every line of port C high.
-abbrev strobing : ℕ → Surroundings
-strobing x = record { phase = Idle; word = 0xb0; levelsA = x; levelsB = 0xff; levelsC = 0xff }
+abbrev strobing : Edition → ℕ → Surroundings
+strobing ed x = record { phase = Idle; edition = ed; word = 0xb0; levelsA = x; levelsB = 0xff; levelsC = 0xff }
 
-offers-of : (n v k x : ℕ) (f : Fill) (l : ℕ) → offeredAmong (bytes Input (left f l) k (effects A Input (strobing x) (times n (strobe v)))) ≡ n
+offers-of : (ed : Edition) (n v k x : ℕ) (f : Fill) (l : ℕ) → offeredAmong (bytes Input (left f l) k (effects A Input (strobing ed x) (times n (strobe v)))) ≡ n
 unfolding bitOf
-offers-of zero v k x f l = refl
-offers-of (suc n) v k x f l = let rest = offers-of n v (suc (suc (suc k))) v Waiting v in omega (arith, rest)
+offers-of ed zero v k x f l = refl
+offers-of ed (suc n) v k x f l = let rest = offers-of ed n v (suc (suc (suc k))) v Waiting v in omega (arith, rest)
 
-pub many-offers : (n v : ℕ) → tallyOf (run (powerUpWith allHigh) (strobedTimes n v)) A Input .offered ≡ n % 65536
+pub many-offers : (ed : Edition) (n v : ℕ) → tallyOf (run (powerUpAs ed allHigh) (strobedTimes n v)) A Input .offered ≡ n % 65536
 unfolding bitOf
-many-offers n v = fates A Input allHigh (strobedTimes n v) .tallyOffered ∙ ap (λ k. k % 65536) (zero-add _ ∙ offers-of n v 3 0xff Empty 0)
+many-offers ed n v = fates A Input ed allHigh (strobedTimes n v) .tallyOffered ∙ ap (λ k. k % 65536) (zero-add _ ∙ offers-of ed n v 3 0xff Empty 0)
 
-pub seventy-thousand : tallyOf (run (powerUpWith allHigh) (strobedTimes 70000 0x41)) A Input .offered ≡ 4464
-seventy-thousand = many-offers 70000 0x41
+pub seventy-thousand : (ed : Edition) → tallyOf (run (powerUpAs ed allHigh) (strobedTimes 70000 0x41)) A Input .offered ≡ 4464
+seventy-thousand ed = many-offers ed 70000 0x41

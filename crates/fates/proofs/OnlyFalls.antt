@@ -14,8 +14,9 @@ use Rattle.channel.specs.declared.Side.{Side}
 use Rattle.channel.specs.declared.Side.the-variants.{Input, Output}
 use Rattle.channel.specs.declared.Fill.{Fill}
 use Rattle.channel.specs.declared.Fill.the-variants.{Empty}
+use Rattle.chip.specs.declared.Edition.{Edition}
 use Rattle.chip.specs.declared.Levels.{Levels}
-use Rattle.chip.specs.State.{powerUpWith}
+use Rattle.chip.specs.State.{powerUpAs}
 use Rattle.fates.specs.Kinds.{Kind, reset, cycleEnded, unknown, readBegun, writeBegun, newLevels, kindOf, accepts}
 use Rattle.fates.specs.Surroundings.{Surroundings, brought, levelsAfter, surroundingsAfter, surroundingsNext, atPowerUp}
 use Rattle.fates.specs.Effects.{Effect, offered, followed, taken, ended, clearedAway, forcedFull, forcedEmpty, nothing, portNumber, strobePin, fullPin, strobes, readRuns, writeRuns, ofPin, saysFull, when, ownEffect, clears, effectOf, effect, effects}
@@ -54,7 +55,7 @@ levels-low n l unknown low kept = low
 
 low-next : (n : ℕ) (a : Surroundings) (e : Event) → bitOf (a .levelsC) n ≡ false → raises n (kindOf e) ≡ false → bitOf (surroundingsNext a e .levelsC) n ≡ false
 low-next n a e low kept =
-    either-way (λ (b : Surroundings). bitOf (b .levelsC) n) false (accepts (a .phase) (kindOf e)) (surroundingsAfter a (kindOf e)) a
+    either-way (λ (b : Surroundings). bitOf (b .levelsC) n) false (accepts (a .edition) (a .phase) (kindOf e)) (surroundingsAfter a (kindOf e)) a
     (levels-low n (a .levelsC) (kindOf e) low kept) low
 
 -- What is nothing to a channel is not its line's, and what is under a condition is so only where it is so without it.
@@ -95,7 +96,7 @@ module _ (g : Group) (a : Surroundings) where
 
   effect-unmoved : (s : Side) (e : Event) → bitOf (a .levelsC) (strobePin g s) ≡ false → byLine s (effect g s a e) ≡ false
   effect-unmoved s e low =
-      under s (accepts (a .phase) (kindOf e)) (effectOf g s a (kindOf e))
+      under s (accepts (a .edition) (a .phase) (kindOf e)) (effectOf g s a (kindOf e))
       (either-way (byLine s) false (clears (a .phase) (kindOf e)) clearedAway _ (clearing s)
       (under s (strobes (a .word) g s) (ownEffect g s a (kindOf e)) (own-unmoved s (kindOf e) low)))
 
@@ -122,15 +123,15 @@ none-handed f h n (d ∷ ds) still =
     ∙ rw (still .0) (zero-add _ ∙ none-handed (fillAfter Output f (shapeOf d)) held (suc n) ds (still .1))
 
 -- From a power-up that finds the line low, and as long as no event raises it: STB has brought in no byte, and the chip counts none;
-pub low-offers-nothing : (g : Group) (l : Levels) (es : List Event) → bitOf (l .c) (strobePin g Input) ≡ false → NeverRaised (strobePin g Input) es
-    → (offeredAmong (bytesOf g Input l es) ≡ 0) × (tallies g Input (powerUpWith l) es .offered ≡ 0)
-low-offers-nothing g l es low kept =
-    let none = none-offered Empty (offeredAt 0 0) 1 (effects g Input (atPowerUp l) es) (effects-unmoved g Input (atPowerUp l) es low kept) in
-    (none, fates g Input l es .tallyOffered ∙ rw (none))
+pub low-offers-nothing : (g : Group) (ed : Edition) (l : Levels) (es : List Event) → bitOf (l .c) (strobePin g Input) ≡ false → NeverRaised (strobePin g Input) es
+    → (offeredAmong (bytesOf g Input ed l es) ≡ 0) × (tallies g Input (powerUpAs ed l) es .offered ≡ 0)
+low-offers-nothing g ed l es low kept =
+    let none = none-offered Empty (offeredAt 0 0) 1 (effects g Input (atPowerUp ed l) es) (effects-unmoved g Input (atPowerUp ed l) es low kept) in
+    (none, fates g Input ed l es .tallyOffered ∙ rw (none))
 
 -- ACK has taken none of those that were written, and the chip counts none.
-pub low-takes-nothing : (g : Group) (l : Levels) (es : List Event) → bitOf (l .c) (strobePin g Output) ≡ false → NeverRaised (strobePin g Output) es
-    → (count handedOver (bytesOf g Output l es) ≡ 0) × (tallies g Output (powerUpWith l) es .handed ≡ 0)
-low-takes-nothing g l es low kept =
-    let none = none-handed Empty (offeredAt 0 0) 1 (effects g Output (atPowerUp l) es) (effects-unmoved g Output (atPowerUp l) es low kept) in
-    (none, fates g Output l es .tallyHanded ∙ rw (none))
+pub low-takes-nothing : (g : Group) (ed : Edition) (l : Levels) (es : List Event) → bitOf (l .c) (strobePin g Output) ≡ false → NeverRaised (strobePin g Output) es
+    → (count handedOver (bytesOf g Output ed l es) ≡ 0) × (tallies g Output (powerUpAs ed l) es .handed ≡ 0)
+low-takes-nothing g ed l es low kept =
+    let none = none-handed Empty (offeredAt 0 0) 1 (effects g Output (atPowerUp ed l) es) (effects-unmoved g Output (atPowerUp ed l) es low kept) in
+    (none, fates g Output ed l es .tallyHanded ∙ rw (none))

@@ -19,6 +19,7 @@ use Rattle.control.proofs.Strobed.{giving-is-output}
 use Rattle.channel.specs.declared.Side.{Side}
 use Rattle.channel.specs.declared.Side.the-variants.{Input, Output}
 use Rattle.channel.specs.declared.Channel.{Channel}
+use Rattle.chip.specs.declared.Edition.{Edition}
 use Rattle.chip.specs.declared.Core.{Core}
 use Rattle.chip.specs.declared.Chip.{Chip}
 use Rattle.chip.specs.State.{portOf, channelOf}
@@ -42,7 +43,7 @@ use Rattle.fates.proofs.Accepted.{no-kind-accepted, by-outcome}
 use Rattle.fates.proofs.Moved.{moved}
 use Rattle.fates.proofs.Moving.{Goes, goes, at-rest, moves, forcing, levelling, writing}
 
-module _ (c : Core) (g : Group) where
+module _ (ed : Edition) (c : Core) (g : Group) where
   abbrev on : Side → Bool
   on s = strobes (c .word) g s
 
@@ -52,7 +53,7 @@ module _ (c : Core) (g : Group) where
 
   -- The channel after an accepted event is what the event, in the history's words, makes of it.
   abbrev After : Phase → Side → Kind → Core → Type 0
-  After ph s e c′ = Goes (known ph s e) (channelOf c′ g s) (moved s (channelOf c g s) (effectOf g s (surroundingsOf (onBus ph c)) e))
+  After ph s e c′ = Goes (known ph s e) (channelOf c′ g s) (moved s (channelOf c g s) (effectOf g s (surroundingsOf (onBus ph ed c)) e))
 
   -- Nothing happens to the channel.
   rests : (s : Side) {sure : Bool} → Goes sure (channelOf c g s) (moved s (channelOf c g s) (when (on s) nothing))
@@ -68,7 +69,7 @@ module _ (c : Core) (g : Group) where
   abbrev AfterWrite : Side → ℕ → ℕ → Core → Type 0
   AfterWrite s x d c′ =
       Goes (handshakeAlone (c .word) g s || false) (channelOf c′ g s)
-      (moved s (channelOf c g s) (when (on s) (ownEffect g s (surroundingsOf (onBus (Writing x d) c)) cycleEnded)))
+      (moved s (channelOf c g s) (when (on s) (ownEffect g s (surroundingsOf (onBus (Writing x d) ed c)) cycleEnded)))
 
   stored : (s : Side) (x d : ℕ) → eqb x 3 ≡ false → (c′ : Core) → Stored c′ c x d → AfterWrite s x d c′
   stored Input x d elsewhere c′ k = rw (k .input g, elsewhere) (rests Input)
@@ -108,10 +109,10 @@ module _ (c : Core) (g : Group) where
       seven mode three = sym (ap (λ (x : ℕ). eqb x 3 && bitOf d 7) three) ∙ mode
 
   -- The port's levels, in the chip and in the history.
-  levels-same : (ph : Phase) → portOf c g .outside ≡ levelsOn g (surroundingsOf (onBus ph c))
+  levels-same : (ph : Phase) → portOf c g .outside ≡ levelsOn g (surroundingsOf (onBus ph ed c))
   levels-same ph = go g
     where
-      go : (g : Group) → portOf c g .outside ≡ levelsOn g (surroundingsOf (onBus ph c))
+      go : (g : Group) → portOf c g .outside ≡ levelsOn g (surroundingsOf (onBus ph ed c))
       go A = refl
       go B = refl
 
@@ -131,21 +132,21 @@ module _ (c : Core) (g : Group) where
 
 -- An event is accepted and clears every channel.
 abbrev pub clearsNow : Surroundings → Event → Bool
-clearsNow a e = accepts (a .phase) (kindOf e) && clears (a .phase) (kindOf e)
+clearsNow a e = accepts (a .edition) (a .phase) (kindOf e) && clears (a .phase) (kindOf e)
 
 module _ (c : Chip) (g : Group) (s : Side) where
   abbrev Follows : Event → Type 0
-  Follows e = accepts (c .phase) (kindOf e) ≡ true → After (c .core) g (c .phase) s (kindOf e) (afterIn device c (e .kind) (e .first) (e .second) .core)
+  Follows e = accepts (c .edition) (c .phase) (kindOf e) ≡ true → After (c .edition) (c .core) g (c .phase) s (kindOf e) (afterIn device c (e .kind) (e .first) (e .second) .core)
 
   follows-accepted : (k x d : ℕ) → Follows (event k x d)
   follows-accepted k x d =
       by-kind (λ k. Follows (event k x d))
       (λ ok. goes (mode-word-channel (c .core) 0x9b g s))
-      (λ ok. begun (c .core) g (c .phase) s x)
-      (λ ok. cycle-ended (c .core) g (c .phase) s)
-      (λ ok. rests (c .core) g s)
-      (λ ok. levels-set (c .core) g (c .phase) s x d)
-      (λ k none ok. absurd (no-kind-accepted (c .phase) k x d none ok))
+      (λ ok. begun (c .edition) (c .core) g (c .phase) s x)
+      (λ ok. cycle-ended (c .edition) (c .core) g (c .phase) s)
+      (λ ok. rests (c .edition) (c .core) g s)
+      (λ ok. levels-set (c .edition) (c .core) g (c .phase) s x d)
+      (λ k none ok. absurd (no-kind-accepted (c .edition) (c .phase) k x d none ok))
       k
 
   abbrev channel : Channel

@@ -11,7 +11,8 @@ use Rattle.bus.specs.declared.Phase.{Phase}
 use Rattle.bus.specs.declared.Phase.the-variants.{Idle, Reading, Writing}
 use Rattle.control.specs.declared.Group.{Group}
 use Rattle.channel.specs.declared.Side.the-variants.{Input}
-use Rattle.fates.specs.Kinds.{Kind, reset, readBegun, cycleEnded, writeBegun, newLevels, unknown, kindOf, accepts}
+use Rattle.chip.specs.declared.Edition.{Edition}
+use Rattle.fates.specs.Kinds.{Kind, reset, readBegun, cycleEnded, writeBegun, newLevels, unknown, kindOf, readableAt, accepts}
 use Rattle.fates.specs.Surroundings.{Surroundings, ofModeWord, surroundingsAfter, surroundingsNext}
 use Rattle.fates.specs.Effects.{Effect, offered, followed, taken, ended, clearedAway, forcedFull, forcedEmpty, nothing, portNumber, levelsOn, fullPin, strobes, readRuns, ofPin, falls, underLow, when, effectOf, effect}
 use Rattle.fates.specs.Discipline.{strobedReadRuns}
@@ -58,24 +59,24 @@ write-ends false true on′ false says = and-false on′
 write-ends false false on′ own says = and-false on′
 
 -- Surroundings put together.
-abbrev surroundings : Phase → ℕ → ℕ → ℕ → ℕ → Surroundings
-surroundings ph w x y z = record { phase = ph; word = w; levelsA = x; levelsB = y; levelsC = z }
+abbrev surroundings : Phase → Edition → ℕ → ℕ → ℕ → ℕ → Surroundings
+surroundings ph ed w x y z = record { phase = ph; edition = ed; word = w; levelsA = x; levelsB = y; levelsC = z }
 
 -- The bus is free where a cycle begins.
 pub refused : (b : Bool) → (b && false) ≡ true → ⊥
 refused b h = contrary _ (and-false b) h
 
-module _ (g : Group) (w x y z : ℕ) where
+module _ (g : Group) (ed : Edition) (w x y z : ℕ) where
   -- The word strobes the port's input.
   abbrev on : Bool
   on = strobes w g Input
 
-  reads-on : (ph : Phase) (e : Kind) → accepts ph e ≡ true
-      → Reads on (strobedReadRuns g (surroundings ph w x y z)) (strobedReadRuns g (surroundingsAfter (surroundings ph w x y z) e)) (effectOf g Input (surroundings ph w x y z) e)
+  reads-on : (ph : Phase) (e : Kind) → accepts ed ph e ≡ true
+      → Reads on (strobedReadRuns g (surroundings ph ed w x y z)) (strobedReadRuns g (surroundingsAfter (surroundings ph ed w x y z) e)) (effectOf g Input (surroundings ph ed w x y z) e)
   reads-on ph reset ok = and-false (strobes 0x9b g Input)
   reads-on Idle (readBegun p) ok = begins on (eqb p (portNumber g))
-  reads-on (Reading q) (readBegun p) ok = absurd (refused (ltb p 3) ok)
-  reads-on (Writing q d) (readBegun p) ok = absurd (refused (ltb p 3) ok)
+  reads-on (Reading q) (readBegun p) ok = absurd (refused (readableAt ed p) ok)
+  reads-on (Writing q d) (readBegun p) ok = absurd (refused (readableAt ed p) ok)
   reads-on Idle cycleEnded ok = absurd (contrary false refl ok)
   reads-on (Reading q) cycleEnded ok = ends on (eqb q (portNumber g))
   reads-on (Writing q d) cycleEnded ok =
@@ -84,15 +85,15 @@ module _ (g : Group) (w x y z : ℕ) where
   reads-on (Reading q) (writeBegun p u) ok = absurd (refused (ltb p 4) ok)
   reads-on (Writing q d) (writeBegun p u) ok = absurd (refused (ltb p 4) ok)
   reads-on ph (newLevels p u) ok =
-      let a = surroundings ph w x y z in
+      let a = surroundings ph ed w x y z in
       levels-come on (on && readRuns g ph) (falls g Input a p u) (underLow g a p) (levelsOn g a) u
   reads-on ph unknown ok = absurd (contrary false refl ok)
 
 -- The same of every event, accepted or refused.
 pub reads-next : (g : Group) (a : Surroundings) (e : Event) → Reads (strobes (a .word) g Input) (strobedReadRuns g a) (strobedReadRuns g (surroundingsNext a e)) (effect g Input a e)
-reads-next g a e = go (accepts (a .phase) (kindOf e)) refl
+reads-next g a e = go (accepts (a .edition) (a .phase) (kindOf e)) refl
   where
-    go : (ok : Bool) → accepts (a .phase) (kindOf e) ≡ ok
+    go : (ok : Bool) → accepts (a .edition) (a .phase) (kindOf e) ≡ ok
         → Reads (strobes (a .word) g Input) (strobedReadRuns g a) (strobedReadRuns g (cond ok (surroundingsAfter a (kindOf e)) a)) (when ok (effectOf g Input a (kindOf e)))
-    go true ok = reads-on g (a .word) (a .levelsA) (a .levelsB) (a .levelsC) (a .phase) (kindOf e) ok
+    go true ok = reads-on g (a .edition) (a .word) (a .levelsA) (a .levelsB) (a .levelsC) (a .phase) (kindOf e) ok
     go false ok = refl

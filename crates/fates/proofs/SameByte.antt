@@ -39,7 +39,7 @@ word-stays ph w unknown none = refl
 
 -- So it stays through every event that does not clear them.
 word-kept : (a : Surroundings) (e : Event) → clearsNow a e ≡ false → surroundingsNext a e .word ≡ a .word
-word-kept a e none = go (accepts (a .phase) (kindOf e)) (clears (a .phase) (kindOf e)) refl none
+word-kept a e none = go (accepts (a .edition) (a .phase) (kindOf e)) (clears (a .phase) (kindOf e)) refl none
   where
     go : (accepted all : Bool) → clears (a .phase) (kindOf e) ≡ all → (accepted && all) ≡ false → cond accepted (surroundingsAfter a (kindOf e)) a .word ≡ a .word
     go true true is none = absurd (contrary _ none refl)
@@ -48,7 +48,7 @@ word-kept a e none = go (accepts (a .phase) (kindOf e)) (clears (a .phase) (kind
 
 -- What an event is that clears them.
 pub cleared-now : (g : Group) (s : Side) (a : Surroundings) (e : Event) → clearsNow a e ≡ true → effect g s a e ≡ clearedAway
-cleared-now g s a e now = let k = both (accepts (a .phase) (kindOf e)) (clears (a .phase) (kindOf e)) now in rw (k .0, k .1)
+cleared-now g s a e now = let k = both (accepts (a .edition) (a .phase) (kindOf e)) (clears (a .phase) (kindOf e)) now in rw (k .0, k .1)
 
 -- A strobed channel's latch is filled by the handshake alone.
 pub strobed-alone : (w : ℕ) (g : Group) (s : Side) → strobes w g s ≡ true → handshakeAlone w g s ≡ true

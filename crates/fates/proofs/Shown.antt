@@ -75,16 +75,16 @@ module _ (c : Chip) (g : Group) where
 
   -- So it is wherever an accepted event takes a byte from a strobed channel.
   abbrev Shown : Side → Event → Type 0
-  Shown s e = accepts (c .phase) (kindOf e) ≡ true → strobes word g s ≡ true → WhereTaken (Takes s e) (ownEffect g s (surroundingsOf c) (kindOf e))
+  Shown s e = accepts (c .edition) (c .phase) (kindOf e) ≡ true → strobes word g s ≡ true → WhereTaken (Takes s e) (ownEffect g s (surroundingsOf c) (kindOf e))
 
   -- A strobed input reads as its latch.
   input-reads : strobes word g Input ≡ true → (x : ℕ) → eqb x (portNumber g) ≡ true → readOf c x ≡ latch g Input c
   input-reads on x own =
       own-read c x g (sym (own-same x g) ∙ own) ∙ strobed-reads word g (portOf (c .core) g) (sym (strobes-same word g Input) ∙ on)
 
-  begun-shows : (x d : ℕ) → accepts (c .phase) (kindOf (event 1 x d)) ≡ true → strobes word g Input ≡ true → eqb x (portNumber g) ≡ true
+  begun-shows : (x d : ℕ) → accepts (c .edition) (c .phase) (kindOf (event 1 x d)) ≡ true → strobes word g Input ≡ true → eqb x (portNumber g) ≡ true
       → Takes Input (event 1 x d)
-  begun-shows x d ok on own = (on, rw (step-accepts c 1 x d (accepted-number (c .phase) 1 x d ok)) (refl, input-reads on x own))
+  begun-shows x d ok on own = (on, rw (step-accepts c 1 x d (accepted-number (c .edition) (c .phase) 1 x d ok)) (refl, input-reads on x own))
 
   shown-input : (k x d : ℕ) → Shown Input (event k x d)
   shown-input k x d =
@@ -94,11 +94,11 @@ module _ (c : Chip) (g : Group) where
       (λ ok on. ends-take-none _ (readRuns g (c .phase)) (ofPin (c .phase) (fullPin g Input)) (saysFull Input (bitOf (brought (c .phase)) 0)) ended refl)
       (λ ok on t. absurd t)
       (λ ok on. levels-take-none _ (falls g Input (surroundingsOf c) x d) (underLow g (surroundingsOf c) x) (levelsOn g (surroundingsOf c)) d)
-      (λ k none ok on. absurd (no-kind-accepted (c .phase) k x d none ok))
+      (λ k none ok on. absurd (no-kind-accepted (c .edition) (c .phase) k x d none ok))
       k
 
   -- The fall of ACK.
-  module _ (x d : ℕ) (ok : accepts (c .phase) (kindOf (event 5 x d)) ≡ true) (on : strobes word g Output ≡ true)
+  module _ (x d : ℕ) (ok : accepts (c .edition) (c .phase) (kindOf (event 5 x d)) ≡ true) (on : strobes word g Output ≡ true)
       (fell : falls g Output (surroundingsOf c) x d ≡ true) where
     abbrev left : Chip
     left = after c (event 5 x d)
@@ -108,7 +108,7 @@ module _ (c : Chip) (g : Group) where
     driven-left =
         let lines = both (eqb x 2) _ fell in
         let low = not-true (bitOf d (strobePin g Output)) (both (bitOf (c .core .c .outside) (strobePin g Output)) _ (lines .1) .1) in
-        ap (λ (r : Stepped). drivesPort (r .chip .core) g) (step-accepts c 5 x d (accepted-number (c .phase) 5 x d ok))
+        ap (λ (r : Stepped). drivesPort (r .chip .core) g) (step-accepts c 5 x d (accepted-number (c .edition) (c .phase) 5 x d ok))
         ∙ acknowledge-drives (afterLevels (c .core) x d) g
         (ap (λ w. strobedOutput w g) (levels-word (c .core) x d) ∙ sym (strobes-same word g Output) ∙ on)
         (rw (levels-lines (c .core) x d, lines .0, ← line-same g Output) (low))
@@ -117,7 +117,7 @@ module _ (c : Chip) (g : Group) where
     fall-shows = (
       on,
       (
-        rw (step-accepts c 5 x d (accepted-number (c .phase) 5 x d ok)),
+        rw (step-accepts c 5 x d (accepted-number (c .edition) (c .phase) 5 x d ok)),
         own-pins left (portNumber g) g (own-port g) ∙ rw (driven-left, driven-shows (portOf (left .core) g), output-latch-stays c g x d),
       ),
     )
@@ -131,7 +131,7 @@ module _ (c : Chip) (g : Group) where
       (offered (brought (c .phase))) refl)
       (λ ok on t. absurd t)
       (λ ok on. under-condition _ (falls g Output (surroundingsOf c) x d) taken (λ fell t. fall-shows x d ok on fell))
-      (λ k none ok on. absurd (no-kind-accepted (c .phase) k x d none ok))
+      (λ k none ok on. absurd (no-kind-accepted (c .edition) (c .phase) k x d none ok))
       k
 
   shown-own : (s : Side) (e : Event) → Shown s e
@@ -141,6 +141,6 @@ module _ (c : Chip) (g : Group) where
   -- Where any event takes a byte from the channel, it shows the channel's latch.
   pub taken-shows : (s : Side) (e : Event) → WhereTaken (Takes s e) (effect g s (surroundingsOf c) e)
   taken-shows s e =
-      under-condition _ (accepts (c .phase) (kindOf e)) _
+      under-condition _ (accepts (c .edition) (c .phase) (kindOf e)) _
       (λ ok. unless-cleared _ (clears (c .phase) (kindOf e)) _
       (under-condition _ (strobes word g s) _ (shown-own s e ok)))

@@ -10,6 +10,7 @@ use Rattle.control.specs.declared.Group.{Group}
 use Rattle.channel.specs.declared.Side.{Side}
 use Rattle.channel.specs.declared.Fill.{Fill}
 use Rattle.channel.specs.declared.Fill.the-variants.{Empty}
+use Rattle.chip.specs.declared.Edition.{Edition}
 use Rattle.chip.specs.declared.Chip.{Chip}
 use Rattle.chip.specs.declared.Levels.{Levels}
 use Rattle.chip.specs.State.{channelOf}
@@ -73,9 +74,10 @@ module _ (g : Group) (s : Side) where
         noneStruck = none-struck (surroundingsOf c) (ch .fill) (offeredAt 0 (ch .latch)) 1 es free;
       }
 
-  -- From power-up, whatever the levels.
-  pub unforced : (l : Levels) (es : List Event) → NeverForced g s (atPowerUp l) es → NoneForced (bytesOf g s l es) (bytesOf g s l es)
-  unforced l es free = record {
-    nonePlanted = none-planted (atPowerUp l) Empty (offeredAt 0 0) 1 es free;
-    noneStruck = none-struck (atPowerUp l) Empty (offeredAt 0 0) 1 es free;
+  -- From power-up, whatever the edition and the levels.
+  pub unforced : (ed : Edition) (l : Levels) (es : List Event) → NeverForced g s (atPowerUp ed l) es
+      → NoneForced (bytesOf g s ed l es) (bytesOf g s ed l es)
+  unforced ed l es free = record {
+    nonePlanted = none-planted (atPowerUp ed l) Empty (offeredAt 0 0) 1 es free;
+    noneStruck = none-struck (atPowerUp ed l) Empty (offeredAt 0 0) 1 es free;
   }

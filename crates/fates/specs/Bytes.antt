@@ -9,6 +9,7 @@ use Rattle.events.specs.Event.{Event}
 use Rattle.control.specs.declared.Group.{Group}
 use Rattle.channel.specs.declared.Side.{Side}
 use Rattle.channel.specs.declared.Fill.the-variants.{Empty}
+use Rattle.chip.specs.declared.Edition.{Edition}
 use Rattle.chip.specs.declared.Levels.{Levels}
 use Rattle.fates.specs.Surroundings.{atPowerUp}
 use Rattle.fates.specs.Effects.{Effect, offered, followed, taken, ended, clearedAway, forcedFull, forcedEmpty, nothing, effects}
@@ -93,9 +94,9 @@ abbrev pub bytes : Side → Left → ℕ → List Effect → List Byte
 bytes s h n [] = []
 bytes s h n (d ∷ later) = newByte s h n d later ++ bytes s (leftAfter s h d) (suc n) later
 
--- The bytes of a channel in a history from a power-up under these levels: there is nothing in it then.
-abbrev pub bytesOf : Group → Side → Levels → List Event → List Byte
-bytesOf g s l es = bytes s (left Empty 0) 1 (effects g s (atPowerUp l) es)
+-- The bytes of a channel in a history from a power-up of this edition under these levels: there is nothing in it then.
+abbrev pub bytesOf : Group → Side → Edition → Levels → List Event → List Byte
+bytesOf g s ed l es = bytes s (left Empty 0) 1 (effects g s (atPowerUp ed l) es)
 
 -- How many of the bytes were planted, and how many offered.
 abbrev pub plantedAmong : List Byte → ℕ

@@ -141,7 +141,7 @@ effectOf g s a e = cond (clears (a .phase) e) clearedAway (when (strobes (a .wor
 
 -- What an event is to a channel; a refused one is nothing.
 abbrev pub effect : Group → Side → Surroundings → Event → Effect
-effect g s a e = when (accepts (a .phase) (kindOf e)) (effectOf g s a (kindOf e))
+effect g s a e = when (accepts (a .edition) (a .phase) (kindOf e)) (effectOf g s a (kindOf e))
 
 -- What the events of a history are to a channel, one after the other.
 abbrev pub effects : Group → Side → Surroundings → List Event → List Effect

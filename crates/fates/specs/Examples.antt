@@ -8,6 +8,7 @@ use Rattle.control.specs.declared.Group.the-variants.{A, B}
 use Rattle.channel.specs.declared.Side.{Side}
 use Rattle.channel.specs.declared.Side.the-variants.{Input, Output}
 use Rattle.channel.specs.declared.Tally.{Tally}
+use Rattle.chip.specs.declared.Edition.{Edition}
 use Rattle.chip.specs.declared.Levels.{Levels}
 use Rattle.chip.specs.State.{allLow, allHigh}
 use Rattle.ports.specs.declared.Pins.{Pins}
@@ -26,9 +27,9 @@ pub record Example : Type 0 where
 abbrev pub example : Levels → List Event → Group → Side → List Byte → Example
 example l es g s bs = record { start = l; history = es; group = g; side = s; said = bs }
 
--- What the definitions make of it.
-abbrev pub bytesIn : Example → List Byte
-bytesIn x = bytesOf (x .group) (x .side) (x .start) (x .history)
+-- What the definitions make of it, on a chip of either edition.
+abbrev pub bytesIn : Edition → Example → List Byte
+bytesIn ed x = bytesOf (x .group) (x .side) ed (x .start) (x .history)
 
 -- The byte v, offered at place n and decided at place m.
 infixl 70 _at_is_at_
@@ -69,7 +70,8 @@ abbrev pub plain : List Event
 plain = write 3 0x9b ++ strobe 0x41 ++ readFrom 0 ++ cycleEnd
 
 -- A byte waits on port B, and nothing that follows is for it: a read of port A; another begun meanwhile, which is refused; a write to
--- port B, which is an input and keeps nothing; and a read of control and two numbers that are no kinds, all refused.
+-- port B, which is an input and keeps nothing; a read of control, which the older edition refuses and which is nothing to the channel in the newer;
+-- and two numbers that are no kinds, refused.
 abbrev pub notForIt : List Event
 notForIt =
     write 3 0x96 ++ levels 1 0x41 ++ levels 2 0xfb ++ readFrom 0 ++ readFrom 1 ++ cycleEnd ++ write 1 0x42 ++ readFrom 3

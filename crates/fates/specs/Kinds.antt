@@ -8,6 +8,8 @@ use lib.ListN.{getD}
 use Rattle.events.specs.Event.{Event}
 use Rattle.bus.specs.declared.Phase.{Phase}
 use Rattle.bus.specs.declared.Phase.the-variants.{Idle, Reading, Writing}
+use Rattle.chip.specs.declared.Edition.{Edition}
+use Rattle.chip.specs.declared.Edition.the-variants.{Older, Newer}
 
 -- The five kinds, each with the operands that it has, and what is none of them.
 pub data Kind : Type 0 where
@@ -29,12 +31,17 @@ free Idle = true
 free (Reading p) = false
 free (Writing a d) = false
 
--- A reset is always accepted, and levels on any of the three ports. A cycle begins on a free bus, a read at one of the three ports and
--- a write there or at control; either ends by the one end, which is accepted whenever one runs.
-abbrev pub accepts : Phase → Kind → Bool
-accepts ph reset = true
-accepts ph (readBegun x) = ltb x 3 && free ph
-accepts ph cycleEnded = not (free ph)
-accepts ph (writeBegun x d) = ltb x 4 && free ph
-accepts ph (newLevels x d) = ltb x 3
-accepts ph unknown = false
+-- Where a read can be had: at the three ports, and of the newer edition at control too ("The 82C55A").
+abbrev pub readableAt : Edition → ℕ → Bool
+readableAt Older x = ltb x 3
+readableAt Newer x = ltb x 4
+
+-- A reset is always accepted, and levels on any of the three ports. A cycle begins on a free bus, a read where one can be had and a write at one of
+-- the three ports or at control; either ends by the one end, which is accepted whenever one runs.
+abbrev pub accepts : Edition → Phase → Kind → Bool
+accepts ed ph reset = true
+accepts ed ph (readBegun x) = readableAt ed x && free ph
+accepts ed ph cycleEnded = not (free ph)
+accepts ed ph (writeBegun x d) = ltb x 4 && free ph
+accepts ed ph (newLevels x d) = ltb x 3
+accepts ed ph unknown = false

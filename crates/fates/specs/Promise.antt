@@ -31,10 +31,11 @@ run c (e ∷ es) = run (stepped c e .chip) es
 abbrev pub tallies : Group → Side → Chip → List Event → Tally
 tallies g s c es = tallyOf (run c es) g s
 
--- A chip's bus phase, mode word and outside levels, where a history begins from that chip.
+-- A chip's bus phase, edition, mode word and outside levels, where a history begins from that chip.
 abbrev pub surroundingsOf : Chip → Surroundings
 surroundingsOf c = record {
   phase = c .phase;
+  edition = c .edition;
   word = c .core .word;
   levelsA = c .core .a .outside;
   levelsB = c .core .b .outside;

@@ -1,4 +1,5 @@
--- What surrounds a channel, worked out from the events alone: the bus phase, the mode word and the levels outside ("State").
+-- What surrounds a channel, worked out from the events alone: the bus phase, the mode word and the levels outside ("State"), for a chip whose edition is
+-- named.
 use mathlib.Core.Bool.{Bool, false, cond, _&&_}
 use Prim.Native.Nat.{ℕ}
 use lib.Dec.{eqb}
@@ -6,12 +7,14 @@ use Rattle.bits.specs.Bit.{bitOf}
 use Rattle.events.specs.Event.{Event}
 use Rattle.bus.specs.declared.Phase.{Phase}
 use Rattle.bus.specs.declared.Phase.the-variants.{Idle, Reading, Writing}
+use Rattle.chip.specs.declared.Edition.{Edition}
 use Rattle.chip.specs.declared.Levels.{Levels}
 use Rattle.fates.specs.Kinds.{Kind, reset, cycleEnded, unknown, readBegun, writeBegun, newLevels, kindOf, accepts}
 
--- The phase, the mode word in force, and the levels on ports A, B and C.
+-- The phase, the edition, the mode word in force, and the levels on ports A, B and C.
 pub record Surroundings : Type 0 where
   pub phase : Phase
+  pub edition : Edition
   pub word : ℕ
   pub levelsA : ℕ
   pub levelsB : ℕ
@@ -21,9 +24,9 @@ pub record Surroundings : Type 0 where
 abbrev pub firstWord : ℕ
 firstWord = 0x9b
 
--- At power-up the bus is idle, the mode word is that one, and the lines are as they were named.
-abbrev pub atPowerUp : Levels → Surroundings
-atPowerUp l = record { phase = Idle; word = firstWord; levelsA = l .a; levelsB = l .b; levelsC = l .c }
+-- At power-up the bus is idle, the mode word is that one, and the edition and the lines are as they were named.
+abbrev pub atPowerUp : Edition → Levels → Surroundings
+atPowerUp ed l = record { phase = Idle; edition = ed; word = firstWord; levelsA = l .a; levelsB = l .b; levelsC = l .c }
 
 -- The write that runs is of a mode word: to control, with bit 7 set ("Mode words").
 abbrev pub ofModeWord : Phase → Bool
@@ -64,10 +67,11 @@ levelsAfter p l (writeBegun x d) = l
 levelsAfter p l (newLevels x d) = cond (eqb x p) d l
 levelsAfter p l unknown = l
 
--- All of it after an accepted event.
+-- All of it after an accepted event. The edition is for good.
 abbrev pub surroundingsAfter : Surroundings → Kind → Surroundings
 surroundingsAfter a e = record {
   phase = phaseAfter (a .phase) e;
+  edition = a .edition;
   word = wordAfter (a .phase) (a .word) e;
   levelsA = levelsAfter 0 (a .levelsA) e;
   levelsB = levelsAfter 1 (a .levelsB) e;
@@ -76,4 +80,4 @@ surroundingsAfter a e = record {
 
 -- After any event: a refused one changes nothing.
 abbrev pub surroundingsNext : Surroundings → Event → Surroundings
-surroundingsNext a e = cond (accepts (a .phase) (kindOf e)) (surroundingsAfter a (kindOf e)) a
+surroundingsNext a e = cond (accepts (a .edition) (a .phase) (kindOf e)) (surroundingsAfter a (kindOf e)) a

@@ -10,9 +10,10 @@ use Rattle.control.specs.declared.Group.{Group}
 use Rattle.control.specs.declared.Group.the-variants.{A, B}
 use Rattle.channel.specs.declared.Side.{Side}
 use Rattle.channel.specs.declared.Side.the-variants.{Input, Output}
+use Rattle.chip.specs.declared.Edition.{Edition}
 use Rattle.chip.specs.declared.Chip.{Chip}
 use Rattle.chip.specs.declared.Levels.{Levels}
-use Rattle.chip.specs.State.{powerUpWith, portOf, channelOf}
+use Rattle.chip.specs.State.{powerUpAs, portOf, channelOf}
 use Rattle.step.specs.Step.{stepped}
 use Rattle.fates.specs.Surroundings.{atPowerUp}
 use Rattle.fates.specs.Effects.{Effect, levelsOn, effect, effects}
@@ -42,6 +43,7 @@ left-through g = record {
 -- What a channel of the group can tell of its surroundings is the same beside.
 around : (g : Group) (c′ c : Chip) → Beside g c′ c → Around g (surroundingsOf c′) (surroundingsOf c)
 around g c′ c k = record {
+  edition = k .edition;
   phase = k .bus;
   word = k .core .word;
   port = levels-are c′ g ∙ ap (λ p. p .outside) (k .core .port) ∙ sym (levels-are c g);
@@ -75,7 +77,7 @@ heard-through g s = record {
 
 -- A chip on whose bus no cycle of the other group runs is beside itself.
 beside-itself : (g : Group) (c : Chip) → itsCycle (other g) (c .phase) ≡ false → Beside g c c
-beside-itself g c none = record { core = alike-same g (c .core); bus = sym (not-its (other g) (c .phase) none) }
+beside-itself g c none = record { core = alike-same g (c .core); edition = refl; bus = sym (not-its (other g) (c .phase) none) }
 
 -- So from every chip.
 pub as-if-alone : (g : Group) (c : Chip) (es : List Event) → outOfTheWay (other g) (surroundingsOf c) es ≡ true
@@ -91,10 +93,10 @@ as-if-alone g c es out =
           same-heard s (ch .fill) (offeredAt 0 (ch .latch)) _ _ (by-history g _ (heard-through g s) es c c itself clear);
     }
 
--- From power-up, under any levels, where no byte waits.
-pub bytes-as-if-alone : (g : Group) (s : Side) (l : Levels) (es : List Event) → outOfTheWay (other g) (atPowerUp l) es ≡ true
-    → valuesAndFates (bytesOf g s l es) ≡ valuesAndFates (bytesOf g s l (without (other g) (atPowerUp l) es))
-bytes-as-if-alone A Input l es out = as-if-alone A (powerUpWith l) es out .bytes Input
-bytes-as-if-alone A Output l es out = as-if-alone A (powerUpWith l) es out .bytes Output
-bytes-as-if-alone B Input l es out = as-if-alone B (powerUpWith l) es out .bytes Input
-bytes-as-if-alone B Output l es out = as-if-alone B (powerUpWith l) es out .bytes Output
+-- From power-up, of either edition and under any levels, where no byte waits.
+pub bytes-as-if-alone : (g : Group) (s : Side) (ed : Edition) (l : Levels) (es : List Event) → outOfTheWay (other g) (atPowerUp ed l) es ≡ true
+    → valuesAndFates (bytesOf g s ed l es) ≡ valuesAndFates (bytesOf g s ed l (without (other g) (atPowerUp ed l) es))
+bytes-as-if-alone A Input ed l es out = as-if-alone A (powerUpAs ed l) es out .bytes Input
+bytes-as-if-alone A Output ed l es out = as-if-alone A (powerUpAs ed l) es out .bytes Output
+bytes-as-if-alone B Input ed l es out = as-if-alone B (powerUpAs ed l) es out .bytes Input
+bytes-as-if-alone B Output ed l es out = as-if-alone B (powerUpAs ed l) es out .bytes Output

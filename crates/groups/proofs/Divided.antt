@@ -1,5 +1,5 @@
 -- The chip is divided between the two groups without a rest: a pin belongs to one group, and chips that are the same in both groups, the mode
--- word and the bus are the same chip.
+-- word, the edition and the bus are the same chip.
 -- Rests on Alike, and on bits' Tested and BitLaws.
 use mathlib.Core.Path.{_≡_, _∙_, refl, ap, sym}
 use mathlib.Core.Bool.{Bool, true, false, not, _&&_}
@@ -44,6 +44,7 @@ abbrev together : Chip → Chip
 together c =
     record {
       phase = c .phase;
+      edition = c .edition;
       core = record {
         word = c .core .word;
         a = c .core .a;
@@ -63,7 +64,7 @@ same-in-all c′ c small′ small k =
     let input : c′ .core .inte .input ≡ c .core .inte .input = ap (λ x. x .inputEnabled) (k .belongings A) in
     let output : c′ .core .inte .output ≡ c .core .inte .output = ap (λ x. x .outputEnabled) (k .belongings A) in
     let enableB : c′ .core .inte .b ≡ c .core .inte .b = ap (λ x. x .inputEnabled) (k .belongings B) in
-    let all : together c′ ≡ together c = cc (k .phase, k .word, a, b, latch, outside, input, output, enableB) in
+    let all : together c′ ≡ together c = cc (k .phase, k .edition, k .word, a, b, latch, outside, input, output, enableB) in
     all
   where
     port : (g : Group) → portOf (c′ .core) g ≡ portOf (c .core) g

@@ -1,6 +1,6 @@
 -- What an event is to the channels of a group: nothing where it is the other group's, and else the same without the other group's events.
 -- Rests on Alike, Pins, Places, Bus, bits' Logic, and fates' PinNamed and Tables.
-use mathlib.Core.Path.{_≡_, _∙_, refl, ap}
+use mathlib.Core.Path.{_≡_, _∙_, refl, ap₂}
 use mathlib.Core.Bool.{Bool, true, false, cond, not, _&&_, and-false, and-not-self}
 use Prim.Native.Nat.{ℕ, _/_, _%_}
 use lib.Dec.{eqb}
@@ -112,10 +112,11 @@ module _ (g : Group) (a : Surroundings) where
   pub quiet : (s : Side) (e : Event) → isOf (other g) a (kindOf e) ≡ true → effect g s a e ≡ nothing
   quiet s e its =
       rw (clears-none (kindOf e) its, quiet-own s (kindOf e) its, when-nothing (strobes (a .word) g s))
-      (when-nothing (accepts (a .phase) (kindOf e)))
+      (when-nothing (accepts (a .edition) (a .phase) (kindOf e)))
 
 -- Surroundings of a history without the other group's events beside those of the whole: what a channel of the group can tell of them.
 pub record Around (g : Group) (a′ a : Surroundings) : Type 0 where
+  pub edition : a′ .edition ≡ a .edition
   pub phase : a′ .phase ≡ freed (other g) (a .phase)
   pub word : a′ .word ≡ a .word
   pub port : levelsOn g a′ ≡ levelsOn g a
@@ -151,5 +152,5 @@ module _ (g : Group) (a′ a : Surroundings) (k : Around g a′ a) where
   pub same-effect : (s : Side) (e : Event) → isOf (other g) a (kindOf e) ≡ false → inTheWay (other g) a (kindOf e) ≡ false
       → effect g s a′ e ≡ effect g s a e
   same-effect s e others clear =
-      let ok = ap (λ ph. accepts ph (kindOf e)) (k .phase) ∙ accepted-beside (other g) a (kindOf e) others clear in
+      let ok = ap₂ (λ ed ph. accepts ed ph (kindOf e)) (k .edition) (k .phase) ∙ accepted-beside (other g) a (kindOf e) others clear in
       cc (ok, clears-same (kindOf e) others, own-same s (kindOf e) others, k .word)

@@ -11,6 +11,7 @@ use Rattle.bits.specs.Bit.{bitOf, valueOf}
 use Rattle.events.specs.Event.{Event}
 use Rattle.control.specs.declared.Group.{Group}
 use Rattle.control.specs.declared.Group.the-variants.{A, B}
+use Rattle.chip.specs.declared.Edition.the-variants.{Older}
 use Rattle.chip.specs.declared.Chip.{Chip}
 use Rattle.chip.specs.State.{allHigh, powerUpWith}
 use Rattle.step.specs.Step.{stepped}
@@ -24,10 +25,10 @@ use Rattle.groups.specs.Excluded.{Example, shown, Changes, EachChanges, 
 
 -- The levels of a group's pins after a history, by the account.
 abbrev byAccount : Group → List Event → ℕ
-byAccount g es = atItsPins g (levelsShown (over (opened allHigh) es) 2)
+byAccount g es = atItsPins g (levelsShown (over (opened Older allHigh) es) 2)
 
 shown-by-account : (g : Group) (es : List Event) → shown g (run (powerUpWith allHigh) es) ≡ byAccount g es
-shown-by-account g es = ap (atItsPins g) (account allHigh es .levels 2)
+shown-by-account g es = ap (atItsPins g) (account Older allHigh es .levels 2)
 
 -- One history after another.
 run-on : (c : Chip) (es later : List Event) → run (run c es) later ≡ run c (es ++ later)

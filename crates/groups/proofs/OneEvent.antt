@@ -15,6 +15,7 @@ use Rattle.bus.specs.declared.Phase.the-variants.{Idle, Reading, Writing}
 use Rattle.control.specs.declared.Group.{Group}
 use Rattle.channel.specs.declared.Side.{Side}
 use Rattle.channel.specs.declared.Side.the-variants.{Input, Output}
+use Rattle.chip.specs.declared.Edition.{Edition}
 use Rattle.chip.specs.declared.Core.{Core}
 use Rattle.chip.specs.declared.Chip.{Chip}
 use Rattle.chip.specs.Handshakes.{running}
@@ -24,14 +25,14 @@ use Rattle.writes.proofs.PortsAfter.{by-write}
 use Rattle.levels.specs.Levels.{afterLevels}
 use Rattle.laws.proofs.Interrupts.{none-runs}
 use Rattle.step.specs.Step.{device, afterEnd, onBus, stepped}
-use Rattle.fates.specs.Kinds.{readBegun, newLevels, kindOf, free, accepts}
+use Rattle.fates.specs.Kinds.{readBegun, newLevels, kindOf, free, readableAt, accepts}
 use Rattle.fates.specs.Effects.{portNumber}
 use Rattle.fates.specs.Promise.{surroundingsOf}
 use Rattle.fates.proofs.Tables.{own-same}
 use Rattle.fates.proofs.Accepted.{no-kind-accepted, by-outcome}
-use Rattle.groups.specs.Doings.{other, itsCycle, isOf, readsLines, isOfStatus, harmless}
+use Rattle.groups.specs.Doings.{other, itsCycle, isOf, readsForBoth, isForBoth, harmless}
 use Rattle.groups.proofs.Alike.{Alike, AlikeOnBus, alike-same}
-use Rattle.groups.proofs.Places.{read-away, status-away, write-away, sets-bit, writes-no-lines, levels-away, levels-either}
+use Rattle.groups.proofs.Places.{read-away, for-both-away, write-away, sets-bit, writes-no-lines, levels-away, levels-either}
 use Rattle.groups.proofs.Rules.{beginning, ending, levelling}
 use Rattle.groups.proofs.Spared.{on-elsewhere, stored-elsewhere, bit-set-elsewhere, lines-elsewhere}
 
@@ -43,12 +44,12 @@ not-running g (Reading x) its Output = refl
 not-running g (Writing x d) its Input = refl
 not-running g (Writing x d) its Output = sym (own-same x g) ∙ write-away g x d its
 
--- Nor is a read of port C.
-status-not-running : (g : Group) (ph : Phase) → readsLines ph ≡ true → (s : Side) → running ph g s ≡ false
-status-not-running g Idle status s = absurd (contrary false refl status)
-status-not-running g (Reading x) status Input = sym (own-same x g) ∙ status-away g x status
-status-not-running g (Reading x) status Output = refl
-status-not-running g (Writing x d) status s = absurd (contrary false refl status)
+-- Nor is a read of port C or of control.
+for-both-not-running : (g : Group) (ph : Phase) → readsForBoth ph ≡ true → (s : Side) → running ph g s ≡ false
+for-both-not-running g Idle status s = absurd (contrary false refl status)
+for-both-not-running g (Reading x) status Input = sym (own-same x g) ∙ for-both-away g x status
+for-both-not-running g (Reading x) status Output = refl
+for-both-not-running g (Writing x d) status s = absurd (contrary false refl status)
 
 -- Nor does any run where the bus is free.
 free-running : (g : Group) (ph : Phase) → free ph ≡ true → (s : Side) → running ph g s ≡ false
@@ -80,16 +81,16 @@ module _ (g : Group) (c : Core) where
   ended (Reading x) its = read-ended x (read-away g x its)
   ended (Writing x d) its = write-ended x d its
 
-  status-ended : (ph : Phase) → readsLines ph ≡ true → Alike g (afterEnd c ph) c
-  status-ended Idle status = alike-same g c
-  status-ended (Reading x) status = read-ended x (status-away g x status)
-  status-ended (Writing x d) status = absurd (contrary false refl status)
+  for-both-ended : (ph : Phase) → readsForBoth ph ≡ true → Alike g (afterEnd c ph) c
+  for-both-ended Idle status = alike-same g c
+  for-both-ended (Reading x) status = read-ended x (for-both-away g x status)
+  for-both-ended (Writing x d) status = absurd (contrary false refl status)
 
-  levels-come : (ph : Phase) (x d : ℕ) → isOf (other g) (surroundingsOf (onBus ph c)) (newLevels x d) ≡ true → Alike g (afterLevels c x d) c
+  levels-come : (ed : Edition) (ph : Phase) (x d : ℕ) → isOf (other g) (surroundingsOf (onBus ph ed c)) (newLevels x d) ≡ true → Alike g (afterLevels c x d) c
   unfolding afterLevels
-  levels-come ph x d its =
-      levels-either g (surroundingsOf (onBus ph c)) x d its
-      (λ lines. rw (lines) (on-elsewhere g c x (levelling c d) (sym (own-same x g) ∙ levels-away g (surroundingsOf (onBus ph c)) x d its)))
+  levels-come ed ph x d its =
+      levels-either g (surroundingsOf (onBus ph ed c)) x d its
+      (λ lines. rw (lines) (on-elsewhere g c x (levelling c d) (sym (own-same x g) ∙ levels-away g (surroundingsOf (onBus ph ed c)) x d its)))
       (λ lines same. rw (lines) (lines-elsewhere g c d same))
 
 module _ (g : Group) (c : Chip) where
@@ -98,10 +99,10 @@ module _ (g : Group) (c : Chip) where
   LeavesAlike e = AlikeOnBus g (afterIn device c (e .kind) (e .first) (e .second)) c
 
   -- A read begins elsewhere, on a bus that is free.
-  read-begins : (x : ℕ) → accepts (c .phase) (readBegun x) ≡ true → eqb x (portNumber g) ≡ false → LeavesAlike (event 1 x 0)
+  read-begins : (x : ℕ) → accepts (c .edition) (c .phase) (readBegun x) ≡ true → eqb x (portNumber g) ≡ false → LeavesAlike (event 1 x 0)
   read-begins x ok away = record {
     core = begun g (c .core) x away;
-    cycle = λ s. go s ∙ sym (free-running g (c .phase) (both (ltb x 3) _ ok .1) s);
+    cycle = λ s. go s ∙ sym (free-running g (c .phase) (both (readableAt (c .edition) x) _ ok .1) s);
   }
     where
       go : (s : Side) → running (Reading x) g s ≡ false
@@ -110,7 +111,7 @@ module _ (g : Group) (c : Chip) where
 
   -- The other group's.
   abbrev ItsLeaves : Event → Type 0
-  ItsLeaves e = accepts (c .phase) (kindOf e) ≡ true → isOf (other g) (surroundingsOf c) (kindOf e) ≡ true → LeavesAlike e
+  ItsLeaves e = accepts (c .edition) (c .phase) (kindOf e) ≡ true → isOf (other g) (surroundingsOf c) (kindOf e) ≡ true → LeavesAlike e
 
   its-leaves : (k x d : ℕ) → ItsLeaves (event k x d)
   its-leaves k x d =
@@ -125,32 +126,32 @@ module _ (g : Group) (c : Chip) where
         core = alike-same g (c .core);
         cycle = λ s. not-running g (Writing x d) its s ∙ sym (free-running g (c .phase) (both (ltb x 4) _ ok .1) s);
       })
-      (λ ok its. record { core = levels-come g (c .core) (c .phase) x d its; cycle = λ s. refl })
-      (λ k none ok. absurd (no-kind-accepted (c .phase) k x d none ok))
+      (λ ok its. record { core = levels-come g (c .core) (c .edition) (c .phase) x d its; cycle = λ s. refl })
+      (λ k none ok. absurd (no-kind-accepted (c .edition) (c .phase) k x d none ok))
       k
 
-  -- That of a read of port C.
-  abbrev StatusLeaves : Event → Type 0
-  StatusLeaves e = accepts (c .phase) (kindOf e) ≡ true → isOfStatus (surroundingsOf c) (kindOf e) ≡ true → LeavesAlike e
+  -- That of a read of port C or of control.
+  abbrev ForBothLeaves : Event → Type 0
+  ForBothLeaves e = accepts (c .edition) (c .phase) (kindOf e) ≡ true → isForBoth (surroundingsOf c) (kindOf e) ≡ true → LeavesAlike e
 
-  status-leaves : (k x d : ℕ) → StatusLeaves (event k x d)
-  status-leaves k x d =
-      by-kind (λ k. StatusLeaves (event k x d))
+  for-both-leaves : (k x d : ℕ) → ForBothLeaves (event k x d)
+  for-both-leaves k x d =
+      by-kind (λ k. ForBothLeaves (event k x d))
       (λ ok status. absurd (contrary false refl status))
-      (λ ok status. read-begins x ok (status-away g x status))
+      (λ ok status. read-begins x ok (for-both-away g x status))
       (λ ok status. record {
-        core = status-ended g (c .core) (c .phase) status;
-        cycle = λ s. none-runs g s ∙ sym (status-not-running g (c .phase) status s);
+        core = for-both-ended g (c .core) (c .phase) status;
+        cycle = λ s. none-runs g s ∙ sym (for-both-not-running g (c .phase) status s);
       })
       (λ ok status. absurd (contrary false refl status))
       (λ ok status. absurd (contrary false refl status))
-      (λ k none ok. absurd (no-kind-accepted (c .phase) k x d none ok))
+      (λ k none ok. absurd (no-kind-accepted (c .edition) (c .phase) k x d none ok))
       k
 
   -- An event that is refused, or harmless.
   pub left-by-event : (e : Event)
-      → (accepts (c .phase) (kindOf e) ≡ true → harmless (other g) (surroundingsOf c) (kindOf e) ≡ true) → AlikeOnBus g (stepped c e .chip) c
+      → (accepts (c .edition) (c .phase) (kindOf e) ≡ true → harmless (other g) (surroundingsOf c) (kindOf e) ≡ true) → AlikeOnBus g (stepped c e .chip) c
   left-by-event e =
       by-outcome (λ c′ ok. (ok ≡ true → harmless (other g) (surroundingsOf c) (kindOf e) ≡ true) → AlikeOnBus g c′ c) c e
-      (λ ok does. one-of _ _ (does refl) (its-leaves (e .kind) (e .first) (e .second) ok) (status-leaves (e .kind) (e .first) (e .second) ok))
+      (λ ok does. one-of _ _ (does refl) (its-leaves (e .kind) (e .first) (e .second) ok) (for-both-leaves (e .kind) (e .first) (e .second) ok))
       (λ does. record { core = alike-same g (c .core); cycle = λ s. refl })

@@ -13,7 +13,7 @@ use Rattle.control.specs.declared.Group.the-variants.{A, B}
 use Rattle.fates.specs.Kinds.{newLevels}
 use Rattle.fates.specs.Surroundings.{Surroundings}
 use Rattle.fates.specs.Effects.{portNumber}
-use Rattle.groups.specs.Doings.{other, actsOn, setsBit, itsCycle, isOf, readsLines}
+use Rattle.groups.specs.Doings.{other, actsOn, setsBit, itsCycle, isOf, readsForBoth}
 use Rattle.groups.proofs.Alike.{SameAt}
 use Rattle.groups.proofs.Pins.{same-at}
 
@@ -33,12 +33,12 @@ control-apart : (g : Group) → eqb 3 (portNumber g) ≡ false
 control-apart A = refl
 control-apart B = refl
 
--- So the cycles of the other group, and a read of port C, are at another address.
+-- So the cycles of the other group, and a read of port C or of control, are at another address.
 pub read-away : (g : Group) (x : ℕ) → itsCycle (other g) (Reading x) ≡ true → eqb x (portNumber g) ≡ false
 read-away g x its = apart g x _ (ports-apart g) its
 
-pub status-away : (g : Group) (x : ℕ) → readsLines (Reading x) ≡ true → eqb x (portNumber g) ≡ false
-status-away g x status = apart g x 2 (lines-apart g) status
+pub for-both-away : (g : Group) (x : ℕ) → readsForBoth (Reading x) ≡ true → eqb x (portNumber g) ≡ false
+for-both-away g x status = one-of (eqb x 2) (eqb x 3) status (apart g x 2 (lines-apart g)) (apart g x 3 (control-apart g))
 
 pub write-away : (g : Group) (x d : ℕ) → itsCycle (other g) (Writing x d) ≡ true → eqb x (portNumber g) ≡ false
 write-away g x d its =

@@ -18,7 +18,7 @@ without g a (e ∷ es) =
 
 -- A cycle of the group is in the way of an event that is not the group's: an idle bus would accept the event, and it is refused.
 abbrev pub inTheWay : Group → Surroundings → Kind → Bool
-inTheWay g a k = (itsCycle g (a .phase) && not (isOf g a k)) && (accepts Idle k && not (accepts (a .phase) k))
+inTheWay g a k = (itsCycle g (a .phase) && not (isOf g a k)) && (accepts (a .edition) Idle k && not (accepts (a .edition) (a .phase) k))
 
 -- So it is with some event of a history.
 abbrev pub everInTheWay : Group → Surroundings → List Event → Bool

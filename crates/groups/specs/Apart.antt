@@ -20,7 +20,8 @@ abbrev pub Left : Group → Chip → List Event → Type 0
 Left g c es = belongingsOf g (run c es) ≡ belongingsOf g c
 
 -- What is done on the group h leaves the group g as it was: levels on the port of h; levels on port C that differ only at the pins on which h
--- acts; a read and a write of its port, each in its middle and at its end; bit set/reset of those pins, likewise. And so does a read of port C.
+-- acts; a read and a write of its port, each in its middle and at its end; bit set/reset of those pins, likewise. And so does a read of port C,
+-- and one of control, which the older edition refuses.
 pub record LeftAlone (g h : Group) (c : Chip) : Type 0 where
   pub portLevels : (d : ℕ) → Left g c (levels (portNumber h) d)
   pub lineLevels : (d : ℕ) → ((n : ℕ) → n < 8 → actsOn h n ≡ false → bitOf d n ≡ bitOf (c .core .c .outside) n) → Left g c (levels 2 d)
@@ -32,6 +33,8 @@ pub record LeftAlone (g h : Group) (c : Chip) : Type 0 where
   pub bitSet : (d : ℕ) → bitOf d 7 ≡ false → actsOn h (d / 2 % 8) ≡ true → Left g c (write 3 d)
   pub readingLines : Left g c (readFrom 2)
   pub linesRead : Left g c (readFrom 2 ++ cycleEnd)
+  pub readingControl : Left g c (readFrom 3)
+  pub controlRead : Left g c (readFrom 3 ++ cycleEnd)
 
 -- Two histories from a chip are the same to a group: they leave the same of it, and its channels have the same bytes, the one that may wait at
 -- the start among them, with the same values and the same fates.

@@ -47,7 +47,7 @@ pub record Belongings : Type 0 where
   pub latch : ℕ
   pub outside : ℕ
 
--- All of it, of a chip. The mode word and the bus are shared, and belong to neither group.
+-- All of it, of a chip. The mode word, the edition and the bus are shared, and belong to neither group.
 abbrev pub belongingsOf : Group → Chip → Belongings
 belongingsOf g c = record {
   input = channelOf (c .core) g Input;

@@ -22,5 +22,6 @@ pub record LinesOfBytes (c : Chip) : Type 0 where
 -- Two chips share what belongs to neither group, and what belongs to each is the same in both.
 pub record SameInAll (c′ c : Chip) : Type 0 where
   pub phase : c′ .phase ≡ c .phase
+  pub edition : c′ .edition ≡ c .edition
   pub word : c′ .core .word ≡ c .core .word
   pub belongings : (g : Group) → belongingsOf g c′ ≡ belongingsOf g c

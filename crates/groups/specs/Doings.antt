@@ -50,26 +50,27 @@ isOf g a (writeBegun x d) = itsCycle g (Writing x d)
 isOf g a (newLevels x d) = eqb x (portNumber g) || (eqb x 2 && eqb (elsewhere g d) (elsewhere g (a .levelsC)))
 isOf g a unknown = false
 
--- A read of port C, by which the programs of both groups ask for their status. It is no group's, and changes nothing.
-abbrev pub readsLines : Phase → Bool
-readsLines Idle = false
-readsLines (Reading x) = eqb x 2
-readsLines (Writing x d) = false
+-- A read of port C, by which the programs of both groups ask for their status, or of control, where the newer edition tells the mode word. It is no
+-- group's, and changes nothing.
+abbrev pub readsForBoth : Phase → Bool
+readsForBoth Idle = false
+readsForBoth (Reading x) = eqb x 2 || eqb x 3
+readsForBoth (Writing x d) = false
 
 -- The beginning or the end of such a read.
-abbrev pub isOfStatus : Surroundings → Kind → Bool
-isOfStatus a reset = false
-isOfStatus a (readBegun x) = readsLines (Reading x)
-isOfStatus a cycleEnded = readsLines (a .phase)
-isOfStatus a (writeBegun x d) = false
-isOfStatus a (newLevels x d) = false
-isOfStatus a unknown = false
+abbrev pub isForBoth : Surroundings → Kind → Bool
+isForBoth a reset = false
+isForBoth a (readBegun x) = readsForBoth (Reading x)
+isForBoth a cycleEnded = readsForBoth (a .phase)
+isForBoth a (writeBegun x d) = false
+isForBoth a (newLevels x d) = false
+isForBoth a unknown = false
 
--- An event is harmless to the other group: it is the group's, or of a read of port C.
+-- An event is harmless to the other group: it is the group's, or of a read of port C or of control.
 abbrev pub harmless : Group → Surroundings → Kind → Bool
-harmless g a k = isOf g a k || isOfStatus a k
+harmless g a k = isOf g a k || isForBoth a k
 
 -- Each accepted event of a history is so. Between them may stand any that are refused.
 abbrev pub onlyOf : Group → Surroundings → List Event → Bool
 onlyOf g a [] = true
-onlyOf g a (e ∷ es) = (not (accepts (a .phase) (kindOf e)) || harmless g a (kindOf e)) && onlyOf g (surroundingsNext a e) es
+onlyOf g a (e ∷ es) = (not (accepts (a .edition) (a .phase) (kindOf e)) || harmless g a (kindOf e)) && onlyOf g (surroundingsNext a e) es

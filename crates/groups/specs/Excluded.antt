@@ -7,6 +7,7 @@ use Rattle.events.specs.Event.{Event, event}
 use Rattle.events.specs.Histories.{write, levels}
 use Rattle.control.specs.declared.Group.{Group}
 use Rattle.control.specs.declared.Group.the-variants.{A, B}
+use Rattle.chip.specs.declared.Edition.the-variants.{Older}
 use Rattle.chip.specs.declared.Chip.{Chip}
 use Rattle.chip.specs.State.{allHigh, powerUpWith}
 use Rattle.laws.specs.Marked.{strobe}
@@ -81,4 +82,4 @@ excluded = write 3 0x80 ∷ (event 0 0 0 ∷ []) ∷ write 2 0x01 ∷ write 3 0x
 -- None of them counts as the group's.
 abbrev pub NoneIsOf : Group → List (List Event) → Type 0
 NoneIsOf g [] = Unit {0}
-NoneIsOf g (es ∷ more) = (onlyOf g (atPowerUp allHigh) es ≡ false) × NoneIsOf g more
+NoneIsOf g (es ∷ more) = (onlyOf g (atPowerUp Older allHigh) es ≡ false) × NoneIsOf g more

@@ -10,6 +10,7 @@ use Rattle.control.specs.declared.Group.{Group}
 use Rattle.control.specs.declared.Group.the-variants.{A, B}
 use Rattle.channel.specs.declared.Side.{Side}
 use Rattle.channel.specs.declared.Side.the-variants.{Input, Output}
+use Rattle.chip.specs.declared.Edition.the-variants.{Older}
 use Rattle.chip.specs.State.{allHigh}
 use Rattle.laws.specs.Marked.{strobe}
 use Rattle.fates.specs.Surroundings.{Surroundings, atPowerUp}
@@ -60,10 +61,10 @@ v is f = record { planted = false; value = v; fate = f }
 
 -- From a power-up with every line high: what surrounds the first event, the bytes of a channel, and the history without a group's events.
 abbrev pub start : Surroundings
-start = atPowerUp allHigh
+start = atPowerUp Older allHigh
 
 abbrev pub bytesIn : Group → Side → List Event → List ValueAndFate
-bytesIn g s es = valuesAndFates (bytesOf g s allHigh es)
+bytesIn g s es = valuesAndFates (bytesOf g s Older allHigh es)
 
 abbrev pub leavingOut : Group → List Event → List Event
 leavingOut g es = without g start es

@@ -2,7 +2,7 @@
 -- Rests on bits' Logic.
 use mathlib.Core.Path.{_≡_, refl, ap}
 use mathlib.Core.Bool.{Bool, true, false, _&&_}
-use Prim.Native.Nat.{ℕ, _+_, _*_, _/_, _%_}
+use Prim.Native.Nat.{ℕ, _+_, _*_, _/_, _%_, _<_}
 use native.Mathlib.Omega.{arith}
 use borrow.Author.Tests.{ltb-true, lt-ltb, le-ltb}
 use Rattle.bits.specs.Bit.{bitOf, valueOf}
@@ -13,11 +13,13 @@ use Rattle.channel.specs.declared.Fill.{Fill}
 use Rattle.channel.specs.declared.Fill.the-variants.{Empty, Waiting, Fetching}
 use Rattle.channel.specs.declared.Channel.{Channel}
 use Rattle.chip.specs.declared.Enables.{Enables}
+use Rattle.chip.specs.declared.Edition.{Edition}
+use Rattle.chip.specs.declared.Edition.the-variants.{Older, Newer}
 use Rattle.chip.specs.declared.Chip.{Chip}
 use Rattle.image.specs.Places as places
-use Rattle.image.specs.Layout.{tallyBytes, fillByte, enablesByte, busByte, writtenByte, imageOf}
-use Rattle.image.specs.Loaded.{tallyAt, fillAs, enablesAs, phaseAs, stateOf}
-use Rattle.image.specs.Good.{namesItsPlace, hasImage}
+use Rattle.image.specs.Layout.{tallyBytes, fillByte, enablesByte, busByte, writtenByte, editionByte, imageOf}
+use Rattle.image.specs.Loaded.{tallyAt, fillAs, enablesAs, phaseAs, editionAs, stateOf}
+use Rattle.image.specs.Good.{canBeRead, namesItsPlace, hasImage}
 
 -- A tally from its two bytes.
 two-bytes : (n : ℕ) → n % 256 + 256 * (n / 256) ≡ n
@@ -28,15 +30,24 @@ fill-back Empty = refl
 fill-back Waiting = refl
 fill-back Fetching = refl
 
-pub phase-back : (ph : Phase) → namesItsPlace ph ≡ true → phaseAs (busByte ph) (writtenByte ph) ≡ ph
-phase-back Idle names = refl
-phase-back (Reading p) names =
-    let below = ltb-true p 3 names in
-    rw (names, lt-ltb p places.writes (omega (arith, below))) (ap Reading (omega (arith, below)))
-phase-back (Writing a d) names =
+-- Only addresses can be read.
+an-address : (ed : Edition) (p : ℕ) → canBeRead ed p ≡ true → p < 4
+an-address Older p can = omega (arith, ltb-true p 3 can)
+an-address Newer p can = ltb-true p 4 can
+
+pub phase-back : (ed : Edition) (ph : Phase) → namesItsPlace ed ph ≡ true → phaseAs (busByte ph) (writtenByte ph) ≡ ph
+phase-back ed Idle names = refl
+phase-back ed (Reading p) names =
+    let below = an-address ed p names in
+    rw (lt-ltb p 4 below, lt-ltb p places.writes below) (ap Reading (omega (arith, below)))
+phase-back ed (Writing a d) names =
     let below = ltb-true a 4 names in
     rw (names, le-ltb (places.writes + a) places.writes (omega arith), lt-ltb (places.writes + a) places.idle (omega (arith, below)))
     (ap (λ (x : ℕ). Writing x d) (omega (arith, below)))
+
+edition-back : (ed : Edition) → editionAs (editionByte ed) ≡ ed
+edition-back Older = refl
+edition-back Newer = refl
 
 pub enables-back : (e : Enables) → enablesAs (enablesByte e) ≡ e
 unfolding bitOf valueOf
@@ -92,16 +103,17 @@ seven-back : (ch : Channel) →
 seven-back ch = channel-back ch _ _ (two-bytes (ch .tally .planted)) (two-bytes (ch .tally .struck))
 
 -- The bus is that of a state with an image.
-pub at-place : (c : Chip) → hasImage c ≡ true → namesItsPlace (c .phase) ≡ true
+pub at-place : (c : Chip) → hasImage c ≡ true → namesItsPlace (c .edition) (c .phase) ≡ true
 unfolding hasImage
 at-place c has =
-    let names = namesItsPlace (c .phase) in
+    let names = namesItsPlace (c .edition) (c .phase) in
     both names (bitOf (c .core .word) 7) (both (names && bitOf (c .core .word) 7) _ has .0) .0
 
 pub comes-back : (c : Chip) → hasImage c ≡ true → stateOf (imageOf c) ≡ c
 unfolding stateOf imageOf
 comes-back c has = λ i. record {
-  phase = phase-back (c .phase) (at-place c has) i;
+  phase = phase-back (c .edition) (c .phase) (at-place c has) i;
+  edition = edition-back (c .edition) i;
   core = record {
     word = c .core .word;
     a = record { input = seven-back (c .core .a .input) i; output = seven-back (c .core .a .output) i; outside = c .core .a .outside };

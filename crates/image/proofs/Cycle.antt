@@ -1,11 +1,11 @@
--- The two bytes of a bus that fits: they come back from what they tell, for a read, a write and neither.
+-- The two bytes of a bus that fits in an edition: they come back from what they tell, for a read, a write and neither.
 -- Rests on bits' Logic.
 use mathlib.Core.Path.{_≡_, refl, sym}
 use mathlib.Core.Bool.{Bool, true, false, not, _&&_, _||_}
 use Prim.Native.Nat.{ℕ, _%_, _<_, _≤_}
 use native.Mathlib.Omega.{arith}
 use lib.Dec.{eqb, ltb}
-use borrow.Author.Tests.{eqb-true, eqb-false, ltb-true, ltb-false, not-true, lt-ltb}
+use borrow.Author.Tests.{eqb-true, ltb-true, ltb-false, not-true, lt-ltb}
 use Rattle.bits.proofs.Logic.{both, one-of, contrary}
 use Rattle.chip.specs.Addresses.{control}
 use Rattle.image.specs.Places as places
@@ -13,23 +13,22 @@ use Rattle.image.specs.Layout.{busByte, writtenByte}
 use Rattle.image.specs.Loaded.{phaseAs}
 use Rattle.image.specs.Good.{writes, cycleFits}
 
-module _ (bus byte : ℕ) (fits : cycleFits bus byte ≡ true) where
+module _ (edition bus byte : ℕ) (fits : cycleFits edition bus byte ≡ true) where
   abbrev pub Same : Type 0
   Same = (busByte (phaseAs bus byte) ≡ bus) × (writtenByte (phaseAs bus byte) ≡ byte)
 
-  asked : (not (ltb places.idle bus) && not (eqb bus control)) ≡ true
-  asked = both (not (ltb places.idle bus) && not (eqb bus control)) (writes bus || eqb byte 0) fits .0
+  abbrev readable : Bool
+  readable = not (eqb edition places.older && eqb bus control)
 
-  pub up-to-idle : bus ≤ places.idle
-  up-to-idle = ltb-false places.idle bus (not-true (ltb places.idle bus) (both (not (ltb places.idle bus)) (not (eqb bus control)) asked .0))
+  asked : ((not (ltb places.idle bus) && readable) ≡ true) × ((writes bus || eqb byte 0) ≡ true)
+  asked = both (not (ltb places.idle bus) && readable) (writes bus || eqb byte 0) fits
 
-  no-control : ¬ (bus ≡ control)
-  no-control = eqb-false bus control (not-true (eqb bus control) (both (not (ltb places.idle bus)) (not (eqb bus control)) asked .1))
+  up-to-idle : bus ≤ places.idle
+  up-to-idle = ltb-false places.idle bus (not-true (ltb places.idle bus) (both (not (ltb places.idle bus)) readable (asked .0) .0))
 
   nothing-written : writes bus ≡ false → byte ≡ 0
   nothing-written none =
-      one-of (writes bus) (eqb byte 0)
-      (both (not (ltb places.idle bus) && not (eqb bus control)) (writes bus || eqb byte 0) fits .1)
+      one-of (writes bus) (eqb byte 0) (asked .1)
       (λ some. absurd (contrary (writes bus) none some)) (λ is. eqb-true byte 0 is)
 
   pub same-bus : Same
@@ -37,9 +36,9 @@ module _ (bus byte : ℕ) (fits : cycleFits bus byte ≡ true) where
     where
       go : (read below : Bool) → ltb bus places.writes ≡ read → ltb bus places.idle ≡ below → Same
       go true below r b =
-          let three : bus < 3 = omega (arith, ltb-true bus places.writes r, no-control) in
-          let place : bus % places.writes ≡ bus = omega (arith, three) in
-          (rw (r, place, lt-ltb bus 3 three), rw (r) (sym (nothing-written (rw (r)))))
+          let four = ltb-true bus places.writes r in
+          let place : bus % places.writes ≡ bus = omega (arith, four) in
+          (rw (r, place, lt-ltb bus 4 four), rw (r) (sym (nothing-written (rw (r)))))
       go false true r b =
           let from-four = ltb-false bus places.writes r in
           let below-eight = ltb-true bus places.idle b in

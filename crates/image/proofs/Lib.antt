@@ -2,6 +2,7 @@ pub mod Behind
 pub mod Asked
 pub mod Bounds
 pub mod Cycle
+pub mod BusNumber
 pub mod Zeros
 pub mod Long
 pub mod ComesBack

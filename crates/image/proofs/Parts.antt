@@ -1,4 +1,4 @@
--- An image of which a part is saved: it is the image of the state with that part.
+-- An image of which a part is saved: it is the image of the state with that part, and of the same edition.
 -- Rests on nothing.
 use mathlib.Core.Path.{_≡_, refl, ap, _∙_, sym}
 use mathlib.Core.List.{List}
@@ -13,11 +13,11 @@ use Rattle.image.specs.Loaded.{stateOf}
 use Rattle.image.specs.Good.{Told}
 use Rattle.image.specs.Slices.{coreSavedIn, busSavedIn}
 
-over-core : (c : Chip) (d : Core) → coreSavedIn (imageOf c) d ≡ imageOf (record { phase = c .phase; core = d })
+over-core : (c : Chip) (d : Core) → coreSavedIn (imageOf c) d ≡ imageOf (record { phase = c .phase; edition = c .edition; core = d })
 unfolding coreSavedIn imageOf
 over-core c d = refl
 
-pub over-bus : (c : Chip) (ph : Phase) → busSavedIn (imageOf c) ph ≡ imageOf (record { phase = ph; core = c .core })
+pub over-bus : (c : Chip) (ph : Phase) → busSavedIn (imageOf c) ph ≡ imageOf (record { phase = ph; edition = c .edition; core = c .core })
 unfolding busSavedIn imageOf
 over-bus c ph = refl
 
@@ -29,11 +29,13 @@ module _ (l : List ℕ) (told : Told l) where
   pub told-long : length l ≡ places.length
   told-long = sym (ap length told) ∙ long (stateOf l)
 
-  pub core-saved : (d : Core) → coreSavedIn l d ≡ imageOf (record { phase = stateOf l .phase; core = d })
+  pub core-saved : (d : Core) → coreSavedIn l d ≡ imageOf (record { phase = stateOf l .phase; edition = stateOf l .edition; core = d })
   core-saved d = ap (λ (m : List ℕ). coreSavedIn m d) (sym told) ∙ over-core (stateOf l) d
 
-  pub bus-saved : (ph : Phase) → busSavedIn l ph ≡ imageOf (record { phase = ph; core = stateOf l .core })
+  pub bus-saved : (ph : Phase) → busSavedIn l ph ≡ imageOf (record { phase = ph; edition = stateOf l .edition; core = stateOf l .core })
   bus-saved ph = ap (λ (m : List ℕ). busSavedIn m ph) (sym told) ∙ over-bus (stateOf l) ph
 
-  pub both-saved : (d : Core) (ph : Phase) → busSavedIn (coreSavedIn l d) ph ≡ imageOf (record { phase = ph; core = d })
-  both-saved d ph = ap (λ (m : List ℕ). busSavedIn m ph) (core-saved d) ∙ over-bus (record { phase = stateOf l .phase; core = d }) ph
+  pub both-saved : (d : Core) (ph : Phase) → busSavedIn (coreSavedIn l d) ph ≡ imageOf (record { phase = ph; edition = stateOf l .edition; core = d })
+  both-saved d ph =
+      ap (λ (m : List ℕ). busSavedIn m ph) (core-saved d)
+      ∙ over-bus (record { phase = stateOf l .phase; edition = stateOf l .edition; core = d }) ph

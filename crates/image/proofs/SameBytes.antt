@@ -7,10 +7,10 @@ use Prim.Native.Nat.{ℕ, zero, suc, _+_, _-_, _*_, _/_, _%_, _<_}
 use native.Mathlib.Omega.{arith}
 use mir.Syntax.{w8}
 use mir.Val.{Fits}
-use lib.Dec.{eqb}
+use lib.Dec.{eqb, ltb}
 use lib.ListN.{length}
 use lib.Seq.{ext-getD}
-use borrow.Author.Tests.{eqb-true, ltb-true}
+use borrow.Author.Tests.{eqb-true, ltb-true, ltb-false, not-true}
 use Rattle.bits.specs.Bit.{bitOf}
 use Rattle.bits.specs.Table.{from}
 use Rattle.bits.proofs.Logic.{both}
@@ -21,9 +21,9 @@ use Rattle.channel.specs.declared.Side.the-variants.{Input, Output}
 use Rattle.channel.specs.declared.Tally.{Tally}
 use Rattle.chip.specs.Handshakes.{strobed}
 use Rattle.image.specs.Places as places
-use Rattle.image.specs.Layout.{fillByte, enablesByte, portBytes, imageOf}
-use Rattle.image.specs.Loaded.{byteAt, fillAs, enablesAs, coreBy, channelTally, stateOf}
-use Rattle.image.specs.Good.{cycleFits, enablesFit, fillFits, channelFits, fillsFit, coreFits, allZero, unusedZero, endFits, bytesFit, isImage, Told, Bytes}
+use Rattle.image.specs.Layout.{fillByte, enablesByte, portBytes, editionByte, imageOf}
+use Rattle.image.specs.Loaded.{byteAt, fillAs, enablesAs, coreBy, channelTally, editionAs, stateOf}
+use Rattle.image.specs.Good.{cycleFits, editionFits, enablesFit, fillFits, channelFits, fillsFit, coreFits, allZero, unusedZero, endFits, bytesFit, isImage, Told, Bytes}
 use Rattle.image.proofs.Long.{is-long}
 use Rattle.image.proofs.Cycle.{same-bus}
 
@@ -70,6 +70,12 @@ same-fill true Input (suc (suc (suc b))) fits = absurd (omega (arith, ltb-true (
 same-fill true Output (suc (suc (suc b))) fits = absurd (omega (arith, ltb-true (suc (suc (suc b))) 2 fits))
 same-fill false Input (suc (suc (suc b))) fits = absurd (omega (arith, ltb-true (suc (suc (suc b))) 1 fits))
 same-fill false Output (suc (suc (suc b))) fits = absurd (omega (arith, ltb-true (suc (suc (suc b))) 1 fits))
+
+same-edition : (b : ℕ) → editionFits b ≡ true → editionByte (editionAs b) ≡ b
+same-edition zero fits = refl
+same-edition (suc zero) fits = refl
+same-edition (suc (suc b)) fits =
+    absurd (omega (arith, ltb-false places.newer (suc (suc b)) (not-true (ltb places.newer (suc (suc b))) fits)))
 
 -- As many zeros as there are bytes.
 abbrev pub zeros : List ℕ → List ℕ
@@ -124,13 +130,16 @@ pub same-bytes : (l : List ℕ) → Bytes l → isImage l ≡ true → Told l
 unfolding imageOf stateOf isImage
 same-bytes l bytes good =
     let fits = both (endFits l) (coreFits (byteAt l)) (both (eqb (length l) places.length) (bytesFit l) good .1) in
-    let end = both (cycleFits (byteAt l places.bus) (byteAt l places.written)) (unusedZero l) (fits .0) in
-    let bus = same-bus (byteAt l places.bus) (byteAt l places.written) (end .0) in
+    let edition = byteAt l places.edition in
+    let cycle = cycleFits edition (byteAt l places.bus) (byteAt l places.written) in
+    let end = both cycle (editionFits edition && unusedZero l) (fits .0) in
+    let behind = both (editionFits edition) (unusedZero l) (end .1) in
+    let bus = same-bus edition (byteAt l places.bus) (byteAt l places.written) (end .0) in
     (λ i.
     same-pairs (byteAt l) (small l bytes) places.tallies 28 i
     ++ same-core (byteAt l) (channelTally l) (fits .1) i
-    ++ (bus .0 i ∷ bus .1 i ∷ [])
-    ++ same-zeros (from (byteAt l) places.unused (places.length - places.unused)) (end .1) i)
+    ++ (bus .0 i ∷ bus .1 i ∷ same-edition edition (behind .0) i ∷ [])
+    ++ same-zeros (from (byteAt l) places.unused (places.length - places.unused)) (behind .1) i)
     ∙ spelled l places.length (is-long l good)
 
 -- What a slice holds are bytes.

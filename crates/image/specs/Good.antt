@@ -16,6 +16,8 @@ use Rattle.channel.specs.declared.Side.the-variants.{Input, Output}
 use Rattle.channel.specs.declared.Fill.{Fill}
 use Rattle.channel.specs.declared.Fill.the-variants.{Empty, Waiting, Fetching}
 use Rattle.chip.specs.declared.Core.{Core}
+use Rattle.chip.specs.declared.Edition.{Edition}
+use Rattle.chip.specs.declared.Edition.the-variants.{Older, Newer}
 use Rattle.chip.specs.declared.Chip.{Chip}
 use Rattle.chip.specs.Addresses.{control}
 use Rattle.chip.specs.State.{channelOf}
@@ -24,11 +26,16 @@ use Rattle.image.specs.Places as places
 use Rattle.image.specs.Layout.{enablesByte, imageOf}
 use Rattle.image.specs.Loaded.{byteAt, enablesAs, stateOf}
 
--- The first condition for an image: a read that runs names a port, 0 to 2, and a write an address, 0 to 3.
-abbrev pub namesItsPlace : Phase → Bool
-namesItsPlace Idle = true
-namesItsPlace (Reading p) = ltb p 3
-namesItsPlace (Writing a d) = ltb a 4
+-- What can be read: in the older edition the ports, 0 to 2, and in the newer control too, which is 3 ("The 82C55A").
+abbrev pub canBeRead : Edition → ℕ → Bool
+canBeRead Older p = ltb p 3
+canBeRead Newer p = ltb p 4
+
+-- The first condition for an image: a read that runs names what can be read, and a write an address, 0 to 3.
+abbrev pub namesItsPlace : Edition → Phase → Bool
+namesItsPlace ed Idle = true
+namesItsPlace ed (Reading p) = canBeRead ed p
+namesItsPlace ed (Writing a d) = ltb a 4
 
 -- The third and the fourth: no output is fetching, and a channel that the mode word does not strobe is empty.
 abbrev pub allowed : Bool → Side → Fill → Bool
@@ -44,16 +51,21 @@ allowedAt c g s = allowed (strobed (c .word) g s) s (channelOf c g s .fill)
 -- A state has an image where these hold, and bit 7 of its mode word is set, which is the second condition.
 unfoldable pub hasImage : Chip → Bool
 hasImage c =
-    namesItsPlace (c .phase) && bitOf (c .core .word) 7
+    namesItsPlace (c .edition) (c .phase) && bitOf (c .core .word) 7
     && (allowedAt (c .core) A Input && allowedAt (c .core) A Output && allowedAt (c .core) B Input && allowedAt (c .core) B Output)
 
 -- Of bytes: a write runs, and there is a byte that it writes.
 abbrev pub writes : ℕ → Bool
 writes bus = not (ltb bus places.writes) && ltb bus places.idle
 
--- The bus is idle, or a cycle runs at a port or an address; what does not write has no byte to write. Control is not read.
-abbrev pub cycleFits : ℕ → ℕ → Bool
-cycleFits bus byte = not (ltb places.idle bus) && not (eqb bus control) && (writes bus || eqb byte 0)
+-- The bus is idle, or a cycle runs at an address; what does not write has no byte to write. The older edition does not read control.
+abbrev pub cycleFits : ℕ → ℕ → ℕ → Bool
+cycleFits edition bus byte =
+    not (ltb places.idle bus) && not (eqb edition places.older && eqb bus control) && (writes bus || eqb byte 0)
+
+-- There is such an edition.
+abbrev pub editionFits : ℕ → Bool
+editionFits b = not (ltb places.newer b)
 
 -- The enables stand on three bits, and the other five are 0.
 abbrev pub enablesFit : ℕ → Bool
@@ -90,9 +102,11 @@ fillsFit byte = channelFits byte A Input 0 && channelFits byte A Output 1 && cha
 abbrev pub coreFits : (ℕ → ℕ) → Bool
 coreFits byte = bitOf (byte places.word) 7 && fillsFit byte && enablesFit (byte places.enables)
 
--- The bus fits, and what is behind it.
+-- The bus fits, and what is behind it: the edition, and what is not used.
 abbrev pub endFits : List ℕ → Bool
-endFits l = cycleFits (byteAt l places.bus) (byteAt l places.written) && unusedZero l
+endFits l =
+    cycleFits (byteAt l places.edition) (byteAt l places.bus) (byteAt l places.written)
+    && (editionFits (byteAt l places.edition) && unusedZero l)
 
 -- As many bytes as an image has, that are a state's.
 abbrev pub bytesFit : List ℕ → Bool

@@ -12,6 +12,8 @@ use Rattle.channel.specs.declared.Fill.the-variants.{Empty, Waiting, Fetching}
 use Rattle.channel.specs.declared.Tally.{Tally}
 use Rattle.chip.specs.declared.Enables.{Enables}
 use Rattle.chip.specs.declared.Core.{Core}
+use Rattle.chip.specs.declared.Edition.{Edition}
+use Rattle.chip.specs.declared.Edition.the-variants.{Older, Newer}
 use Rattle.chip.specs.declared.Chip.{Chip}
 use Rattle.image.specs.Places as places
 
@@ -43,10 +45,10 @@ fillByte Fetching = 2
 abbrev pub enablesByte : Enables → ℕ
 enablesByte e = byteOf false (e .output) false (e .input) false (e .b) false false
 
--- What runs on the bus: a read at a port, 0 to 2, a write to an address, 0 to 3, or nothing. A cycle elsewhere is no state's with an image.
+-- What runs on the bus: a read at an address, 0 to 3, a write to one, or nothing. A cycle elsewhere is no state's with an image.
 abbrev pub busByte : Phase → ℕ
 busByte Idle = places.idle
-busByte (Reading p) = cond (ltb p 3) p places.nowhere
+busByte (Reading p) = cond (ltb p 4) p places.nowhere
 busByte (Writing a d) = cond (ltb a 4) (places.writes + a) places.nowhere
 
 -- The byte that it writes.
@@ -63,7 +65,7 @@ portBytes c =
     ∷ c .a .input .latch ∷ c .a .output .latch ∷ c .b .input .latch ∷ c .b .output .latch
     ∷ fillByte (c .a .input .fill) ∷ fillByte (c .a .output .fill) ∷ fillByte (c .b .input .fill) ∷ fillByte (c .b .output .fill) ∷ []
 
--- All but the bus: the tallies, these twelve, the mode word and the enables.
+-- All but the bus and the edition: the tallies, these twelve, the mode word and the enables.
 abbrev pub coreBytes : Core → List ℕ
 coreBytes c = ofChannels tallyBytes c ++ portBytes c ++ (c .word ∷ enablesByte (c .inte) ∷ [])
 
@@ -71,6 +73,12 @@ coreBytes c = ofChannels tallyBytes c ++ portBytes c ++ (c .word ∷ enablesByte
 abbrev pub busBytes : Phase → List ℕ
 busBytes ph = busByte ph ∷ writtenByte ph ∷ []
 
+-- Which part the chip is.
+abbrev pub editionByte : Edition → ℕ
+editionByte Older = places.older
+editionByte Newer = places.newer
+
 -- All of it; what is not used is 0.
 unfoldable pub imageOf : Chip → List ℕ
-imageOf c = coreBytes (c .core) ++ busBytes (c .phase) ++ replicate (places.length - places.unused) 0
+imageOf c =
+    coreBytes (c .core) ++ busBytes (c .phase) ++ (editionByte (c .edition) ∷ []) ++ replicate (places.length - places.unused) 0

@@ -13,6 +13,8 @@ use Rattle.channel.specs.declared.Tally.{Tally}
 use Rattle.channel.specs.declared.Channel.{Channel}
 use Rattle.chip.specs.declared.Enables.{Enables}
 use Rattle.chip.specs.declared.Core.{Core}
+use Rattle.chip.specs.declared.Edition.{Edition}
+use Rattle.chip.specs.declared.Edition.the-variants.{Older, Newer}
 use Rattle.chip.specs.declared.Chip.{Chip}
 use Rattle.image.specs.Places as places
 
@@ -52,7 +54,7 @@ enablesAs b = record { input = bitOf b 4; output = bitOf b 6; b = bitOf b 2 }
 abbrev pub channelBy : (ℕ → ℕ) → (ℕ → Tally) → ℕ → Channel
 channelBy byte tally k = record { fill = fillAs (byte (places.conditions + k)); latch = byte (places.latches + k); tally = tally k }
 
--- All but the bus, by the same. Older images have these bytes too, sixteen places further ahead.
+-- All but the bus and the edition, by the same. Older images have these bytes too, sixteen places further ahead.
 abbrev pub coreBy : (ℕ → ℕ) → (ℕ → Tally) → Core
 coreBy byte tally = record {
   word = byte places.word;
@@ -69,16 +71,21 @@ channelTally l k = tallyAt l (places.tallies + places.channelTallies * k)
 abbrev pub channelAt : List ℕ → ℕ → Channel
 channelAt l k = channelBy (byteAt l) (channelTally l) k
 
--- The bus, by its byte and the byte that is written. The port or address is what is left of the first beyond a multiple of 4.
+-- The bus, by its byte and the byte that is written. The address is what is left of the first beyond a multiple of 4.
 abbrev pub phaseAs : ℕ → ℕ → Phase
 phaseAs bus byte =
     cond (ltb bus places.writes) (Reading (bus % places.writes))
     (cond (ltb bus places.idle) (Writing (bus % places.writes) byte)
     Idle)
 
+-- The edition.
+abbrev pub editionAs : ℕ → Edition
+editionAs b = cond (eqb b places.older) Older Newer
+
 -- The whole state.
 unfoldable pub stateOf : List ℕ → Chip
 stateOf l = record {
   phase = phaseAs (byteAt l places.bus) (byteAt l places.written);
+  edition = editionAs (byteAt l places.edition);
   core = coreBy (byteAt l) (channelTally l);
 }

@@ -35,22 +35,26 @@ word = 68
 abbrev pub enables : ℕ
 enables = 69
 
--- What runs on the bus with the port or address that it names, and the byte that it writes.
+-- What runs on the bus with the address that it names, and the byte that it writes.
 abbrev pub bus : ℕ
 bus = 70
 
 abbrev pub written : ℕ
 written = 71
 
+-- The edition.
+abbrev pub edition : ℕ
+edition = 72
+
 -- What is not used, up to the end. All of it is 0.
 abbrev pub unused : ℕ
-unused = 72
+unused = 73
 
 abbrev pub length : ℕ
 length = 96
 
--- The byte of the bus: below `writes` it is the port that is read, from there on the address that is written above it, and `idle` that
--- nothing runs. A state whose cycle names no port or address has `nowhere`, which no image has.
+-- The byte of the bus: below `writes` it is the address that is read, from there on the address that is written above it, and `idle` that
+-- nothing runs. A state whose cycle names no address has `nowhere`, which no image has.
 abbrev pub writes : ℕ
 writes = 4
 
@@ -59,3 +63,10 @@ idle = 8
 
 abbrev pub nowhere : ℕ
 nowhere = 255
+
+-- The byte of the edition. What was saved before there were two has `older` there.
+abbrev pub older : ℕ
+older = 0
+
+abbrev pub newer : ℕ
+newer = 1

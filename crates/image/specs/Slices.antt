@@ -17,7 +17,7 @@ use Rattle.image.specs.Loaded.{stateOf}
 unfoldable pub savedIn : List ℕ → Chip → List ℕ
 savedIn l c = cond (eqb (length l) places.length) (imageOf c) l
 
--- The same of all but the bus alone, and of the bus alone: what is behind stays, and what is before.
+-- The same of all but the bus and the edition, and of the bus alone: what is behind stays, and what is before.
 unfoldable pub coreSavedIn : List ℕ → Core → List ℕ
 coreSavedIn l c = cond (eqb (length l) places.length) (sets l places.tallies (coreBytes c)) l
 

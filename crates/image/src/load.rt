@@ -3,11 +3,12 @@ ghost use mathlib.Core.Path.{_≡_};
 ghost use Prim.Native.Nat.{_+_, _*_, _<_};
 ghost use lib.ListN.{length};
 ghost use Rattle.image.specs.Places as places;
-ghost use Rattle.image.specs.Loaded.{wideAt, tallyAt, fillAs, channelAt, enablesAs, phaseAs, stateOf};
+ghost use Rattle.image.specs.Loaded.{wideAt, tallyAt, fillAs, channelAt, enablesAs, phaseAs, editionAs, stateOf};
 ghost use Rattle.image.specs.Slices.{loadedFrom};
 use super::places::BUS;
 use super::places::CHANNEL_TALLIES;
 use super::places::CONDITIONS;
+use super::places::EDITION;
 use super::places::ENABLES;
 use super::places::IDLE;
 use super::places::LATCH_C;
@@ -16,6 +17,7 @@ use super::places::LENGTH;
 use super::places::LEVELS_A;
 use super::places::LEVELS_B;
 use super::places::LEVELS_C;
+use super::places::OLDER;
 use super::places::TALLIES;
 use super::places::WORD;
 use super::places::WRITES;
@@ -26,6 +28,7 @@ use channel::Fill;
 use channel::Tally;
 use chip::Chip;
 use chip::Core;
+use chip::Edition;
 use chip::Enables;
 use chip::Port;
 use chip::PortC;
@@ -118,6 +121,17 @@ fn phase(bus: u8, written: u8) -> Phase
     }
 }
 
+// The edition that a byte tells.
+pub fn edition(byte: u8) -> Edition
+    ensures { λ r. ⌜ r ≡ editionAs byte ⌝ }
+{
+    if byte == OLDER {
+        Edition::Older
+    } else {
+        Edition::Newer
+    }
+}
+
 fn whole(image: &[u8]) -> Chip
     requires { ⌜ length (now image) ≡ places.length ⌝ }
     ensures { λ r. ⌜ r ≡ stateOf (now (image .entry)) ⌝ }
@@ -134,6 +148,7 @@ fn whole(image: &[u8]) -> Chip
     };
     Chip {
         phase: phase(image[BUS], image[WRITTEN]),
+        edition: edition(image[EDITION]),
         core,
     }
 }

@@ -23,20 +23,27 @@ pub const WORD: usize = 68;
 
 pub const ENABLES: usize = 69;
 
-// What runs on the bus with the port or address that it names, and the byte that it writes.
+// What runs on the bus with the address that it names, and the byte that it writes.
 pub const BUS: usize = 70;
 
 pub const WRITTEN: usize = 71;
 
+pub const EDITION: usize = 72;
+
 // What is not used, up to the end. All of it is 0.
-pub const UNUSED: usize = 72;
+pub const UNUSED: usize = 73;
 
 pub const LENGTH: usize = 96;
 
-// The byte of the bus: below WRITES it is the port that is read, from there on the address that is written above it, and IDLE that nothing
-// runs. A chip whose cycle names no port or address has NOWHERE, which no image has.
+// The byte of the bus: below WRITES it is the address that is read, from there on the address that is written above it, and IDLE that nothing
+// runs. A chip whose cycle names no address has NOWHERE, which no image has.
 pub const WRITES: u8 = 4;
 
 pub const IDLE: u8 = 8;
 
 pub const NOWHERE: u8 = 255;
+
+// The byte of the edition. What was saved before there were two has OLDER there.
+pub const OLDER: u8 = 0;
+
+pub const NEWER: u8 = 1;

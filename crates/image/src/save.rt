@@ -5,18 +5,20 @@ ghost use Prim.Native.Nat.{_+_, _<_};
 ghost use lib.ListN.{length, replicate};
 ghost use lib.Seq.{sets};
 ghost use Rattle.image.specs.Places as places;
-ghost use Rattle.image.specs.Layout.{wideBytes, tallyBytes, ofChannels, fillByte, enablesByte, busByte, writtenByte, portBytes, coreBytes, busBytes, imageOf};
+ghost use Rattle.image.specs.Layout.{wideBytes, tallyBytes, ofChannels, fillByte, enablesByte, busByte, writtenByte, portBytes, coreBytes, busBytes, editionByte, imageOf};
 ghost use Rattle.image.specs.Slices.{savedIn, coreSavedIn, busSavedIn};
 use super::places::BUS;
 use super::places::CHANNEL_TALLIES;
 use super::places::CONDITIONS;
+use super::places::EDITION;
 use super::places::IDLE;
 use super::places::LATCHES;
 use super::places::LENGTH;
 use super::places::LEVELS_A;
+use super::places::NEWER;
 use super::places::NOWHERE;
+use super::places::OLDER;
 use super::places::TALLIES;
-use super::places::UNUSED;
 use super::places::WORD;
 use super::places::WRITES;
 use bus::Phase;
@@ -25,6 +27,7 @@ use channel::Fill;
 use channel::Tally;
 use chip::Chip;
 use chip::Core;
+use chip::Edition;
 use chip::Enables;
 
 fn put_two(image: &mut [u8], at: usize, x: u8, y: u8)
@@ -112,7 +115,7 @@ fn bus_byte(phase: Phase) -> u8
 {
     match phase {
         Phase::Idle => IDLE,
-        Phase::Reading(port) => { if port < 3 { port } else { NOWHERE } }
+        Phase::Reading(address) => { if address < 4 { address } else { NOWHERE } }
         Phase::Writing(address, _) => {
             if address < 4 {
                 WRITES + address
@@ -130,6 +133,15 @@ fn written(phase: Phase) -> u8
         Phase::Idle => 0,
         Phase::Reading(_) => 0,
         Phase::Writing(_, byte) => byte,
+    }
+}
+
+fn edition_byte(edition: Edition) -> u8
+    ensures { λ r. ⌜ r ≡ editionByte edition ⌝ }
+{
+    match edition {
+        Edition::Older => OLDER,
+        Edition::Newer => NEWER,
     }
 }
 
@@ -184,11 +196,13 @@ fn whole(image: &mut [u8], chip: Chip)
     ensures { λ _. ⌜ now (image .exit) ≡ imageOf chip ⌝ }
 {
     let phase = chip.phase;
+    let edition = chip.edition;
     put_core(image, chip.core);
     put_bus(image, phase);
-    put_zeros(image, UNUSED);
-    put_zeros(image, UNUSED + 8);
-    put_zeros(image, UNUSED + 16);
+    put_four(image, EDITION, edition_byte(edition), 0, 0, 0);
+    put_four(image, EDITION + 4, 0, 0, 0, 0);
+    put_zeros(image, EDITION + 8);
+    put_zeros(image, EDITION + 16);
 }
 
 // The state's image, written over the bytes. Those of another length are left alone.
@@ -200,7 +214,7 @@ pub fn state(image: &mut [u8], chip: Chip)
     }
 }
 
-// All but the bus, for who has an image and leaves the bus alone.
+// All but the bus and the edition, for who has an image and leaves these alone.
 pub fn core(image: &mut [u8], core: Core)
     ensures { λ _. ⌜ now (image .exit) ≡ coreSavedIn (now (image .entry)) core ⌝ }
 {

@@ -27,11 +27,11 @@ use Rattle.laws.proofs.Cycles.{no-kind-refused}
 -- What is so of the chip that the end of each cycle leaves: of a read, and of a write of a mode word, of bit set/reset, to port C, and to any other
 -- address.
 pub record Ended (P : Chip → Type 0) (c : Chip) : Type 0 where
-  pub read : (p : ℕ) → c .phase ≡ Reading p → P (onBus Idle (afterReadEnds (c .core) p))
-  pub modeWord : (w : ℕ) → c .phase ≡ Writing 3 w → bitOf w 7 ≡ true → P (onBus Idle (afterModeWord (c .core) w))
-  pub bitWord : (w : ℕ) → c .phase ≡ Writing 3 w → bitOf w 7 ≡ false → P (onBus Idle (afterControlWord (c .core) w))
-  pub lines : (d : ℕ) → c .phase ≡ Writing 2 d → P (onBus Idle (withLatch (c .core) (latchWritten (c .core .word) (c .core .c .latch) d)))
-  pub port : (a d : ℕ) → c .phase ≡ Writing a d → (c′ : Core) → Stored c′ (c .core) a d → P (onBus Idle c′)
+  pub read : (p : ℕ) → c .phase ≡ Reading p → P (onBus Idle (c .edition) (afterReadEnds (c .core) p))
+  pub modeWord : (w : ℕ) → c .phase ≡ Writing 3 w → bitOf w 7 ≡ true → P (onBus Idle (c .edition) (afterModeWord (c .core) w))
+  pub bitWord : (w : ℕ) → c .phase ≡ Writing 3 w → bitOf w 7 ≡ false → P (onBus Idle (c .edition) (afterControlWord (c .core) w))
+  pub lines : (d : ℕ) → c .phase ≡ Writing 2 d → P (onBus Idle (c .edition) (withLatch (c .core) (latchWritten (c .core .word) (c .core .c .latch) d)))
+  pub port : (a d : ℕ) → c .phase ≡ Writing a d → (c′ : Core) → Stored c′ (c .core) a d → P (onBus Idle (c .edition) c′)
 
 -- It is so after the end of any cycle, and where there is none to end, if it is so of the chip as it is.
 pub by-end : (P : Chip → Type 0) (c : Chip) (x d : ℕ) → P c → Ended P c → P (stepOf c 2 x d .chip)
@@ -39,7 +39,7 @@ by-end P c x d stays e =
     by-phase P c x d
     (λ idle. stays)
     (e .read)
-    (λ a b phase. by-write (λ c′. P (onBus Idle c′)) (c .core) a b (record {
+    (λ a b phase. by-write (λ c′. P (onBus Idle (c .edition) c′)) (c .core) a b (record {
       modeWord = λ three seven. e .modeWord b (phase ∙ ap (λ a. Writing a b) three) seven;
       bitWord = λ three seven. e .bitWord b (phase ∙ ap (λ a. Writing a b) three) seven;
       lines = λ two. e .lines b (phase ∙ ap (λ a. Writing a b) two);
@@ -53,11 +53,11 @@ not-anew {ph = ph} other phase seven = absurd (contrary (makesAnew ph) other (ap
 -- What is so of the chip as it is, and of what each kind of event leaves of it where it is accepted.
 pub record Through (P : Chip → Type 0) (c : Chip) (k x d : ℕ) : Type 0 where
   pub stays : P c
-  pub reset : k ≡ 0 → P (onBus Idle (afterModeWord (c .core) powerUpWord))
-  pub readBegins : k ≡ 1 → numberOf limits (c .phase) 1 x ≡ 0 → P (onBus (Reading x) (afterReadBegins (c .core) x))
+  pub reset : k ≡ 0 → P (onBus Idle (c .edition) (afterModeWord (c .core) powerUpWord))
+  pub readBegins : k ≡ 1 → numberOf (limits (c .edition)) (c .phase) 1 x ≡ 0 → P (onBus (Reading x) (c .edition) (afterReadBegins (c .core) x))
   pub ends : k ≡ 2 → Ended P c
-  pub writeBegins : k ≡ 3 → numberOf limits (c .phase) 3 x ≡ 0 → P (onBus (Writing x d) (c .core))
-  pub levels : k ≡ 5 → numberOf limits (c .phase) 5 x ≡ 0 → P (onBus (c .phase) (afterLevels (c .core) x d))
+  pub writeBegins : k ≡ 3 → numberOf (limits (c .edition)) (c .phase) 3 x ≡ 0 → P (onBus (Writing x d) (c .edition) (c .core))
+  pub levels : k ≡ 5 → numberOf (limits (c .edition)) (c .phase) 5 x ≡ 0 → P (onBus (c .phase) (c .edition) (afterLevels (c .core) x d))
 
 -- It is so after any event.
 pub by-event : (P : Chip → Type 0) (c : Chip) (k x d : ℕ) → Through P c k x d → P (stepOf c k x d .chip)

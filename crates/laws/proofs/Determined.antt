@@ -88,6 +88,9 @@ clear-determined c x y = equation-determines
 pub force-determined : Determines channel.force.ended channel.force.Reads.Learnt
 force-determined c x y = equation-determines
 
+pub power-up-as-determined : Determines chip.power_up_as.ended chip.power_up_as.Reads.Learnt
+power-up-as-determined c x y = equation-determines
+
 pub power-up-with-levels-determined : Determines chip.power_up_with_levels.ended chip.power_up_with_levels.Reads.Learnt
 power-up-with-levels-determined c x y = equation-determines
 

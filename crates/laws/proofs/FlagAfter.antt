@@ -11,6 +11,7 @@ use Rattle.bus.specs.Refusals.{numberOf}
 use Rattle.bus.specs.declared.Phase.{Phase}
 use Rattle.control.specs.declared.Group.{Group}
 use Rattle.channel.specs.declared.Side.{Side}
+use Rattle.chip.specs.declared.Edition.{Edition}
 use Rattle.chip.specs.declared.Chip.{Chip}
 use Rattle.chip.specs.Handshakes.{strobed, linePin, flagPin}
 use Rattle.status.specs.Status.{flagAt}
@@ -36,6 +37,6 @@ pub seen-falls : (c : Chip) (g : Group) (s : Side) (x d : ℕ) → strobed (c .c
 unfolding fallen
 seen-falls c g s x d on = rw (on, line-pin c g s on)
 
-pub levels-accepted : (ph : Phase) → numberOf limits ph 5 2 ≡ 0
+pub levels-accepted : (ed : Edition) (ph : Phase) → numberOf (limits ed) ph 5 2 ≡ 0
 unfolding numberOf isKind
-levels-accepted ph = refl
+levels-accepted ed ph = refl

@@ -15,6 +15,7 @@ use Rattle.control.specs.declared.Group.{Group}
 use Rattle.channel.specs.declared.Side.{Side}
 use Rattle.channel.specs.declared.Side.the-variants.{Input, Output}
 use Rattle.channel.specs.declared.Fill.{Fill}
+use Rattle.chip.specs.declared.Edition.{Edition}
 use Rattle.chip.specs.declared.Chip.{Chip}
 use Rattle.chip.specs.State.{channelOf}
 use Rattle.chip.specs.Handshakes.{ownAddress, running}
@@ -51,10 +52,10 @@ own-or-spared (Reading p) g Output = refl
 own-or-spared (Writing a d) g Input = refl
 own-or-spared (Writing a d) g Output = refl
 
-begins-idle : (ph : Phase) (k x : ℕ) → begins k ≡ true → numberOf limits ph k x ≡ 0 → ph ≡ Idle
-begins-idle Idle k x b ok = refl
-begins-idle (Reading p) k x b ok = absurd (row-refuses (Reading p) k x 3 (rw (b)) ok)
-begins-idle (Writing a d) k x b ok = absurd (row-refuses (Writing a d) k x 3 (rw (b)) ok)
+begins-idle : (ed : Edition) (ph : Phase) (k x : ℕ) → begins k ≡ true → numberOf (limits ed) ph k x ≡ 0 → ph ≡ Idle
+begins-idle ed Idle k x b ok = refl
+begins-idle ed (Reading p) k x b ok = absurd (row-refuses ed (Reading p) k x 3 (rw (b)) ok)
+begins-idle ed (Writing a d) k x b ok = absurd (row-refuses ed (Writing a d) k x 3 (rw (b)) ok)
 
 -- A cycle that is not a half's own leaves it.
 module _ (c : Chip) (g : Group) (s : Side) where
@@ -64,8 +65,8 @@ module _ (c : Chip) (g : Group) (s : Side) where
   abbrev SameFill : Fill → Type 0
   SameFill f = f ≡ channelOf (c .core) g s .fill
 
-  idle-runs : (k x : ℕ) → begins k ≡ true → numberOf limits (c .phase) k x ≡ 0 → running (c .phase) g s ≡ false
-  idle-runs k x b ok = rw (begins-idle (c .phase) k x b ok) (none-runs g s)
+  idle-runs : (k x : ℕ) → begins k ≡ true → numberOf (limits (c .edition)) (c .phase) k x ≡ 0 → running (c .phase) g s ≡ false
+  idle-runs k x b ok = rw (begins-idle (c .edition) (c .phase) k x b ok) (none-runs g s)
 
   read-leaves : (x d : ℕ) → running (Reading x) g s ≡ false → Same (stepOf c 1 x d .chip)
   read-leaves x d none =

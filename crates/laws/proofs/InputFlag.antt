@@ -64,7 +64,7 @@ module _ (c : Chip) (g : Group) (on : strobed (c .core .word) g Input ≡ true) 
   -- The fall of STB sets IBF.
   pub strobe-sets-ibf : (d : ℕ) → pin c (linePin g Input) ≡ true → bitOf d (linePin g Input) ≡ false → pin (stepOf c 5 2 d .chip) (flagPin g Input) ≡ true
   strobe-sets-ibf d high low =
-      rw (step-accepts c 5 2 d (levels-accepted (c .phase)))
+      rw (step-accepts c 5 2 d (levels-accepted (c .edition) (c .phase)))
       (flag-under c _ g Input on (levels-word (c .core) 2 d) ∙ strobe-sets (c .core) d g (line-falls c g Input d on high low))
 
   -- The end of the read resets IBF.

@@ -120,7 +120,7 @@ module _ (c : Chip) (g : Group) where
 
   -- A port that the mode word strobes reads as its input latch, in every core that has this word.
   latch-read : (x : ℕ) (c′ : Core) → strobed (c .core .word) g Input ≡ true → c′ .word ≡ c .core .word → ownAddress x g ≡ true
-      → readOf (record { phase = c .phase; core = c′ }) x ≡ channelOf c′ g Input .latch
+      → readOf (record { phase = c .phase; edition = c .edition; core = c′ }) x ≡ channelOf c′ g Input .latch
   latch-read x c′ on same own = own-read _ x g own ∙ strobed-reads _ g _ (rw (same) (on))
 
   -- Levels that come onto the port's own lines while the pins show STB low are what a read of the port then answers, whatever the channel's
@@ -129,14 +129,14 @@ module _ (c : Chip) (g : Group) where
       → readOf (stepOf c 5 x d .chip) x ≡ d
   low-follows x d on low own =
       let through : letsThrough (c .core) g ≡ true = rw (on, sym (line-pin c g Input on) ∙ low) in
-      rw (step-accepts c 5 x d (own-accepted (c .phase) x g own))
+      rw (step-accepts c 5 x d (own-accepted (c .edition) (c .phase) x g own))
       (latch-read x (afterLevels (c .core) x d) on (levels-word (c .core) x d) own ∙ through-latch (c .core) g x d own through)
 
   -- A fall of STB brings in what stands on the port's lines.
   pub fall-loads : (x d : ℕ) → strobed (c .core .word) g Input ≡ true → seen ≡ true → bitOf d (linePin g Input) ≡ false → ownAddress x g ≡ true
       → readOf (stepOf c 5 2 d .chip) x ≡ portOf (c .core) g .outside
   fall-loads x d on high low own =
-      rw (step-accepts c 5 2 d (levels-accepted (c .phase)))
+      rw (step-accepts c 5 2 d (levels-accepted (c .edition) (c .phase)))
       (latch-read x (afterLevels (c .core) 2 d) on (levels-word (c .core) 2 d) own
       ∙ fallen-latch (c .core) g d (line-falls c g Input d on high low))
 

@@ -91,8 +91,8 @@ none-runs g Input = refl
 none-runs g Output = refl
 
 -- The own cycle runs from its beginning: an accepted read for an input, an accepted write for an output.
-pub begun-read-runs : (c : Chip) (g : Group) (x d : ℕ) → numberOf limits (c .phase) 1 x ≡ 0 → running (stepOf c 1 x d .chip .phase) g Input ≡ ownAddress x g
+pub begun-read-runs : (c : Chip) (g : Group) (x d : ℕ) → numberOf (limits (c .edition)) (c .phase) 1 x ≡ 0 → running (stepOf c 1 x d .chip .phase) g Input ≡ ownAddress x g
 begun-read-runs c g x d ok = rw (step-accepts c 1 x d ok)
 
-pub begun-write-runs : (c : Chip) (g : Group) (x d : ℕ) → numberOf limits (c .phase) 3 x ≡ 0 → running (stepOf c 3 x d .chip .phase) g Output ≡ ownAddress x g
+pub begun-write-runs : (c : Chip) (g : Group) (x d : ℕ) → numberOf (limits (c .edition)) (c .phase) 3 x ≡ 0 → running (stepOf c 3 x d .chip .phase) g Output ≡ ownAddress x g
 begun-write-runs c g x d ok = rw (step-accepts c 3 x d ok)

@@ -25,6 +25,10 @@ pub mod PortC
 pub mod Chart
 pub mod OtherModels
 pub mod Marked
+pub mod ShowsAlike
+pub mod Editions
+pub mod ControlReads
+pub mod ControlExamples
 pub mod Determined
 pub mod Unreached
 pub mod Unstrobed

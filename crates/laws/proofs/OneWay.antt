@@ -123,5 +123,5 @@ pub input-follows : (c : Chip) (g : Group) (a d : ℕ) → ownAddress a g ≡ tr
     → handshake (c .core .word) g ≡ false → readOf (stepOf c 5 a d .chip) a ≡ d
 input-follows c g a d own taking none =
     let same = levels-word (c .core) a d in
-    rw (step-accepts c 5 a d (own-accepted (c .phase) a g own))
+    rw (step-accepts c 5 a d (own-accepted (c .edition) (c .phase) a g own))
     (input-undriven _ g a own (rw (same) (taking)) .answers ∙ rw (levels-ports (c .core) a d g, own, same, none))

@@ -50,13 +50,13 @@ flag-same : (c : Core) (x : ℕ) (g : Group) (s : Side) → flagAt (withLatch c 
 flag-same c x A s = refl
 flag-same c x B s = refl
 
-intr-same : (c : Chip) (b x : ℕ) (g : Group) → c .phase ≡ Writing 2 b → intrOf (onBus Idle (withLatch (c .core) x)) g ≡ intrOf c g
+intr-same : (c : Chip) (b x : ℕ) (g : Group) → c .phase ≡ Writing 2 b → intrOf (onBus Idle (c .edition) (withLatch (c .core) x)) g ≡ intrOf c g
 unfolding intrOf requestOf
 intr-same c b x A phase = rw (phase)
 intr-same c b x B phase = rw (phase)
 
 level-same : (c : Chip) (b x n : ℕ) (r : Role) → c .phase ≡ Writing 2 b → bitOf x n ≡ bitOf (c .core .c .latch) n
-    → levelAs (onBus Idle (withLatch (c .core) x)) n r ≡ levelAs c n r
+    → levelAs (onBus Idle (c .edition) (withLatch (c .core) x)) n r ≡ levelAs c n r
 level-same c b x n input phase same = refl
 level-same c b x n output phase same = same
 level-same c b x n INTR phase same = intr-same c b x (groupAt n) phase
@@ -71,7 +71,7 @@ unfolding afterWriteEnds
 write-leaves-upper-pins c b x d n phase beside above below =
     let latch = latchWritten (c .core .word) (c .core .c .latch) b in
     rw (write-ends c 2 b x d phase)
-    (pin-by-role (onBus Idle (withLatch (c .core) latch)) n below
+    (pin-by-role (onBus Idle (c .edition) (withLatch (c .core) latch)) n below
     ∙ level-same c b latch n (roleOf (c .core .word) n) phase (upper-stays (c .core .word) (c .core .c .latch) b n beside above below)
     ∙ sym (pin-by-role c n below))
 

@@ -65,7 +65,7 @@ module _ (c : Chip) (g : Group) (on : strobed (c .core .word) g Output ≡ true)
   -- The fall of ACK raises it.
   pub ack-raises-obf : (d : ℕ) → pin c (linePin g Output) ≡ true → bitOf d (linePin g Output) ≡ false → pin (stepOf c 5 2 d .chip) (flagPin g Output) ≡ true
   ack-raises-obf d high low =
-      rw (step-accepts c 5 2 d (levels-accepted (c .phase)))
+      rw (step-accepts c 5 2 d (levels-accepted (c .edition) (c .phase)))
       (flag-under c _ g Output on (levels-word (c .core) 2 d) ∙ ack-raises (c .core) d g (line-falls c g Output d on high low))
 
   -- As long as the word strobes the channel, OBF stays as it is through every event but those that are named to move it.

@@ -9,6 +9,7 @@ use Rattle.bus.specs.Refusals.{numberOf}
 use Rattle.bus.specs.declared.Phase.{Phase}
 use Rattle.control.specs.declared.Group.{Group}
 use Rattle.control.specs.declared.Group.the-variants.{A, B}
+use Rattle.chip.specs.declared.Edition.{Edition}
 use Rattle.chip.specs.declared.Chip.{Chip}
 use Rattle.chip.specs.State.{portOf}
 use Rattle.chip.specs.Handshakes.{ownAddress}
@@ -16,10 +17,10 @@ use Rattle.ports.specs.Reads.{readPort, readOf}
 use Rattle.ports.specs.Pins.{drivesPort, pinsOfPort, pinsOf}
 use Rattle.step.specs.Step.{limits}
 
-pub own-accepted : (ph : Phase) (a : ℕ) (g : Group) → ownAddress a g ≡ true → numberOf limits ph 5 a ≡ 0
+pub own-accepted : (ed : Edition) (ph : Phase) (a : ℕ) (g : Group) → ownAddress a g ≡ true → numberOf (limits ed) ph 5 a ≡ 0
 unfolding numberOf isKind
-own-accepted ph a A own = rw (eqb-true a 0 own)
-own-accepted ph a B own = rw (eqb-true a 1 own)
+own-accepted ed ph a A own = rw (eqb-true a 0 own)
+own-accepted ed ph a B own = rw (eqb-true a 1 own)
 
 pub own-pins : (c : Chip) (a : ℕ) (g : Group) → ownAddress a g ≡ true → pinsOf c a ≡ pinsOfPort (portOf (c .core) g) (drivesPort (c .core) g)
 unfolding pinsOf

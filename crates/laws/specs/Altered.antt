@@ -46,10 +46,10 @@ lineRaised c g s = record {
 
 -- The chip with that one cause of a low half altered, and nothing else: the enable set, the flag made right, the line raised, or the bus idle.
 abbrev pub altered : Chip → Group → Side → Reason → Chip
-altered c g s EnableOff = record { phase = c .phase; core = withEnables (c .core) (enabled (c .core .inte) g s true) }
-altered c g s FlagWrong = record { phase = c .phase; core = withChannel (c .core) g s (righted s (channelOf (c .core) g s)) }
-altered c g s LineLow = record { phase = c .phase; core = lineRaised (c .core) g s }
-altered c g s OwnCycle = record { phase = Idle; core = c .core }
+altered c g s EnableOff = record { phase = c .phase; edition = c .edition; core = withEnables (c .core) (enabled (c .core .inte) g s true) }
+altered c g s FlagWrong = record { phase = c .phase; edition = c .edition; core = withChannel (c .core) g s (righted s (channelOf (c .core) g s)) }
+altered c g s LineLow = record { phase = c .phase; edition = c .edition; core = lineRaised (c .core) g s }
+altered c g s OwnCycle = record { phase = Idle; edition = c .edition; core = c .core }
 altered c g s High = c
 
 -- A half that is high: its channel asks for an interrupt, it is named so, and the pin view shows INTR high.

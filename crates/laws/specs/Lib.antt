@@ -14,3 +14,5 @@ pub mod Halves
 pub mod Quiet
 pub mod Altered
 pub mod Marked
+pub mod Editions
+pub mod ControlExamples

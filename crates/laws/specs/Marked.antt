@@ -6,7 +6,8 @@ use Rattle.events.specs.Event.{Event, event}
 use Rattle.events.specs.Histories.{write, levels, readFrom, cycleEnd}
 use Rattle.control.specs.declared.Group.the-variants.{A}
 use Rattle.channel.specs.declared.Side.the-variants.{Input}
-use Rattle.chip.specs.State.{allHigh, powerUpWith, tallyOf}
+use Rattle.chip.specs.declared.Edition.{Edition}
+use Rattle.chip.specs.State.{allHigh, powerUpAs, tallyOf}
 use Rattle.ports.specs.Reads.{readOf}
 use Rattle.ports.specs.Pins.{pinsOf}
 use Rattle.step.specs.declared.Stepped.{Stepped}
@@ -46,9 +47,9 @@ abbrev pub answers : Stepped → List Asked → List ℕ
 answers s [] = []
 answers s (q ∷ later) = answer s q ∷ answers s later
 
--- What the model gives: each case begins at a power-up with every line high.
-abbrev pub given : Case → List ℕ
-given c = answers (after (accepted (powerUpWith allHigh) 0) (c .history)) (c .asked)
+-- What the model gives, of either edition: each case begins at a power-up with every line high.
+abbrev pub given : Edition → Case → List ℕ
+given ed c = answers (after (accepted (powerUpAs ed allHigh) 0) (c .history)) (c .asked)
 
 -- A case, written in one line.
 infixl 60 _asks_gives_

@@ -1,4 +1,4 @@
--- A state in which nothing was planted or struck comes back from its older image.
+-- A state of the older edition in which nothing was planted or struck comes back from its older image.
 -- Rests on image's ComesBack.
 use mathlib.Core.Path.{_≡_, refl, sym}
 use Rattle.bus.specs.declared.Phase.{Phase}
@@ -29,8 +29,9 @@ five-back ch planted struck = channel-back ch 0 0 (sym planted) (sym struck)
 
 pub comes-back : (c : Chip) → FromBefore c → olderState (olderOf c) ≡ c
 unfolding olderState olderOf
-comes-back c none = λ i. record {
+comes-back c (older, none) = λ i. record {
   phase = phase-back (c .phase) i;
+  edition = sym older i;
   core = record {
     word = c .core .word;
     a = record {

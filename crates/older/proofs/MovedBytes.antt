@@ -17,8 +17,8 @@ use Rattle.older.specs.Loaded.{coreByte, olderState}
 use Rattle.older.specs.Good.{unusedZero}
 use Rattle.older.specs.Slices.{movedOf}
 
--- Those of a state in which nothing was planted or struck are its image, but for the bus.
-pub moved-image : (l : List ℕ) → movedOf (olderOf (olderState l)) ≡ imageOf (record { phase = Idle; core = olderState l .core })
+-- Those of a state that an older image tells are its image, but for the bus.
+pub moved-image : (l : List ℕ) → movedOf (olderOf (olderState l)) ≡ imageOf (record { phase = Idle; edition = olderState l .edition; core = olderState l .core })
 unfolding olderOf olderState imageOf
 moved-image l = refl
 
@@ -31,7 +31,7 @@ abbrev part : List ℕ → ℕ → ℕ → List ℕ
 part l from end = take (end - from) (drop from l)
 
 abbrev start : List ℕ
-start = set (replicate now.length 0) now.bus now.idle
+start = set (set (replicate now.length 0) now.bus now.idle) now.edition now.older
 
 abbrev pub parts : List ℕ → List ℕ
 parts l =

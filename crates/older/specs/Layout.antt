@@ -1,5 +1,5 @@
 -- The older image of a chip: the bytes in which earlier versions saved it, part by part in the order of Places. The tallies of bytes
--- that were planted and struck are in none of them.
+-- that were planted and struck are in none of them, and neither is the edition.
 use mathlib.Core.List.{List, _∷_, _++_}
 use Prim.Native.Nat.{ℕ, _-_}
 use lib.ListN.{replicate}

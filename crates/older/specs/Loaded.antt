@@ -1,4 +1,4 @@
--- The state that an older image tells, byte by byte. Nothing had been planted or struck when it was saved.
+-- The state that an older image tells, byte by byte. Nothing had been planted or struck when it was saved, and there was one edition.
 use mathlib.Core.Bool.{cond}
 use mathlib.Core.List.{List}
 use Prim.Native.Nat.{ℕ, _+_, _-_, _*_}
@@ -6,6 +6,7 @@ use lib.Dec.{eqb}
 use Rattle.bus.specs.declared.Phase.{Phase}
 use Rattle.bus.specs.declared.Phase.the-variants.{Idle, Reading, Writing}
 use Rattle.channel.specs.declared.Tally.{Tally}
+use Rattle.chip.specs.declared.Edition.the-variants.{Older}
 use Rattle.chip.specs.declared.Chip.{Chip}
 use Rattle.image.specs.Loaded.{byteAt, wideAt, coreBy}
 use Rattle.older.specs.Places as places
@@ -34,5 +35,6 @@ phaseAs bus address byte = cond (eqb bus 0) Idle (cond (eqb bus 1) (Reading addr
 unfoldable pub olderState : List ℕ → Chip
 olderState l = record {
   phase = phaseAs (byteAt l places.bus) (byteAt l places.address) (byteAt l places.written);
+  edition = Older;
   core = coreBy (coreByte l) (channelTally l);
 }

@@ -15,13 +15,13 @@ use Rattle.older.specs.Loaded.{olderState}
 abbrev pub widened : List ℕ → ℕ → List ℕ
 widened l k = from (byteAt l) (places.tallies + places.channelTallies * k) places.channelTallies ++ replicate 4 0
 
--- The bytes at the places of an image, on an idle bus; what is not used is moved too.
+-- The bytes at the places of an image of the older edition, on an idle bus; what is not used is moved too.
 abbrev pub movedOf : List ℕ → List ℕ
 movedOf l =
     widened l 0 ++ widened l 1 ++ widened l 2 ++ widened l 3
     ++ from (byteAt l) places.levelsA (places.bus - places.levelsA)
-    ++ (now.idle ∷ 0 ∷ [])
-    ++ from (byteAt l) places.unused (places.length - places.unused) ++ replicate 17 0
+    ++ (now.idle ∷ 0 ∷ now.older ∷ [])
+    ++ from (byteAt l) places.unused (places.length - places.unused) ++ replicate 16 0
 
 -- The same on the bus that the bytes tell.
 abbrev pub convertedOf : List ℕ → List ℕ

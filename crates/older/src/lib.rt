@@ -30,13 +30,14 @@ fn put(moved: &mut [u8], at: usize, older: &[u8], from: usize, end: usize)
     bytes::copy(&older[from..end], &mut moved[at..]);
 }
 
-// The bytes at the places of an image, on an idle bus. The two tallies that an older image lacks are 0.
+// The bytes at the places of an image of the older edition, on an idle bus. The two tallies that an older image lacks are 0.
 fn moved(older: &[u8]) -> [u8; now::LENGTH]
     requires { ⌜ length (now older) ≡ places.length ⌝ }
     ensures { λ r. ⌜ r ≡ movedOf (now (older .entry)) ⌝ }
 {
     let mut moved = [0u8; now::LENGTH];
     moved[now::BUS] = now::IDLE;
+    moved[now::EDITION] = now::OLDER;
     put(&mut moved, now::TALLIES, older, TALLIES, CHANNEL_TALLIES);
     put(
         &mut moved,

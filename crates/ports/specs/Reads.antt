@@ -1,8 +1,8 @@
--- What a read answers ("Reads and pins").
-use mathlib.Core.Bool.{Bool, cond}
+-- What a read answers ("Reads and pins", "The 82C55A").
+use mathlib.Core.Bool.{Bool, true, cond}
 use Prim.Native.Nat.{ℕ}
 use lib.Dec.{eqb}
-use Rattle.bits.specs.Bit.{bitOf, assembled}
+use Rattle.bits.specs.Bit.{bitOf, assembled, withBit}
 use Rattle.control.specs.declared.Group.{Group}
 use Rattle.control.specs.declared.Group.the-variants.{A, B}
 use Rattle.control.specs.Mode.{strobedInput, outputOf}
@@ -10,7 +10,7 @@ use Rattle.roles.specs.Role.{Role, input, output, INTR, IBF, OBF, STB, ACK, rol
 use Rattle.channel.specs.declared.Side.the-variants.{Input, Output}
 use Rattle.chip.specs.declared.Port.{Port}
 use Rattle.chip.specs.declared.Chip.{Chip}
-use Rattle.chip.specs.Addresses.{portA, portB, portC}
+use Rattle.chip.specs.Addresses.{portA, portB, portC, control}
 use Rattle.chip.specs.Handshakes.{groupAt, enableOf}
 use Rattle.status.specs.Status.{flagAt, intrOf}
 
@@ -34,10 +34,16 @@ readAs c n ACK = enableOf (c .core .inte) (groupAt n) Output
 unfoldable pub readLines : Chip → ℕ
 readLines c = assembled (λ n. readAs c n (roleOf (c .core .word) n))
 
--- A port by its address; where there is no port a read gives 00 ("Events and numbers").
+-- Control gives the last mode word, with bit 7 set, whatever bit set/reset has done since ("The 82C55A").
+unfoldable pub readControl : ℕ → ℕ
+readControl w = withBit w 7 true
+
+-- A port by its address, or control; where there is neither, a read gives 00 ("Events and numbers"). That the older edition does not read control is
+-- a refusal, and is not asked here.
 unfoldable pub readOf : Chip → ℕ → ℕ
 readOf c p =
     cond (eqb p portA) (readPort (c .core .word) A (c .core .a))
     (cond (eqb p portB) (readPort (c .core .word) B (c .core .b))
     (cond (eqb p portC) (readLines c)
-    0))
+    (cond (eqb p control) (readControl (c .core .word))
+    0)))

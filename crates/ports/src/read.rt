@@ -1,6 +1,6 @@
 // The value of a read.
 ghost use mathlib.Core.Path.{_≡_};
-ghost use Rattle.ports.specs.Reads.{readPort, readLines, readOf};
+ghost use Rattle.ports.specs.Reads.{readPort, readLines, readControl, readOf};
 use chip::Chip;
 use chip::Port;
 use control::Group;
@@ -29,15 +29,25 @@ fn lines(chip: Chip) -> u8
     bits::blend(roles::handshake(core.word), status::status(chip), free)
 }
 
-// What a read of the port answers. There are no ports but A, B and C, and another reads as 00.
-pub fn value(chip: Chip, port: u8) -> u8
-    ensures { λ r. ⌜ r ≡ readOf chip port ⌝ }
+// The bit that makes a word for control a mode word. It is set in what is read back.
+const MODE_BIT: u8 = 7;
+
+fn control(word: u8) -> u8
+    ensures { λ r. ⌜ r ≡ readControl word ⌝ }
+{
+    bits::with_bit(word, MODE_BIT, true)
+}
+
+// What a read at the address answers: one of the ports A, B and C, or control, and 00 where there is neither.
+pub fn value(chip: Chip, address: u8) -> u8
+    ensures { λ r. ⌜ r ≡ readOf chip address ⌝ }
 {
     let core = chip.core;
-    match port {
-        chip::PORT_A => self::port(core.word, Group::A, core.a),
-        chip::PORT_B => self::port(core.word, Group::B, core.b),
+    match address {
+        chip::PORT_A => port(core.word, Group::A, core.a),
+        chip::PORT_B => port(core.word, Group::B, core.b),
         chip::PORT_C => lines(chip),
+        chip::CONTROL => control(core.word),
         _ => 0,
     }
 }

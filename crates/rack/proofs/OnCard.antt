@@ -1,7 +1,7 @@
 -- An accepted event that is no reset: what it makes of the rack is what one card, as a chip alone, makes of it.
--- Rests on the bus's Outcomes and Numbering, and on the step's Outcome.
+-- Rests on events' ByKind, the bus's Outcomes and Numbering, and the step's Outcome.
 use mathlib.Core.Path.{_≡_, refl, sym, _∙_}
-use mathlib.Core.Bool.{Bool, true, false, cond, not}
+use mathlib.Core.Bool.{Bool, true, false, cond}
 use mathlib.Core.List.{List}
 use Prim.Native.Nat.{ℕ, _<_, _*_}
 use native.Mathlib.Omega.{arith}
@@ -25,7 +25,7 @@ use Rattle.step.specs.Step as card
 use Rattle.step.proofs.Outcome.{step-accepts}
 use Rattle.rack.specs.declared.Rack.{Rack}
 use Rattle.rack.specs.Bases.{mostCards}
-use Rattle.rack.specs.State.{numberAt, placeOf, registerOf, seenAt, noCore, chipAt}
+use Rattle.rack.specs.State.{numberAt, placeOf, registerOf, seenAt, noCore, cardEdition, chipAt}
 use Rattle.rack.specs.Step.{limits, runsAt, reachedBy, device}
 
 -- The number of a register at one of the eight places says which they are.
@@ -44,7 +44,7 @@ eightfold i r n h = go (ltb r n) refl
     go false e = le-ltb (numberAt i r) (mostCards * n) (omega (arith, ltb-false r n e)) ∙ sym e
 
 -- So the table says of it what it says of the register on a chip alone.
-pub same-number : (i r : ℕ) → i < mostCards → (ph : Phase) (k : ℕ) → numberOf limits ph k (numberAt i r) ≡ numberOf card.limits ph k r
+pub same-number : (i r : ℕ) → i < mostCards → (ph : Phase) (k : ℕ) → numberOf limits ph k (numberAt i r) ≡ numberOf (card.limits cardEdition) ph k r
 unfolding numberOf
 same-number i r h ph k = rw (eightfold i r 4 h, eightfold i r 3 h)
 
@@ -64,29 +64,29 @@ sees-own (Reading x) = rw (eq-eqb (placeOf x) (placeOf x) refl)
 sees-own (Writing x d) = rw (eq-eqb (placeOf x) (placeOf x) refl)
 
 -- What the rack accepts, the card that it reaches accepts too.
-begins-there : (ph : Phase) (k r : ℕ) → begins k ≡ true → (i : ℕ) → numberOf card.limits ph k r ≡ 0 → numberOf card.limits (seenAt i ph) k r ≡ 0
+begins-there : (ph : Phase) (k r : ℕ) → begins k ≡ true → (i : ℕ) → numberOf (card.limits cardEdition) ph k r ≡ 0 → numberOf (card.limits cardEdition) (seenAt i ph) k r ≡ 0
 begins-there Idle k r b i e = e
-begins-there (Reading x) k r b i e = absurd (row-refuses card.limits (Reading x) k r 3 (rw b) e)
-begins-there (Writing x d) k r b i e = absurd (row-refuses card.limits (Writing x d) k r 3 (rw b) e)
+begins-there (Reading x) k r b i e = absurd (row-refuses (card.limits cardEdition) (Reading x) k r 3 (rw b) e)
+begins-there (Writing x d) k r b i e = absurd (row-refuses (card.limits cardEdition) (Writing x d) k r 3 (rw b) e)
 
-pub accepted-there : (ph : Phase) (i r k : ℕ) → ¬ (k ≡ 0) → numberOf card.limits ph k r ≡ 0
-    → numberOf card.limits (seenAt (reachedBy ph k i) ph) k r ≡ 0
+pub accepted-there : (ph : Phase) (i r k : ℕ) → ¬ (k ≡ 0) → numberOf (card.limits cardEdition) ph k r ≡ 0
+    → numberOf (card.limits cardEdition) (seenAt (reachedBy ph k i) ph) k r ≡ 0
 accepted-there ph i r =
-    by-kind (λ k. ¬ (k ≡ 0) → numberOf card.limits ph k r ≡ 0 → numberOf card.limits (seenAt (reachedBy ph k i) ph) k r ≡ 0)
+    by-kind (λ k. ¬ (k ≡ 0) → numberOf (card.limits cardEdition) ph k r ≡ 0 → numberOf (card.limits cardEdition) (seenAt (reachedBy ph k i) ph) k r ≡ 0)
     (λ n. absurd (n refl))
     (λ n. begins-there ph kinds.beginRead r refl i)
-    (λ n e. by-busy card.limits (seenAt (runsAt ph) ph) ph kinds.endCycle r (sees-own ph) ∙ e)
+    (λ n e. by-busy (card.limits cardEdition) (seenAt (runsAt ph) ph) ph kinds.endCycle r (sees-own ph) ∙ e)
     (λ n. begins-there ph kinds.beginWrite r refl i)
-    (λ n e. levels-anyway card.limits (seenAt i ph) ph r ∙ e)
-    (λ k none n e. absurd (row-refuses card.limits ph k r 0 none e))
+    (λ n e. levels-anyway (card.limits cardEdition) (seenAt i ph) ph r ∙ e)
+    (λ k none n e. absurd (row-refuses (card.limits cardEdition) ph k r 0 none e))
 
 -- A cycle that begins does so at one of the four registers.
-pub register-below : (ph : Phase) (k r : ℕ) → numberOf card.limits ph k r ≡ 0 → begins k ≡ true → r < 4
+pub register-below : (ph : Phase) (k r : ℕ) → numberOf (card.limits cardEdition) ph k r ≡ 0 → begins k ≡ true → r < 4
 register-below ph k r e b = go (ltb r 4) refl
   where
     go : (t : Bool) → ltb r 4 ≡ t → r < 4
     go true there = ltb-true r 4 there
-    go false there = absurd (row-refuses card.limits ph k r 1 (rw (b, there)) e)
+    go false there = absurd (row-refuses (card.limits cardEdition) ph k r 1 (rw (b, there)) e)
 
 -- An event reaches one of the eight places.
 pub reached-below : (ph : Phase) (k i : ℕ) → i < mostCards → reachedBy ph k i < mostCards
@@ -114,18 +114,18 @@ module _ (count : ℕ) (bases : List ℕ) (cores : List Core) (i r d : ℕ) (h :
       gives (record { bus = record { phase = phaseAfter ph k (numberAt i r) d }; count = count; bases = bases; cores = set cores j (after .chip .core) }) 0 (after .byte)
 
   abbrev pub accepted : (ph : Phase) (k : ℕ) → Type 0
-  accepted ph k = numberOf card.limits ph k r ≡ 0 → stepIn device (rackIn count bases cores ph) k (numberAt i r) d ≡ cardStepped ph k
+  accepted ph k = numberOf (card.limits cardEdition) ph k r ≡ 0 → stepIn device (rackIn count bases cores ph) k (numberAt i r) d ≡ cardStepped ph k
 
   -- Kind by kind, with what the card makes of it.
   module _ (ph : Phase) where
-    there : (k : ℕ) → ¬ (k ≡ 0) → numberOf card.limits ph k r ≡ 0
+    there : (k : ℕ) → ¬ (k ≡ 0) → numberOf (card.limits cardEdition) ph k r ≡ 0
         → card.stepOf (chipAt (rackIn count bases cores ph) (reachedBy ph k i)) k r d
         ≡ card.accepted (afterIn card.device (chipAt (rackIn count bases cores ph) (reachedBy ph k i)) k r d)
         (byteIn card.device (chipAt (rackIn count bases cores ph) (reachedBy ph k i)) k r)
     unfolding chipAt
     there k n e = step-accepts (chipAt (rackIn count bases cores ph) (reachedBy ph k i)) k r d (accepted-there ph i r k n e)
 
-    whole : (k : ℕ) → numberOf card.limits ph k r ≡ 0
+    whole : (k : ℕ) → numberOf (card.limits cardEdition) ph k r ≡ 0
         → stepIn device (rackIn count bases cores ph) k (numberAt i r) d
         ≡ gives (afterIn device (rackIn count bases cores ph) k (numberAt i r) d) 0 (byteIn device (rackIn count bases cores ph) k (numberAt i r))
     whole k e = bus.accepts device (rackIn count bases cores ph) k (numberAt i r) d (same-number i r h ph k ∙ e)
@@ -151,4 +151,4 @@ module _ (count : ℕ) (bases : List ℕ) (cores : List Core) (i r d : ℕ) (h :
         by-kind (λ k. ¬ (k ≡ 0) → accepted ph k)
         (λ n. absurd (n refl))
         begun ended written levelled
-        (λ k none n e. absurd (row-refuses card.limits ph k r 0 none e))
+        (λ k none n e. absurd (row-refuses (card.limits cardEdition) ph k r 0 none e))

@@ -7,6 +7,8 @@ use lib.ListN.{length, getD, set, replicate}
 use Rattle.bus.specs.declared.Phase.{Phase}
 use Rattle.bus.specs.declared.Phase.the-variants.{Idle, Reading, Writing}
 use Rattle.chip.specs.declared.Core.{Core}
+use Rattle.chip.specs.declared.Edition.{Edition}
+use Rattle.chip.specs.declared.Edition.the-variants.{Older}
 use Rattle.chip.specs.declared.Chip.{Chip}
 use Rattle.chip.specs.State.{noEnables, freshPort, powerUp}
 use Rattle.step.specs.Step.{onBus}
@@ -52,9 +54,14 @@ noCore = record { word = 0; a = freshPort 0; b = freshPort 0; c = record { latch
 abbrev pub coreIn : List Core → ℕ → Core
 coreIn cs i = getD cs i noCore
 
+-- The edition of every card. One is chosen at power-up, and where none is named it is the older; the building of a rack names none. So what is in
+-- a place need not keep it.
+abbrev pub cardEdition : Edition
+cardEdition = Older
+
 -- The card at a place, as a chip alone would be.
 unfoldable pub chipAt : Rack → ℕ → Chip
-chipAt r i = onBus (seenAt i (r .bus .phase)) (coreIn (r .cores) i)
+chipAt r i = onBus (seenAt i (r .bus .phase)) cardEdition (coreIn (r .cores) i)
 
 -- The cards with that at a place made anew.
 abbrev pub withCore : Cards → ℕ → Core → Cards

@@ -11,6 +11,7 @@ use Rattle.bus.specs.declared.Limits.{Limits}
 use Rattle.bus.specs.Refusals.{limitsOf, numberOf}
 use Rattle.bus.specs.Device.{Device, Given, stepIn}
 use Rattle.bus.specs.Cycles.{refusedIn}
+use Rattle.chip.specs.declared.Core.{Core}
 use Rattle.step.specs.Step as card
 use Rattle.rack.specs.declared.Rack.{Rack}
 use Rattle.rack.specs.declared.targets.Target.{Target}
@@ -18,7 +19,7 @@ use Rattle.rack.specs.declared.targets.Target.the-variants.{NoCard, At}
 use Rattle.rack.specs.declared.event.Aim.{Aim}
 use Rattle.rack.specs.declared.event.Stepped.{Stepped}
 use Rattle.rack.specs.Bases.{noCardNumber, mostCards}
-use Rattle.rack.specs.State.{numberAt, placeOf, registerOf, seenAt, Cards, cardsOf, rackOn, coreIn, chipAt, withCore}
+use Rattle.rack.specs.State.{numberAt, placeOf, registerOf, seenAt, Cards, cardsOf, rackOn, coreIn, cardEdition, chipAt, withCore}
 use Rattle.rack.specs.Targets.{targetOf}
 
 -- Each register of a card is there at eight places: the first three can be read, and have levels.
@@ -39,7 +40,14 @@ reachedBy ph k place = cond (eqb k kinds.endCycle) (runsAt ph) place
 abbrev pub aimOf : Phase → ℕ → Target → Aim
 aimOf ph k NoCard = record { number = noCardNumber; place = 0; register = 0 }
 aimOf ph k (At place register) =
-    record { number = numberOf card.limits ph k register; place = reachedBy ph k place; register = register }
+    record { number = numberOf (card.limits cardEdition) ph k register; place = reachedBy ph k place; register = register }
+
+-- What is in a place, as the rest of a card; and what a reset makes of it.
+abbrev pub cardRest : Core → card.Rest
+cardRest c = record { edition = cardEdition; core = c }
+
+abbrev pub coreReset : Core → Core
+coreReset c = card.device .afterReset (cardRest c) .core
 
 -- The rack as a device. A reset reaches every card; any other event does to one card what it does to a chip alone: a beginning and levels
 -- to that whose register they name, an end to that on which the cycle runs.
@@ -49,10 +57,10 @@ device = record {
   rest = cardsOf;
   on = rackOn;
   limits = λ s. limits;
-  afterReset = λ s. record { count = s .count; bases = s .bases; cores = map (card.device .afterReset) (s .cores) };
-  afterBegin = λ s x. withCore s (placeOf x) (card.device .afterBegin (coreIn (s .cores) (placeOf x)) (registerOf x));
-  afterEnd = λ s ph. withCore s (runsAt ph) (card.device .afterEnd (coreIn (s .cores) (runsAt ph)) (seenAt (runsAt ph) ph));
-  afterLevels = λ s x d. withCore s (placeOf x) (card.device .afterLevels (coreIn (s .cores) (placeOf x)) (registerOf x) d);
+  afterReset = λ s. record { count = s .count; bases = s .bases; cores = map coreReset (s .cores) };
+  afterBegin = λ s x. withCore s (placeOf x) (card.device .afterBegin (cardRest (coreIn (s .cores) (placeOf x))) (registerOf x) .core);
+  afterEnd = λ s ph. withCore s (runsAt ph) (card.device .afterEnd (cardRest (coreIn (s .cores) (runsAt ph))) (seenAt (runsAt ph) ph) .core);
+  afterLevels = λ s x d. withCore s (placeOf x) (card.device .afterLevels (cardRest (coreIn (s .cores) (placeOf x))) (registerOf x) d .core);
   answer = λ r x. card.device .answer (chipAt r (placeOf x)) (registerOf x);
   phase-on = λ ph s. refl;
   rest-on = λ ph s. refl;

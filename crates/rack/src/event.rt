@@ -6,11 +6,11 @@ ghost use Prim.Native.Nat.{_<_};
 ghost use Rattle.events.specs.Kinds.{begins};
 ghost use Rattle.bus.specs.Device.{gives, resetIn};
 ghost use Rattle.bus.specs.Cycles.{phaseAfter};
-ghost use Rattle.step.specs.Step as card;
 ghost use Rattle.rack.specs.Bases.{mostCards};
 ghost use Rattle.rack.specs.State.{numberAt};
-ghost use Rattle.rack.specs.Step.{runsAt, reachedBy, aimOf, device, byteOf, asStepped, stepOf};
+ghost use Rattle.rack.specs.Step.{runsAt, reachedBy, aimOf, coreReset, device, byteOf, asStepped, stepOf};
 use super::Bus;
+use super::CARD_EDITION;
 use super::MOST_CARDS;
 use super::NO_CARD;
 use super::PLACES;
@@ -32,13 +32,14 @@ pub struct Stepped {
 
 // Every place is reset, whether a card is there or not.
 fn reset(mut cores: [Core; 8]) -> [Core; 8]
-    ensures { λ r. ⌜ r ≡ map (card.device .afterReset) cores ⌝ }
+    ensures { λ r. ⌜ r ≡ map coreReset cores ⌝ }
 {
     let mut place = 0;
     while place < MOST_CARDS {
         let core = cores[place];
         let chip = step::kinds::reset(Chip {
             phase: Phase::Idle,
+            edition: CARD_EDITION,
             core,
         });
         let core = chip.core;
@@ -125,7 +126,7 @@ fn aim_at(phase: Phase, kind: u8, target: Target) -> Aim
             register: 0,
         },
         Target::At(place, register) => Aim {
-            number: step::number(phase, kind, register),
+            number: step::number(CARD_EDITION, phase, kind, register),
             place: reached(phase, kind, place),
             register,
         },

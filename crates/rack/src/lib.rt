@@ -8,6 +8,7 @@ ghost use Rattle.rack.specs.State.{rackOf, builtOf};
 use bus::ACCEPTED;
 use bus::Phase;
 use chip::Core;
+use chip::Edition;
 
 pub mod event;
 pub mod targets;
@@ -23,6 +24,9 @@ const CARD_WIDTH: u16 = 8;
 const REGISTERS: u16 = 4;
 
 const LAST_BASE: u16 = 0x7f8;
+
+// The edition of every card: where none is named it is the older, and the building of a rack names none.
+const CARD_EDITION: Edition = Edition::Older;
 
 // The numbers that a rack has beside those of a device: the bases make no rack; there is no card at this address or place.
 pub const BAD_RACK: u8 = 9;

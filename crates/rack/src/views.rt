@@ -3,8 +3,9 @@ ghost use mathlib.Core.Path.{_≡_};
 ghost use Prim.Native.Nat.{_<_};
 ghost use Rattle.step.specs.Step.{onBus};
 ghost use Rattle.rack.specs.Bases.{mostCards};
-ghost use Rattle.rack.specs.State.{seenAt, chipAt};
+ghost use Rattle.rack.specs.State.{seenAt, cardEdition, chipAt};
 ghost use Rattle.rack.specs.Views.{cardOf, cardPins, cardTally, cardExplained};
+use super::CARD_EDITION;
 use super::NO_CARD;
 use super::PLACES;
 use super::Rack;
@@ -66,10 +67,11 @@ fn seen(phase: Phase, place: u8) -> Phase
 
 // What is at a place, as a chip alone would be.
 pub(super) fn chip_of(phase: Phase, place: u8, core: Core) -> Chip
-    ensures { λ r. ⌜ r ≡ onBus (seenAt place phase) core ⌝ }
+    ensures { λ r. ⌜ r ≡ onBus (seenAt place phase) cardEdition core ⌝ }
 {
     Chip {
         phase: seen(phase, place),
+        edition: CARD_EDITION,
         core,
     }
 }

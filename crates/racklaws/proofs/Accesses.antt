@@ -25,7 +25,7 @@ use Rattle.rack.specs.declared.event.Stepped.{Stepped}
 use Rattle.rack.specs.declared.targets.Target.{Target}
 use Rattle.rack.specs.declared.targets.Target.the-variants.{NoCard, At}
 use Rattle.rack.specs.Bases.{mostCards}
-use Rattle.rack.specs.State.{placeOf, chipAt}
+use Rattle.rack.specs.State.{placeOf, chipAt, cardEdition}
 use Rattle.rack.specs.Targets.{answersAt, registerAt, targetFrom}
 use Rattle.rack.specs.Step.{aimOf, asStepped, stepAt, stepOf}
 use Rattle.rack.proofs.OnCard.{rackIn, place-numbered}
@@ -91,11 +91,11 @@ module _ (count : ℕ) (bases : List ℕ) (cores : List Core) where
       → Follows (rackIn count bases cores Idle) (asStepped (stepAt (rackIn count bases cores Idle) (At i r) kinds.beginRead d))
       (cond t (toCard i (event kinds.beginRead r 0)) nobody) (busAfter free (readAt x) (cond t (toCard i (event kinds.beginRead r 0)) nobody))
   read-begins whole d x i r h true e =
-      let accepted = accepted-number Idle kinds.beginRead r d (rw e) in
+      let accepted = accepted-number cardEdition Idle kinds.beginRead r d (rw e) in
       let follows = card-follows count bases cores Idle whole i r d kinds.beginRead h (λ n. omega (arith, n)) accepted in
       renamed follows (read-alone (chipAt (rackIn count bases cores Idle) i) r d) (ap takenBy (place-numbered i r h))
   read-begins whole d x i r h false e =
-      refused-follows Idle whole kinds.beginRead d (At i r) h (row-refuses card.limits Idle kinds.beginRead r 2 (rw e))
+      refused-follows Idle whole kinds.beginRead d (At i r) h (row-refuses (card.limits cardEdition) Idle kinds.beginRead r 2 (rw e))
 
   pub read-follows : (ph : Phase) → Whole (rackIn count bases cores ph) → (d x : ℕ) (t : Target) → InRack t
       → Follows (rackIn count bases cores ph) (asStepped (stepAt (rackIn count bases cores ph) t kinds.beginRead d)) (readReaches (busOf ph) (asFound t))
@@ -103,9 +103,9 @@ module _ (count : ℕ) (bases : List ℕ) (cores : List Core) where
   read-follows ph whole d x NoCard inside = refused-follows ph whole kinds.beginRead d NoCard inside (λ n. omega (arith, n))
   read-follows Idle whole d x (At i r) inside = read-begins whole d x i r inside (ltb r 3) refl
   read-follows (Reading y) whole d x (At i r) inside =
-      refused-follows (Reading y) whole kinds.beginRead d (At i r) inside (row-refuses card.limits (Reading y) kinds.beginRead r 3 refl)
+      refused-follows (Reading y) whole kinds.beginRead d (At i r) inside (row-refuses (card.limits cardEdition) (Reading y) kinds.beginRead r 3 refl)
   read-follows (Writing y b) whole d x (At i r) inside =
-      refused-follows (Writing y b) whole kinds.beginRead d (At i r) inside (row-refuses card.limits (Writing y b) kinds.beginRead r 3 refl)
+      refused-follows (Writing y b) whole kinds.beginRead d (At i r) inside (row-refuses (card.limits cardEdition) (Writing y b) kinds.beginRead r 3 refl)
 
   -- That of a write, which is at one of the four registers.
   pub write-follows : (ph : Phase) → Whole (rackIn count bases cores ph) → (d x : ℕ) (t : Target) → InRack t → OfFour t
@@ -113,25 +113,25 @@ module _ (count : ℕ) (bases : List ℕ) (cores : List Core) where
       (busAfter (busOf ph) (writeAt x d) (writeReaches (busOf ph) (asFound t) d))
   write-follows ph whole d x NoCard inside four = refused-follows ph whole kinds.beginWrite d NoCard inside (λ n. omega (arith, n))
   write-follows Idle whole d x (At i r) inside four =
-      let accepted = accepted-number Idle kinds.beginWrite r d (rw (lt-ltb r 4 four)) in
+      let accepted = accepted-number cardEdition Idle kinds.beginWrite r d (rw (lt-ltb r 4 four)) in
       let follows = card-follows count bases cores Idle whole i r d kinds.beginWrite inside (λ n. omega (arith, n)) accepted in
       renamed follows refl (ap takenBy (place-numbered i r inside))
   write-follows (Reading y) whole d x (At i r) inside four =
-      refused-follows (Reading y) whole kinds.beginWrite d (At i r) inside (row-refuses card.limits (Reading y) kinds.beginWrite r 3 refl)
+      refused-follows (Reading y) whole kinds.beginWrite d (At i r) inside (row-refuses (card.limits cardEdition) (Reading y) kinds.beginWrite r 3 refl)
   write-follows (Writing y b) whole d x (At i r) inside four =
-      refused-follows (Writing y b) whole kinds.beginWrite d (At i r) inside (row-refuses card.limits (Writing y b) kinds.beginWrite r 3 refl)
+      refused-follows (Writing y b) whole kinds.beginWrite d (At i r) inside (row-refuses (card.limits cardEdition) (Writing y b) kinds.beginWrite r 3 refl)
 
   -- The end of a cycle, of which the event names no card.
   pub end-follows : (ph : Phase) → Whole (rackIn count bases cores ph) → (d : ℕ)
       → Follows (rackIn count bases cores ph) (asStepped (stepAt (rackIn count bases cores ph) (At 0 0) kinds.endCycle d)) (endReaches (busOf ph))
       (busAfter (busOf ph) cycleEnded (endReaches (busOf ph)))
-  end-follows Idle whole d = refused-follows Idle whole kinds.endCycle d (At 0 0) (omega arith) (row-refuses card.limits Idle kinds.endCycle 0 4 refl)
+  end-follows Idle whole d = refused-follows Idle whole kinds.endCycle d (At 0 0) (omega arith) (row-refuses (card.limits cardEdition) Idle kinds.endCycle 0 4 refl)
   end-follows (Reading y) whole d =
-      let accepted = accepted-number (Reading y) kinds.endCycle 0 d refl in
+      let accepted = accepted-number cardEdition (Reading y) kinds.endCycle 0 d refl in
       let follows = card-follows count bases cores (Reading y) whole 0 0 d kinds.endCycle (omega arith) (λ n. omega (arith, n)) accepted in
       renamed follows (end-alone (chipAt (rackIn count bases cores (Reading y)) (placeOf y)) d) refl
   end-follows (Writing y b) whole d =
-      let accepted = accepted-number (Writing y b) kinds.endCycle 0 d refl in
+      let accepted = accepted-number cardEdition (Writing y b) kinds.endCycle 0 d refl in
       let follows = card-follows count bases cores (Writing y b) whole 0 0 d kinds.endCycle (omega arith) (λ n. omega (arith, n)) accepted in
       renamed follows (end-alone (chipAt (rackIn count bases cores (Writing y b)) (placeOf y)) d) refl
 
@@ -141,6 +141,6 @@ module _ (count : ℕ) (bases : List ℕ) (cores : List Core) where
       (cond t (toCard x (event kinds.outsideLevels y d)) nobody)
       (busAfter (busOf ph) (levelsOn x y d) (cond t (toCard x (event kinds.outsideLevels y d)) nobody))
   levels-on ph whole x y d h true e =
-      card-follows count bases cores ph whole x y d kinds.outsideLevels h (λ n. omega (arith, n)) (accepted-number ph kinds.outsideLevels y d e)
+      card-follows count bases cores ph whole x y d kinds.outsideLevels h (λ n. omega (arith, n)) (accepted-number cardEdition ph kinds.outsideLevels y d e)
   levels-on ph whole x y d h false e =
-      refused-follows ph whole kinds.outsideLevels d (At x y) h (row-refuses card.limits ph kinds.outsideLevels y 1 (rw e))
+      refused-follows ph whole kinds.outsideLevels d (At x y) h (row-refuses (card.limits cardEdition) ph kinds.outsideLevels y 1 (rw e))

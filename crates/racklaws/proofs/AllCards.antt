@@ -16,15 +16,15 @@ use Rattle.step.proofs.Outcome.{step-accepts}
 use Rattle.rack.specs.declared.Rack.{Rack}
 use Rattle.rack.specs.declared.event.Stepped.{Stepped}
 use Rattle.rack.specs.Bases.{mostCards}
-use Rattle.rack.specs.State.{seenAt, noCore, chipAt}
-use Rattle.rack.specs.Step.{device, asStepped}
+use Rattle.rack.specs.State.{seenAt, noCore, chipAt, cardEdition}
+use Rattle.rack.specs.Step.{coreReset, device, asStepped}
 use Rattle.rack.proofs.Mapped.{mapped-at, mapped-length}
 use Rattle.rack.proofs.OnCard.{rackIn}
 use Rattle.racklaws.specs.Whom.{free, everybody}
 use Rattle.racklaws.specs.Promise.{Whole, Follows}
 
 -- A reset is accepted in every phase.
-pub always : (ph : Phase) → numberOf card.limits ph 0 0 ≡ 0
+pub always : (ph : Phase) → numberOf (card.limits cardEdition) ph 0 0 ≡ 0
 unfolding numberOf isKind
 always ph = refl
 
@@ -39,7 +39,7 @@ module _ (count : ℕ) (bases : List ℕ) (cores : List Core) (ph : Phase) (whol
   unfolding chipAt
   each i h = rw (
     step-accepts (chipAt rack i) 0 0 0 (always (seenAt i ph)),
-    mapped-at (card.device .afterReset) cores i noCore (omega (arith, h, whole .cores)),
+    mapped-at coreReset cores i noCore (omega (arith, h, whole .cores)),
   )
 
   pub reset-follows : Follows rack given (everybody (event 0 0 0)) free
@@ -47,5 +47,5 @@ module _ (count : ℕ) (bases : List ℕ) (cores : List Core) (ph : Phase) (whol
     reached = record { accepted = refl; byte = refl; each = each };
     bus = refl;
     bases = refl;
-    whole = record { cores = mapped-length (card.device .afterReset) cores ∙ whole .cores; bases = whole .bases };
+    whole = record { cores = mapped-length coreReset cores ∙ whole .cores; bases = whole .bases };
   }

@@ -15,7 +15,7 @@ use Rattle.chip.specs.State.{allLow, powerUp}
 use Rattle.step.specs.Step.{onBus}
 use Rattle.rack.specs.declared.Rack.{Rack}
 use Rattle.rack.specs.Bases.{mostCards}
-use Rattle.rack.specs.State.{noCore, chipAt, rackOf}
+use Rattle.rack.specs.State.{noCore, chipAt, rackOf, cardEdition}
 use Rattle.rack.specs.Targets.{isPlace}
 use Rattle.rack.specs.Views.{cardOf, cardPins, cardTally, cardExplained}
 use Rattle.fates.specs.Promise.{run}
@@ -43,7 +43,7 @@ module _ (bs : List ℕ) (few : length bs ≤ mostCards) where
 
   pub built-chip : (i : ℕ) → i < mostCards → chipAt (rackOf bs) i ≡ powerUp
   unfolding rackOf chipAt
-  built-chip i h = ap (λ (c : Core). onBus Idle c) (getD-replicate mostCards i (powerUp .core) noCore h)
+  built-chip i h = ap (λ (c : Core). onBus Idle cardEdition c) (getD-replicate mostCards i (powerUp .core) noCore h)
 
   -- After any history there is a card at each place for which there is a base, and at no other.
   module _ (es : List RackEvent) where
@@ -86,10 +86,10 @@ module _ (bs : List ℕ) (few : length bs ≤ mostCards) where
       pins = λ p. rw (is-there, alone);
       tally = λ g s. rw (is-there, alone);
       explains = λ g. rw (is-there, alone);
-      fates = λ g s. fates g s allLow (eventsFor i bs free es);
-      discipline = λ g. disciplined g allLow (eventsFor i bs free es);
-      unforced = λ g s. unforced g s allLow (eventsFor i bs free es);
-      account = account allLow (eventsFor i bs free es);
+      fates = λ g s. fates g s cardEdition allLow (eventsFor i bs free es);
+      discipline = λ g. disciplined g cardEdition allLow (eventsFor i bs free es);
+      unforced = λ g s. unforced g s cardEdition allLow (eventsFor i bs free es);
+      account = account cardEdition allLow (eventsFor i bs free es);
     }
 
 -- The card at a place of any rack.

@@ -21,6 +21,7 @@ use Rattle.rack.specs.declared.Rack.{Rack}
 use Rattle.rack.specs.declared.targets.Target.{Target}
 use Rattle.rack.specs.declared.targets.Target.the-variants.{NoCard, At}
 use Rattle.rack.specs.Bases.{mostCards}
+use Rattle.rack.specs.State.{cardEdition}
 use Rattle.rack.specs.Targets.{targetFrom, basesIn, isPlace, targetAt, targetOf}
 use Rattle.rack.specs.Step.{aimOf, byteOf, asStepped, stepAt, stepOf}
 use Rattle.rack.proofs.OnCard.{rackIn}
@@ -61,7 +62,7 @@ module _ (count : ℕ) (bases : List ℕ) (cores : List Core) where
   -- What is no kind is refused, whatever it names.
   unknown-refused : (ph : Phase) (k : ℕ) → noKind k ≡ true → (t : Target) → ¬ (aimOf ph k t .number ≡ 0)
   unknown-refused ph k none NoCard n = omega (arith, n)
-  unknown-refused ph k none (At i r) n = row-refuses card.limits ph k r 0 none n
+  unknown-refused ph k none (At i r) n = row-refuses (card.limits cardEdition) ph k r 0 none n
 
   followed-in : (ph : Phase) → Whole (rackIn count bases cores ph) → (x y z k : ℕ)
       → Follows (rackIn count bases cores ph) (rackStepped (rackIn count bases cores ph) (rackEvent k x y z))

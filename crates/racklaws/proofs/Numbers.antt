@@ -18,7 +18,7 @@ use Rattle.step.specs.Step as card
 use Rattle.rack.specs.declared.Rack.{Rack}
 use Rattle.rack.specs.declared.targets.Target.{Target}
 use Rattle.rack.specs.declared.targets.Target.the-variants.{NoCard, At}
-use Rattle.rack.specs.State.{numberAt}
+use Rattle.rack.specs.State.{numberAt, cardEdition}
 use Rattle.rack.specs.Targets.{targetFrom, isPlace, targetAt, targetOf}
 use Rattle.rack.specs.Step.{aimOf, device, byteOf, stepAt, stepOf}
 use Rattle.rack.proofs.OnCard.{same-number}
@@ -62,7 +62,7 @@ module _ (ph : Phase) where
   write-number NoCard four = refl
   write-number (At i r) four = rw (lt-ltb r 4 four, taken ph)
 
-  end-number : numberOf card.limits ph kinds.endCycle 0 ≡ cond (not (isTaken (busOf ph))) 5 0
+  end-number : numberOf (card.limits cardEdition) ph kinds.endCycle 0 ≡ cond (not (isTaken (busOf ph))) 5 0
   unfolding numberOf isKind
   end-number = rw (taken ph)
 

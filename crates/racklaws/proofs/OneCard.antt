@@ -1,5 +1,5 @@
 -- An accepted event that reaches one card: that card does as a chip alone, and every other is as it was.
--- Rests on the rack's OnCard, on the step's Outcome and on Seen.
+-- Rests on Seen, on the rack's OnCard, the step's Outcome and laws' Editions.
 use mathlib.Core.Path.{_≡_, refl, sym, ap, _∙_}
 use mathlib.Core.List.{List}
 use Prim.Native.Nat.{ℕ, _<_}
@@ -13,13 +13,15 @@ use Rattle.bus.specs.Device.{stepIn}
 use Rattle.bus.specs.Cycles.{phaseAfter}
 use Rattle.bus.proofs.Phases.{phase-goes}
 use Rattle.chip.specs.declared.Core.{Core}
+use Rattle.chip.specs.declared.Edition.{Edition}
 use Rattle.step.specs.Step as card
 use Rattle.step.specs.Step.{stepped}
 use Rattle.step.proofs.Outcome.{step-accepts, step-number}
+use Rattle.laws.proofs.Editions.{edition-stays}
 use Rattle.rack.specs.declared.Rack.{Rack}
 use Rattle.rack.specs.declared.event.Stepped.{Stepped}
 use Rattle.rack.specs.Bases.{mostCards}
-use Rattle.rack.specs.State.{numberAt, seenAt, noCore, chipAt}
+use Rattle.rack.specs.State.{numberAt, seenAt, noCore, chipAt, cardEdition}
 use Rattle.rack.specs.Step.{reachedBy, device, asStepped}
 use Rattle.rack.proofs.OnCard.{rackIn, cardStepped, accepted-there, reached-below, one-card}
 use Rattle.racklaws.specs.Whom.{card as toCard}
@@ -27,7 +29,7 @@ use Rattle.racklaws.specs.Promise.{ForOne, Whole, Follows, busOf}
 use Rattle.racklaws.proofs.Seen.{seen-own, seen-others}
 
 module _ (count : ℕ) (bases : List ℕ) (cores : List Core) (ph : Phase) (whole : Whole (rackIn count bases cores ph)) (i r d k : ℕ) (h : i < mostCards)
-    (n : ¬ (k ≡ 0)) (e : numberOf card.limits ph k r ≡ 0) where
+    (n : ¬ (k ≡ 0)) (e : numberOf (card.limits cardEdition) ph k r ≡ 0) where
   abbrev rack : Rack
   rack = rackIn count bases cores ph
 
@@ -50,7 +52,8 @@ module _ (count : ℕ) (bases : List ℕ) (cores : List Core) (ph : Phase) (whol
       let after = stepped (chipAt rack place) own .chip in
       let below : place < length cores = omega (arith, reached-below ph k i h, whole .cores) in
       rw (seen-own i r d h ph k n e, getD-set-same cores place (after .core) noCore below)
-      (ap (λ (p : Phase). card.onBus p (after .core)) (sym its-phase))
+      (ap (λ (p : Phase). card.onBus p cardEdition (after .core)) (sym its-phase)
+      ∙ ap (λ (ed : Edition). card.onBus (after .phase) ed (after .core)) (sym (edition-stays (chipAt rack place) k r d)))
 
   others : (j : ℕ) → ¬ (j ≡ place) → chipAt (given .rack) j ≡ chipAt rack j
   unfolding chipAt

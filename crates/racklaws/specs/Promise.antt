@@ -10,6 +10,7 @@ use Rattle.bus.specs.declared.Phase.the-variants.{Idle, Reading, Writing}
 use Rattle.control.specs.declared.Group.{Group}
 use Rattle.channel.specs.declared.Side.{Side}
 use Rattle.channel.specs.declared.Side.the-variants.{Input}
+use Rattle.chip.specs.declared.Edition.the-variants.{Older}
 use Rattle.chip.specs.declared.Chip.{Chip}
 use Rattle.chip.specs.State.{allLow, powerUp, noTally, tallyOf}
 use Rattle.status.specs.declared.reasons.Explained.the-variants.{NoGroup}
@@ -110,10 +111,10 @@ pub record AsAlone (bs : List ℕ) (es : List RackEvent) (i : ℕ) (events : Lis
   pub pins : (p : ℕ) → cardPins (rackRun (rackOf bs) es) i p ≡ record { number = 0; pins = pinsOf (run powerUp events) p }
   pub tally : (g : Group) (s : Side) → cardTally (rackRun (rackOf bs) es) i g s ≡ record { number = 0; tally = tallyOf (run powerUp events) g s }
   pub explains : (g : ℕ) → cardExplained (rackRun (rackOf bs) es) i g ≡ record { number = 0; explained = explainedOf (run powerUp events) g }
-  pub fates : (g : Group) (s : Side) → Fates g s powerUp events noTally (bytesOf g s allLow events) (bytesOf g s allLow events)
-  pub discipline : (g : Group) → Disciplined g (atPowerUp allLow) powerUp events → NoneLost (bytesOf g Input allLow events)
-  pub unforced : (g : Group) (s : Side) → NeverForced g s (atPowerUp allLow) events → NoneForced (bytesOf g s allLow events) (bytesOf g s allLow events)
-  pub account : Accounted powerUp (opened allLow) events
+  pub fates : (g : Group) (s : Side) → Fates g s powerUp events noTally (bytesOf g s Older allLow events) (bytesOf g s Older allLow events)
+  pub discipline : (g : Group) → Disciplined g (atPowerUp Older allLow) powerUp events → NoneLost (bytesOf g Input Older allLow events)
+  pub unforced : (g : Group) (s : Side) → NeverForced g s (atPowerUp Older allLow) events → NoneForced (bytesOf g s Older allLow events) (bytesOf g s Older allLow events)
+  pub account : Accounted powerUp (opened Older allLow) events
 
 -- The same of a card of any rack, from whatever it is there: a byte that waits in it counts as offered already.
 pub record AsAloneFrom (r : Rack) (es : List RackEvent) (i : ℕ) (c : Chip) (events : List Event) : Type 0 where

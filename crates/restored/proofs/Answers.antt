@@ -9,9 +9,10 @@ use Rattle.events.specs.Event.{Event}
 use Rattle.control.specs.declared.Group.{Group}
 use Rattle.channel.specs.declared.Side.{Side}
 use Rattle.channel.specs.declared.Tally.{Tally}
+use Rattle.chip.specs.declared.Edition.{Edition}
 use Rattle.chip.specs.declared.Chip.{Chip}
 use Rattle.chip.specs.declared.Levels.{Levels}
-use Rattle.chip.specs.State.{noTally, powerUpWith, tallyOf}
+use Rattle.chip.specs.State.{noTally, powerUpAs, tallyOf}
 use Rattle.fates.specs.Surroundings.{atPowerUp}
 use Rattle.fates.specs.Bytes.{handedOver, Byte, bytesOf}
 use Rattle.fates.specs.Promise.{run, newBytes, oldByte, Each, ShownAt, Fates}
@@ -60,16 +61,16 @@ module _ (l : List ℕ) (c : Chip) (a : Account) (es : List Event) (h : Holds l 
   }
 
 -- From every power-up, in as many bytes as an image has, that held anything.
-pub host-kept : (l : List ℕ) (v : Levels) (es : List Event) → length l ≡ places.length → HostKept l v es
-host-kept l v es long =
-    let h = holds-new l v long in
-    let bytes : Group → Side → List Byte = λ g s. bytesOf g s v es in
+pub host-kept : (l : List ℕ) (ed : Edition) (v : Levels) (es : List Event) → length l ≡ places.length → HostKept l ed v es
+host-kept l ed v es long =
+    let h = holds-new l ed v long in
+    let bytes : Group → Side → List Byte = λ g s. bytesOf g s ed v es in
     record {
       answers =
-          answers (powerUpIn l v) (powerUpWith v) (opened v) es h (account v es)
-          (λ k n. 0) (λ g s. noTally) numbered-none bytes bytes (λ g s. fates g s v es);
-      noneLost = λ g kept. disciplined g v es (rw (← same-discipline g (atPowerUp v) (powerUpIn l v) (powerUpWith v) es h) kept);
-      noneForced = λ g s. unforced g s v es;
+          answers (powerUpIn l ed v) (powerUpAs ed v) (opened ed v) es h (account ed v es)
+          (λ k n. 0) (λ g s. noTally) numbered-none bytes bytes (λ g s. fates g s ed v es);
+      noneLost = λ g kept. disciplined g ed v es (rw (← same-discipline g (atPowerUp ed v) (powerUpIn l ed v) (powerUpAs ed v) es h) kept);
+      noneForced = λ g s. unforced g s ed v es;
     }
 
 -- From every image.

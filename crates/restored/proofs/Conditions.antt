@@ -12,7 +12,7 @@ use Rattle.chip.specs.declared.Chip.{Chip}
 use Rattle.image.specs.Good.{namesItsPlace, allowedAt, hasImage}
 
 pub record Conditions (c : Chip) : Type 0 where
-  pub place : namesItsPlace (c .phase) ≡ true
+  pub place : namesItsPlace (c .edition) (c .phase) ≡ true
   pub word : bitOf (c .core .word) 7 ≡ true
   pub channel : (g : Group) (s : Side) → allowedAt (c .core) g s ≡ true
 
@@ -23,8 +23,8 @@ apart c has =
     let ao = allowedAt (c .core) A Output in
     let bi = allowedAt (c .core) B Input in
     let bo = allowedAt (c .core) B Output in
-    let halves = both (namesItsPlace (c .phase) && bitOf (c .core .word) 7) (ai && ao && bi && bo) has in
-    let front = both (namesItsPlace (c .phase)) (bitOf (c .core .word) 7) (halves .0) in
+    let halves = both (namesItsPlace (c .edition) (c .phase) && bitOf (c .core .word) 7) (ai && ao && bi && bo) has in
+    let front = both (namesItsPlace (c .edition) (c .phase)) (bitOf (c .core .word) 7) (halves .0) in
     let three = both (ai && ao && bi) bo (halves .1) in
     let two = both (ai && ao) bi (three .0) in
     let one = both ai ao (two .0) in

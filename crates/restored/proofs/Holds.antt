@@ -7,9 +7,11 @@ use Prim.Native.Nat.{ℕ, _*_}
 use lib.Dec.{ltb}
 use lib.ListN.{length}
 use Rattle.events.specs.Event.{Event}
+use Rattle.chip.specs.declared.Edition.{Edition}
+use Rattle.chip.specs.declared.Edition.the-variants.{Older, Newer}
 use Rattle.chip.specs.declared.Chip.{Chip}
 use Rattle.chip.specs.declared.Levels.{Levels}
-use Rattle.chip.specs.State.{powerUpWith, tallyOf}
+use Rattle.chip.specs.State.{powerUpAs, tallyOf}
 use Rattle.status.specs.Reasons.{explainedOf, numbersOf}
 use Rattle.ports.specs.Pins.{pinsOf}
 use Rattle.step.specs.Step.{stepped}
@@ -18,12 +20,13 @@ use Rattle.fates.proofs.Followed.{after}
 use Rattle.image.specs.Places as places
 use Rattle.image.specs.Loaded.{stateOf}
 use Rattle.image.specs.Good.{hasImage, isImage, Bytes}
+use Rattle.image.specs.Slices.{savedIn}
 use Rattle.image.proofs.Long.{written-over}
 use Rattle.image.proofs.ComesBack.{comes-back}
 use Rattle.image.proofs.OneImage.{has-image, tells-such}
-use Rattle.calls.specs.Calls.{packed, orNone, lastPort, lastChannel, lastTally, pinsGiven, pinsAnswer, groupNumbered, sideNumbered, counterNumbered, tallyAnswer, reasonsGiven, explainAnswer}
+use Rattle.calls.specs.Calls.{packed, powerUpAsAnswer, powerUpAsImage, orNone, lastPort, lastChannel, lastTally, pinsGiven, pinsAnswer, groupNumbered, sideNumbered, counterNumbered, tallyAnswer, reasonsGiven, explainAnswer}
 use Rattle.calls.proofs.HostStep.{host-answer, by-number}
-use Rattle.restored.specs.Host.{passed, hostRun, powerUpIn}
+use Rattle.restored.specs.Host.{passed, hostRun, powerUpIn, ByDefault}
 use Rattle.restored.specs.Answers.{answerTo}
 use Rattle.restored.proofs.Stays.{image-stays, power-up-has}
 
@@ -64,11 +67,22 @@ pub holds-run : (l : List ℕ) (c : Chip) (es : List Event) → Holds l c → Ho
 holds-run l c [] h = h
 holds-run l c (e ∷ es) h = holds-run (passed l e) (after c e) es (holds-next l c h e)
 
+-- A power-up that names an edition that there is writes the image of its chip over the bytes.
+new-image : (l : List ℕ) (ed : Edition) (v : Levels) → powerUpIn l ed v ≡ savedIn l (powerUpAs ed v)
+unfolding powerUpAsImage
+new-image l Older v = refl
+new-image l Newer v = refl
+
 -- So it is from a power-up, in as many bytes as an image has, that held anything,
-pub holds-new : (l : List ℕ) (v : Levels) → length l ≡ places.length → Holds (powerUpIn l v) (powerUpWith v)
-holds-new l v long =
-    let c = powerUpWith v in
-    rw (written-over l c long) (record { image = has-image c (power-up-has v); state = comes-back c (power-up-has v); has = power-up-has v })
+pub holds-new : (l : List ℕ) (ed : Edition) (v : Levels) → length l ≡ places.length → Holds (powerUpIn l ed v) (powerUpAs ed v)
+holds-new l ed v long =
+    let c = powerUpAs ed v in
+    let has = power-up-has ed v in
+    rw (new-image l ed v, written-over l c long) (record { image = has-image c has; state = comes-back c has; has = has })
+
+pub by-default : (l : List ℕ) (a b c : ℕ) → ByDefault l a b c
+unfolding powerUpAsAnswer powerUpAsImage
+by-default l a b c = record { levelsAnswer = refl; levelsImage = refl; plainImage = refl }
 
 -- and from an image.
 pub holds-image : (l : List ℕ) → Bytes l → isImage l ≡ true → Holds l (stateOf l)

@@ -1,5 +1,6 @@
 pub mod Conditions
 pub mod Stays
+pub mod CycleBegins
 pub mod Holds
 pub mod Saved
 pub mod Converted

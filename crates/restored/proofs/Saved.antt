@@ -12,9 +12,10 @@ use Rattle.control.specs.declared.Group.{Group}
 use Rattle.control.specs.declared.Group.the-variants.{A, B}
 use Rattle.channel.specs.declared.Side.{Side}
 use Rattle.channel.specs.declared.Side.the-variants.{Input, Output}
+use Rattle.chip.specs.declared.Edition.{Edition}
 use Rattle.chip.specs.declared.Chip.{Chip}
 use Rattle.chip.specs.declared.Levels.{Levels}
-use Rattle.chip.specs.State.{powerUpWith, tallyOf}
+use Rattle.chip.specs.State.{powerUpAs, tallyOf}
 use Rattle.chip.specs.Handshakes.{strobed}
 use Rattle.fates.specs.Promise.{run, surroundingsOf, WaitsByHandshake, SixteenBits}
 use Rattle.fates.specs.Discipline.{HasFound, Disciplined}
@@ -86,9 +87,9 @@ pub goes-on : (l : List ℕ) → Bytes l → isImage l ≡ true → (es : List E
 goes-on l bytes good es = goes-from l (holds-image l bytes good) (sixteen-bits l bytes) es
 
 -- From every power-up, in as many bytes as an image has, that held anything.
-pub powered-up : (l : List ℕ) (v : Levels) (es : List Event) → length l ≡ places.length → PoweredUp l v es
-powered-up l v es long =
-    let at-end = holds-run (powerUpIn l v) (powerUpWith v) es (holds-new l v long) in
+pub powered-up : (l : List ℕ) (ed : Edition) (v : Levels) (es : List Event) → length l ≡ places.length → PoweredUp l ed v es
+powered-up l ed v es long =
+    let at-end = holds-run (powerUpIn l ed v) (powerUpAs ed v) es (holds-new l ed v long) in
     record { image = at-end .image; state = at-end .state }
 
 -- In a run that keeps to the discipline, a read of the strobed port has always found a byte.
@@ -98,8 +99,8 @@ has-found g c (e ∷ es) found kept =
     has-found g (after c e) es (found-next g c e found (kept .0)) (rw (surroundings-next c e) (kept .1))
 
 -- From an image saved in such a run.
-pub still-none-lost : (g : Group) (l : Levels) (before es : List Event) → StillNoneLost g l before es
-still-none-lost g l before es kept-before kept =
-    let c = run (powerUpWith l) before in
+pub still-none-lost : (g : Group) (ed : Edition) (l : Levels) (before es : List Event) → StillNoneLost g ed l before es
+still-none-lost g ed l before es kept-before kept =
+    let c = run (powerUpAs ed l) before in
     disciplined-from g (stateOf (imageOf c))
-    (subst (HasFound g) (sym (comes-back c (reached l before))) (has-found g (powerUpWith l) before (no-read g l) kept-before)) es kept
+    (subst (HasFound g) (sym (comes-back c (reached ed l before))) (has-found g (powerUpAs ed l) before (no-read g ed l) kept-before)) es kept

@@ -1,6 +1,6 @@
 -- The step takes states with an image to states with an image, and so does every history; the chip at every power-up has one.
 -- Rests on Conditions, on bits' Logic, and on fates' Shapes, Tables, SurroundingsKept, SameByte and Followed.
-use mathlib.Core.Path.{_≡_, refl, sym, subst}
+use mathlib.Core.Path.{_≡_, _∙_, refl, sym, subst}
 use mathlib.Core.Bool.{Bool, true, false, cond, _&&_}
 use mathlib.Core.List.{List, [], _∷_}
 use Prim.Native.Nat.{ℕ}
@@ -15,10 +15,12 @@ use Rattle.channel.specs.declared.Side.{Side}
 use Rattle.channel.specs.declared.Side.the-variants.{Input, Output}
 use Rattle.channel.specs.declared.Fill.{Fill}
 use Rattle.channel.specs.declared.Fill.the-variants.{Empty, Waiting, Fetching}
+use Rattle.chip.specs.declared.Edition.{Edition}
+use Rattle.chip.specs.declared.Edition.the-variants.{Older, Newer}
 use Rattle.chip.specs.declared.Chip.{Chip}
 use Rattle.chip.specs.declared.Levels.{Levels}
-use Rattle.chip.specs.State.{powerUpWith}
-use Rattle.fates.specs.Kinds.{Kind, reset, cycleEnded, unknown, readBegun, writeBegun, newLevels, free, accepts, kindOf}
+use Rattle.chip.specs.State.{powerUpAs}
+use Rattle.fates.specs.Kinds.{Kind, reset, cycleEnded, unknown, readBegun, writeBegun, newLevels, free, readableAt, accepts, kindOf}
 use Rattle.fates.specs.Surroundings.{Surroundings, ofModeWord, brought, phaseAfter, wordAfter, surroundingsAfter, surroundingsNext}
 use Rattle.fates.specs.Effects.{clearedAway, strobes, when, ownEffect, clears, effectOf}
 use Rattle.fates.specs.Left.{afterForcedFull}
@@ -28,17 +30,22 @@ use Rattle.fates.proofs.Tables.{strobes-same}
 use Rattle.fates.proofs.SurroundingsKept.{surroundings-next}
 use Rattle.fates.proofs.SameByte.{word-stays}
 use Rattle.fates.proofs.Followed.{after, fill, next-fill}
-use Rattle.image.specs.Good.{namesItsPlace, allowed, hasImage}
+use Rattle.image.specs.Good.{canBeRead, namesItsPlace, allowed, hasImage}
 use Rattle.restored.proofs.Conditions.{Conditions, apart, together}
 
+-- The history and the image say alike what can be read.
+same-reading : (ed : Edition) (x : ℕ) → readableAt ed x ≡ canBeRead ed x
+same-reading Older x = refl
+same-reading Newer x = refl
+
 -- A cycle that an accepted event begins names its place.
-place-stays : (ph : Phase) (e : Kind) → accepts ph e ≡ true → namesItsPlace ph ≡ true → namesItsPlace (phaseAfter ph e) ≡ true
-place-stays ph reset ok was = refl
-place-stays ph (readBegun x) ok was = both (ltb x 3) (free ph) ok .0
-place-stays ph cycleEnded ok was = refl
-place-stays ph (writeBegun x d) ok was = both (ltb x 4) (free ph) ok .0
-place-stays ph (newLevels x d) ok was = was
-place-stays ph unknown ok was = was
+place-stays : (ed : Edition) (ph : Phase) (e : Kind) → accepts ed ph e ≡ true → namesItsPlace ed ph ≡ true → namesItsPlace ed (phaseAfter ph e) ≡ true
+place-stays ed ph reset ok was = refl
+place-stays ed ph (readBegun x) ok was = sym (same-reading ed x) ∙ both (readableAt ed x) (free ph) ok .0
+place-stays ed ph cycleEnded ok was = refl
+place-stays ed ph (writeBegun x d) ok was = both (ltb x 4) (free ph) ok .0
+place-stays ed ph (newLevels x d) ok was = was
+place-stays ed ph unknown ok was = was
 
 -- A mode word that comes into force has bit 7 set.
 word-ends : (ph : Phase) (w : ℕ) → bitOf w 7 ≡ true → bitOf (cond (ofModeWord ph) (brought ph) w) 7 ≡ true
@@ -103,8 +110,9 @@ module _ (g : Group) (s : Side) (a : Surroundings) (e : Kind) (f : Fill) where
 
 -- The bus and the mode word under any event.
 module _ (a : Surroundings) (e : Kind) where
-  bus-stays : (accepted : Bool) → accepts (a .phase) e ≡ accepted → namesItsPlace (a .phase) ≡ true → namesItsPlace (cond accepted (surroundingsAfter a e) a .phase) ≡ true
-  bus-stays true ok was = place-stays (a .phase) e ok was
+  bus-stays : (accepted : Bool) → accepts (a .edition) (a .phase) e ≡ accepted → namesItsPlace (a .edition) (a .phase) ≡ true
+      → namesItsPlace (cond accepted (surroundingsAfter a e) a .edition) (cond accepted (surroundingsAfter a e) a .phase) ≡ true
+  bus-stays true ok was = place-stays (a .edition) (a .phase) e ok was
   bus-stays false ok was = was
 
   force-stays : (accepted : Bool) → bitOf (a .word) 7 ≡ true → bitOf (cond accepted (surroundingsAfter a e) a .word) 7 ≡ true
@@ -113,10 +121,10 @@ module _ (a : Surroundings) (e : Kind) where
 
 conditions-stay : (c : Chip) (e : Event) → Conditions c → Conditions (after c e)
 conditions-stay c e k =
-    let accepted = accepts (c .phase) (kindOf e) in
+    let accepted = accepts (c .edition) (c .phase) (kindOf e) in
     let surroundings : surroundingsNext (surroundingsOf c) e ≡ surroundingsOf (after c e) = sym (surroundings-next c e) in
     record {
-      place = subst (λ (a : Surroundings). namesItsPlace (a .phase) ≡ true) surroundings (bus-stays (surroundingsOf c) (kindOf e) accepted refl (k .place));
+      place = subst (λ (a : Surroundings). namesItsPlace (a .edition) (a .phase) ≡ true) surroundings (bus-stays (surroundingsOf c) (kindOf e) accepted refl (k .place));
       word = subst (λ (a : Surroundings). bitOf (a .word) 7 ≡ true) surroundings (force-stays (surroundingsOf c) (kindOf e) accepted (k .word));
       channel = λ g s.
           let on = strobes-same (c .core .word) g s in
@@ -134,9 +142,9 @@ pub history-stays : (c : Chip) (es : List Event) → hasImage c ≡ true → has
 history-stays c [] has = has
 history-stays c (e ∷ es) has = history-stays (after c e) es (image-stays c e has)
 
-pub power-up-has : (l : Levels) → hasImage (powerUpWith l) ≡ true
+pub power-up-has : (ed : Edition) (l : Levels) → hasImage (powerUpAs ed l) ≡ true
 unfolding hasImage bitOf
-power-up-has l = refl
+power-up-has ed l = refl
 
-pub reached : (l : Levels) (es : List Event) → hasImage (run (powerUpWith l) es) ≡ true
-reached l es = history-stays (powerUpWith l) es (power-up-has l)
+pub reached : (ed : Edition) (l : Levels) (es : List Event) → hasImage (run (powerUpAs ed l) es) ≡ true
+reached ed l es = history-stays (powerUpAs ed l) es (power-up-has ed l)

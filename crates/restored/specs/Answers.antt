@@ -11,6 +11,7 @@ use Rattle.events.specs.Event.{Event}
 use Rattle.control.specs.declared.Group.{Group}
 use Rattle.channel.specs.declared.Side.{Side}
 use Rattle.channel.specs.declared.Side.the-variants.{Input, Output}
+use Rattle.chip.specs.declared.Edition.{Edition}
 use Rattle.chip.specs.declared.Levels.{Levels}
 use Rattle.chip.specs.Handshakes.{flagPin}
 use Rattle.fates.specs.Kinds.{kindOf}
@@ -34,7 +35,7 @@ answerTo l e = stepAnswer l (e .kind) (e .first) (e .second)
 
 -- and what it answers by the account: the number, and the byte above it.
 abbrev pub answerBy : Account → Event → ℕ
-answerBy a e = packed (numberBy (a .surroundings .phase) (kindOf e)) (byteAnswered a e) 0
+answerBy a e = packed (numberBy (a .surroundings .edition) (a .surroundings .phase) (kindOf e)) (byteAnswered a e) 0
 
 -- What the pins call answers of port p by the account: the levels, and the mask of those driven above them; 2 above port 2.
 abbrev pub pinsBy : Account → ℕ → ℕ
@@ -93,13 +94,13 @@ abbrev pub HostDisciplined : Group → Surroundings → List ℕ → List Event 
 HostDisciplined g a l [] = Unit {0}
 HostDisciplined g a l (e ∷ es) = Minds (ibfAnswered l g) (effect g Input a e) × HostDisciplined g (surroundingsNext a e) (passed l e) es
 
--- What is promised of a host that powers its chip up, under any levels, in 96 bytes that held anything, and passes it any events: what the
--- calls answer, the tallies counting from 0; and that no input byte is overwritten or swallowed where device and program keep to the
--- discipline, and none planted or struck where no flag is forced. Nothing here asks a chip.
-pub record HostKept (l : List ℕ) (v : Levels) (es : List Event) : Type 0 where
-  pub answers : Answers (powerUpIn l v) (opened v) es (λ k n. 0) (λ g s. bytesOf g s v es) (λ g s. bytesOf g s v es)
-  pub noneLost : (g : Group) → HostDisciplined g (atPowerUp v) (powerUpIn l v) es → NoneLost (bytesOf g Input v es)
-  pub noneForced : (g : Group) (s : Side) → NeverForced g s (atPowerUp v) es → NoneForced (bytesOf g s v es) (bytesOf g s v es)
+-- What is promised of a host that powers its chip up, of either edition and under any levels, in 96 bytes that held anything, and passes it any
+-- events: what the calls answer, the tallies counting from 0; and that no input byte is overwritten or swallowed where device and program keep to
+-- the discipline, and none planted or struck where no flag is forced. Nothing here asks a chip.
+pub record HostKept (l : List ℕ) (ed : Edition) (v : Levels) (es : List Event) : Type 0 where
+  pub answers : Answers (powerUpIn l ed v) (opened ed v) es (λ k n. 0) (λ g s. bytesOf g s ed v es) (λ g s. bytesOf g s ed v es)
+  pub noneLost : (g : Group) → HostDisciplined g (atPowerUp ed v) (powerUpIn l ed v) es → NoneLost (bytesOf g Input ed v es)
+  pub noneForced : (g : Group) (s : Side) → NeverForced g s (atPowerUp ed v) es → NoneForced (bytesOf g s ed v es) (bytesOf g s ed v es)
 
 -- What is promised of an image and any events after it: what the calls answer, by the account of the chip that the image tells, the tallies
 -- counting from what the tally call answers there.

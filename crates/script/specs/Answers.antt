@@ -1,11 +1,13 @@
--- What a script is answered, line by line, by the 8255A or the 8355 ("Script and program").
+-- What a script is answered, line by line, by the 8255A, the 82C55A or the 8355 ("Script and program", "The 82C55A").
 use mathlib.Core.List.{List, [], _∷_, _++_}
 use Prim.Native.Nat.{ℕ}
 use Rattle.bus.specs.Device as bus
 use Rattle.bus.specs.Device.{Given, stepIn}
 use Rattle.bus.specs.Cycles.{refusedIn}
+use Rattle.chip.specs.declared.Edition.{Edition}
+use Rattle.chip.specs.declared.Edition.the-variants.{Older, Newer}
 use Rattle.chip.specs.declared.Chip.{Chip}
-use Rattle.chip.specs.State.{allHigh, powerUpWith}
+use Rattle.chip.specs.State.{allHigh, powerUpAs}
 use Rattle.ports.specs.Pins.{pinsOf}
 use Rattle.step.specs.declared.Stepped.{Stepped}
 use Rattle.step.specs.Step.{device, asStepped}
@@ -20,7 +22,7 @@ use Rattle.text.specs.Digits.{inDigits}
 use Rattle.text.specs.Lines.{lf, Line, linesOf}
 use Rattle.text.specs.Frames.{frameIn}
 use Rattle.script.specs.declared.Device.{Device}
-use Rattle.script.specs.declared.Device.the-variants.{I8255A as for8255A, I8355 as for8355}
+use Rattle.script.specs.declared.Device.the-variants.{I8255A as for8255A, I82C55A as for82C55A, I8355 as for8355}
 use Rattle.script.specs.declared.Answerer.{Answerer}
 use Rattle.script.specs.declared.Answerer.the-variants.{I8255A, I8355}
 use Rattle.script.specs.declared.Acted.{Acted}
@@ -35,7 +37,7 @@ unfoldable pub actedIn : {S R : Type 0} → bus.Device S R → S → Frame → G
 actedIn dev s (Event k x d) = stepIn dev s k x d
 actedIn dev s NoFrame = refusedIn s noFrameNumber
 
--- What the 8255A makes of a frame, and what the 8355 does, each as its step's struct.
+-- What the chip, of either edition, makes of a frame, and what the 8355 does, each as its step's struct.
 unfoldable pub acted : Chip → Frame → Stepped
 acted c f = asStepped (actedIn device c f)
 
@@ -92,13 +94,14 @@ unfoldable pub answersFrom : Answerer → List Line → List ℕ
 answersFrom m [] = []
 answersFrom m (l ∷ ls) = lineText (shownAfter (atLine m l)) ++ answersFrom (atLine m l .answerer) ls
 
--- A script meets a chip that was powered up with every line high.
-abbrev pub chipAtStart : Chip
-chipAtStart = powerUpWith allHigh
+-- A script meets a chip of the edition that it is for, which was powered up with every line high.
+abbrev pub chipAtStart : Edition → Chip
+chipAtStart ed = powerUpAs ed allHigh
 
 -- Who answers when a run begins: that chip, or an 8355 at its power-up.
 abbrev pub atStart : Device → Answerer
-atStart for8255A = I8255A chipAtStart
+atStart for8255A = I8255A (chipAtStart Older)
+atStart for82C55A = I8255A (chipAtStart Newer)
 atStart for8355 = I8355 powerUp
 
 -- The answers to a text.

@@ -1,4 +1,4 @@
-// Whoever answers a script, the 8255A or the 8355: how it begins, what it makes of a line, and what is shown of that.
+// Whoever answers a script, the 8255A, the 82C55A or the 8355: how it begins, what it makes of a line, and what is shown of that.
 ghost use mathlib.Core.Path.{_≡_};
 ghost use Rattle.script.specs.Answers.{atStart, acted8355, actedBy, levelsOf, shownAfter};
 use super::Acted;
@@ -6,6 +6,7 @@ use super::Answerer;
 use super::Device;
 use super::Shown;
 use super::on_8255a;
+use chip::Edition;
 use chip::PORT_A;
 use chip::PORT_B;
 use chip::PORT_C;
@@ -17,7 +18,8 @@ pub(super) fn start(device: Device) -> Answerer
     ensures { λ r. ⌜ r ≡ atStart device ⌝ }
 {
     match device {
-        Device::I8255A => Answerer::I8255A(on_8255a::chip_at_start()),
+        Device::I8255A => Answerer::I8255A(on_8255a::chip_at_start(Edition::Older)),
+        Device::I82C55A => Answerer::I8255A(on_8255a::chip_at_start(Edition::Newer)),
         Device::I8355 => Answerer::I8355(i8355::power_up()),
     }
 }

@@ -8,6 +8,7 @@ use super::LONGEST;
 use super::TOO_LONG;
 use super::on_8255a;
 use chip::Chip;
+use chip::Edition;
 use text::lines;
 
 // The number of the text, as a run has it, the chip, and the count of lines whose own number is not 0.
@@ -28,7 +29,7 @@ fn refusals(number: u8) -> usize
 fn walk(text: &[u8]) -> Left
     ensures { λ r. ⌜ r ≡ walkedThrough (now (text .entry)) ⌝ }
 {
-    let mut chip = on_8255a::chip_at_start();
+    let mut chip = on_8255a::chip_at_start(Edition::Older);
     let mut start = 0;
     let mut refused = 0;
     while start < text.len() {
@@ -52,7 +53,7 @@ pub fn chip_after(text: &[u8]) -> Left
     if LONGEST < text.len() {
         return Left {
             number: TOO_LONG,
-            chip: on_8255a::chip_at_start(),
+            chip: on_8255a::chip_at_start(Edition::Older),
             refused: 0,
         };
     }

@@ -34,10 +34,11 @@ pub struct Ran {
 // For which device a script is.
 pub enum Device {
     I8255A,
+    I82C55A,
     I8355,
 }
 
-// Whoever answers a script, as it is after some of its lines.
+// Whoever answers a script, as it is after some of its lines. The 82C55A is a chip of the newer edition.
 enum Answerer {
     I8255A(Chip),
     I8355(Chip8355),

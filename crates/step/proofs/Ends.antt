@@ -10,11 +10,11 @@ use Rattle.writes.specs.Write.{afterWriteEnds}
 use Rattle.step.specs.Step.{onBus, device, asStepped, accepted, refused, stepOf}
 
 -- In either phase it is accepted, and does what the cycle asks.
-pub read-ends : (c : Chip) (p x d : ℕ) → c .phase ≡ Reading p → stepOf c 2 x d ≡ accepted (onBus Idle (afterReadEnds (c .core) p)) 0
+pub read-ends : (c : Chip) (p x d : ℕ) → c .phase ≡ Reading p → stepOf c 2 x d ≡ accepted (onBus Idle (c .edition) (afterReadEnds (c .core) p)) 0
 unfolding stepOf
 read-ends c p x d phase = ap asStepped (bus.read-ends device c x d p phase)
 
-pub write-ends : (c : Chip) (a b x d : ℕ) → c .phase ≡ Writing a b → stepOf c 2 x d ≡ accepted (onBus Idle (afterWriteEnds (c .core) a b)) 0
+pub write-ends : (c : Chip) (a b x d : ℕ) → c .phase ≡ Writing a b → stepOf c 2 x d ≡ accepted (onBus Idle (c .edition) (afterWriteEnds (c .core) a b)) 0
 unfolding stepOf
 write-ends c a b x d phase = ap asStepped (bus.write-ends device c x d a b phase)
 
@@ -25,8 +25,8 @@ idle-ends-nothing c x d phase = ap asStepped (bus.idle-ends-nothing device c x d
 
 -- What holds of the chip itself where the bus is idle, and of what is left of it where a read or a write ends, holds after the event.
 pub by-phase : (P : Chip → Type 0) (c : Chip) (x d : ℕ) → (c .phase ≡ Idle → P c)
-    → ((p : ℕ) → c .phase ≡ Reading p → P (onBus Idle (afterReadEnds (c .core) p)))
-    → ((a b : ℕ) → c .phase ≡ Writing a b → P (onBus Idle (afterWriteEnds (c .core) a b)))
+    → ((p : ℕ) → c .phase ≡ Reading p → P (onBus Idle (c .edition) (afterReadEnds (c .core) p)))
+    → ((a b : ℕ) → c .phase ≡ Writing a b → P (onBus Idle (c .edition) (afterWriteEnds (c .core) a b)))
     → P (stepOf c 2 x d .chip)
 unfolding stepOf
 by-phase P c x d idle read write = bus.by-phase device c x d P idle read write

@@ -9,20 +9,20 @@ use Rattle.chip.specs.declared.Chip.{Chip}
 use Rattle.step.specs.Step.{limits, device, asStepped, accepted, refused, stepOf}
 
 module _ (c : Chip) (k x d : ℕ) where
-  pub step-accepts : numberOf limits (c .phase) k x ≡ 0 → stepOf c k x d ≡ accepted (afterIn device c k x d) (byteIn device c k x)
+  pub step-accepts : numberOf (limits (c .edition)) (c .phase) k x ≡ 0 → stepOf c k x d ≡ accepted (afterIn device c k x d) (byteIn device c k x)
   unfolding stepOf
   step-accepts e = ap asStepped (bus.accepts device c k x d e)
 
-  pub step-refuses : ¬ (numberOf limits (c .phase) k x ≡ 0) → stepOf c k x d ≡ refused c (numberOf limits (c .phase) k x)
+  pub step-refuses : ¬ (numberOf (limits (c .edition)) (c .phase) k x ≡ 0) → stepOf c k x d ≡ refused c (numberOf (limits (c .edition)) (c .phase) k x)
   unfolding stepOf
   step-refuses h = ap asStepped (bus.refuses device c k x d h)
 
   -- The number that the step gives is the table's.
-  pub step-number : stepOf c k x d .number ≡ numberOf limits (c .phase) k x
+  pub step-number : stepOf c k x d .number ≡ numberOf (limits (c .edition)) (c .phase) k x
   unfolding stepOf
   step-number = bus.number-given device c k x d
 
 -- What holds of the state before, and of the state after where the event is accepted, holds after the step.
-pub step-either : (P : Chip → Type 0) (c : Chip) (k x d : ℕ) → P c → (numberOf limits (c .phase) k x ≡ 0 → P (afterIn device c k x d)) → P (stepOf c k x d .chip)
+pub step-either : (P : Chip → Type 0) (c : Chip) (k x d : ℕ) → P c → (numberOf (limits (c .edition)) (c .phase) k x ≡ 0 → P (afterIn device c k x d)) → P (stepOf c k x d .chip)
 unfolding stepOf
 step-either P c k x d before after = bus.either device c k x d P before after

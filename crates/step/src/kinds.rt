@@ -6,32 +6,41 @@ ghost use Rattle.step.specs.Step.{onBus, afterEnd, device};
 use bus::Phase;
 use chip::Chip;
 use chip::Core;
+use chip::Edition;
 
-fn on_bus(phase: Phase, core: Core) -> Chip
-    ensures { λ r. ⌜ r ≡ onBus phase core ⌝ }
+fn on_bus(phase: Phase, edition: Edition, core: Core) -> Chip
+    ensures { λ r. ⌜ r ≡ onBus phase edition core ⌝ }
 {
-    Chip { phase, core }
+    Chip {
+        phase,
+        edition,
+        core,
+    }
 }
 
 pub fn reset(chip: Chip) -> Chip
     ensures { λ r. ⌜ r ≡ resetIn device chip ⌝ }
 {
-    on_bus(Phase::Idle, settings::renew(chip.core, chip::POWER_UP_WORD))
+    let edition = chip.edition;
+    let core = settings::renew(chip.core, chip::POWER_UP_WORD);
+    on_bus(Phase::Idle, edition, core)
 }
 
-pub fn begin_read(chip: Chip, port: u8) -> Chip
-    ensures { λ r. ⌜ r ≡ readBegunIn device chip port ⌝ }
+pub fn begin_read(chip: Chip, address: u8) -> Chip
+    ensures { λ r. ⌜ r ≡ readBegunIn device chip address ⌝ }
 {
-    on_bus(Phase::Reading(port), reads::begin(chip.core, port))
+    let edition = chip.edition;
+    let core = reads::begin(chip.core, address);
+    on_bus(Phase::Reading(address), edition, core)
 }
 
-// What the end of a cycle does to all but the bus.
+// What the end of a cycle does to the core.
 fn end(core: Core, phase: Phase) -> Core
     ensures { λ r. ⌜ r ≡ afterEnd core phase ⌝ }
 {
     match phase {
         Phase::Idle => core,
-        Phase::Reading(port) => reads::end(core, port),
+        Phase::Reading(address) => reads::end(core, address),
         Phase::Writing(address, byte) => writes::end(core, address, byte),
     }
 }
@@ -41,13 +50,15 @@ pub fn end_cycle(chip: Chip) -> Chip
     ensures { λ r. ⌜ r ≡ cycleEndedIn device chip ⌝ }
 {
     let phase = chip.phase;
-    on_bus(Phase::Idle, end(chip.core, phase))
+    let edition = chip.edition;
+    on_bus(Phase::Idle, edition, end(chip.core, phase))
 }
 
 pub fn begin_write(chip: Chip, address: u8, byte: u8) -> Chip
     ensures { λ r. ⌜ r ≡ writeBegunIn device chip address byte ⌝ }
 {
-    on_bus(Phase::Writing(address, byte), chip.core)
+    let edition = chip.edition;
+    on_bus(Phase::Writing(address, byte), edition, chip.core)
 }
 
 // Levels leave the bus as it is.
@@ -55,5 +66,6 @@ pub fn levels(chip: Chip, port: u8, levels: u8) -> Chip
     ensures { λ r. ⌜ r ≡ levelsPutIn device chip port levels ⌝ }
 {
     let phase = chip.phase;
-    on_bus(phase, levels::set(chip.core, port, levels))
+    let edition = chip.edition;
+    on_bus(phase, edition, levels::set(chip.core, port, levels))
 }

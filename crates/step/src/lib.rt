@@ -2,10 +2,11 @@
 ghost use mathlib.Core.Path.{_≡_};
 ghost use Rattle.bus.specs.Refusals.{numberOf};
 ghost use Rattle.bus.specs.Device.{afterIn, byteIn};
-ghost use Rattle.step.specs.Step.{limits, device, stepOf};
+ghost use Rattle.step.specs.Step.{readable, limits, device, stepOf};
 use bus::Limits;
 use bus::Phase;
 use chip::Chip;
+use chip::Edition;
 
 pub mod kinds;
 
@@ -16,14 +17,23 @@ pub struct Stepped {
     pub byte: u8,
 }
 
-// The number of an event while this runs on the bus. Control can be written alone, and has no levels.
-pub fn number(phase: Phase, kind: u8, first: u8) -> u8
-    ensures { λ r. ⌜ r ≡ numberOf limits phase kind first ⌝ }
+fn readable(edition: Edition) -> u8
+    ensures { λ r. ⌜ r ≡ readable edition ⌝ }
+{
+    match edition {
+        Edition::Older => 3,
+        Edition::Newer => 4,
+    }
+}
+
+// The number of an event while this runs on the bus of a chip of that edition. Control has no levels, and only the newer edition reads it.
+pub fn number(edition: Edition, phase: Phase, kind: u8, first: u8) -> u8
+    ensures { λ r. ⌜ r ≡ numberOf (limits edition) phase kind first ⌝ }
 {
     bus::number(
         Limits {
             addresses: 4,
-            readable: 3,
+            readable: readable(edition),
             ports: 3,
         },
         phase,
@@ -58,8 +68,9 @@ fn byte(chip: Chip, kind: u8, first: u8) -> u8
 pub fn step(chip: Chip, kind: u8, first: u8, second: u8) -> Stepped
     ensures { λ r. ⌜ r ≡ stepOf chip kind first second ⌝ }
 {
+    let edition = chip.edition;
     let phase = chip.phase;
-    let number = number(phase, kind, first);
+    let number = number(edition, phase, kind, first);
     if number != bus::ACCEPTED {
         return Stepped {
             chip,

@@ -1,5 +1,5 @@
-// The program: answers the script that stands on standard input, as an 8255A, by the word --8355 as an 8355, or by the word --rack as a
-// rack of cards; or, by the word --quiet, says why the interrupts are quiet after it.
+// The program: answers the script that stands on standard input, as an 8255A, by the word --82c55a as an 82C55A, by the word --8355 as an
+// 8355, or by the word --rack as a rack of cards; or, by the word --quiet, says why the interrupts are quiet after it.
 mod answers;
 mod input;
 mod output;
@@ -17,10 +17,13 @@ enum Asked {
 
 // The room is just that of the longest word: a longer one does not fit, and comes as none. Any other word is as none.
 fn first_word() -> Asked {
-    let mut word = [0u8; 7];
+    let mut word = [0u8; 8];
     let length = os::arg(1, &mut word);
     if check::same(&word[..length], b"--quiet") {
         return Asked::WhyQuiet;
+    }
+    if check::same(&word[..length], b"--82c55a") {
+        return Asked::Answers(Device::I82C55A);
     }
     if check::same(&word[..length], b"--8355") {
         return Asked::Answers(Device::I8355);

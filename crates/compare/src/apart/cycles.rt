@@ -20,10 +20,11 @@ pub(super) fn reset(machine: Machine) -> Machine {
     commands::set_mode(on_bus(machine, IDLE, 0, 0), POWER_UP_WORD)
 }
 
-// The byte that waits is the reader's, but the channel stays full until the end.
-pub(super) fn begin_read(machine: Machine, port: u8) -> Machine {
-    let next = on_bus(machine, READING, port, 0);
-    let channel = port as usize * 2;
+// The byte that waits is the reader's, but the channel stays full until the end. The lines of C and the control word have no channel, and a
+// read of them moves nothing.
+pub(super) fn begin_read(machine: Machine, address: u8) -> Machine {
+    let next = on_bus(machine, READING, address, 0);
+    let channel = address as usize * 2;
     if !words::strobed(machine.word, channel) {
         return next;
     }

@@ -1,6 +1,6 @@
-// The second model of the 8255A, written apart from the proved one, to be held against it. It uses nothing of the proved crates, nor of the
-// program around it, and keeps the chip in bytes and flat arrays with numbered places. Each function answers for every value of the
-// machine, reached or not.
+// The second model of the 8255A and the 82C55A, written apart from the proved one, to be held against it. It uses nothing of the proved
+// crates, nor of the program around it, and keeps the chip in bytes and flat arrays with numbered places. Each function answers for every
+// value of the machine, reached or not.
 
 mod channels; // the four handshake channels by number
 mod commands; // mode words and bit set/reset
@@ -10,14 +10,16 @@ mod edges; // new outside levels, the falls among them, and the latches that fol
 mod forcing; // IBF and OBF turned over by the program
 mod handshake; // what happens to a byte, and the tallies
 mod numbers; // which events are refused, and by which number
+mod parts; // the two parts
 mod pins; // levels, driven pins and read values
 mod reasons; // why INTR is low
 mod signals; // INTR, IBF and OBF
 mod words; // what a mode word makes of the ports
 
 pub(super) struct Machine {
+    pub(super) part: u8, // 0 an 8255A, 1 an 82C55A
     pub(super) phase: u8, // 0 idle, 1 reading, 2 writing
-    pub(super) place: u8, // the port being read, or the address being written; 0 when idle
+    pub(super) place: u8, // the address being read or written; 0 when idle
     pub(super) data: u8, // the byte being written; 0 when none is
     pub(super) word: u8, // the last mode word, as stored
     pub(super) outside_a: u8, // outside levels
@@ -42,8 +44,9 @@ pub(super) struct Explanation {
     pub(super) output: u8, // 0 no such half, 1 mode 0, 2 enable off, 3 OBF 0, 4 ACK low, 5 being written, 6 high
 }
 
-pub(super) fn power_up_with_levels(a: u8, b: u8, c: u8) -> Machine {
+pub(super) fn power_up_of(part: u8, a: u8, b: u8, c: u8) -> Machine {
     Machine {
+        part,
         phase: cycles::IDLE,
         place: 0,
         data: 0,
@@ -59,15 +62,15 @@ pub(super) fn power_up_with_levels(a: u8, b: u8, c: u8) -> Machine {
     }
 }
 
-// Idle lines are pulled down.
+// Where nothing is said it is an 8255A, and idle lines are pulled down.
 pub(super) fn power_up() -> Machine {
-    power_up_with_levels(0, 0, 0)
+    power_up_of(parts::I8255A, 0, 0, 0)
 }
 
 // One event. Operands that the kind lacks are not looked at. A begun read is the only event that answers a byte, and the byte is that
 // of the state before it.
 pub(super) fn event(mut machine: Machine, kind: u8, first: u8, second: u8) -> Answer {
-    let number = numbers::refusal(machine.phase, kind, first);
+    let number = numbers::refusal(machine, kind, first);
     let accepted = if number == 0 { kind } else { NO_KIND };
     let byte = match accepted {
         1 => pins::ask(machine, first, pins::READ),

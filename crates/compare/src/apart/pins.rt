@@ -1,4 +1,4 @@
-// The pins as an observer sees them, and the ports as a reader does.
+// The pins as an observer sees them, and the ports and the control word as a reader does.
 
 use super::Machine;
 use super::channels;
@@ -16,12 +16,21 @@ pub(super) const READ: u8 = 2;
 
 pub(super) const STORED: u8 = 3;
 
-// The answer of port 0, 1 or 2.
+// The answer of port 0, 1 or 2, or of the control word, which has no pins.
 pub(super) fn ask(machine: Machine, port: u8, asked: u8) -> u8 {
     match port {
         0 => ask_port(machine, 0, machine.outside_a, asked),
         1 => ask_port(machine, 1, machine.outside_b, asked),
         2 => ask_c(machine, asked),
+        3 => ask_word(machine, asked),
+        _ => 0,
+    }
+}
+
+// The mode word that is in force, which reads as one also where it was stored without its bit 7.
+fn ask_word(machine: Machine, asked: u8) -> u8 {
+    match asked {
+        READ => digits::with_bit(machine.word, 7, true),
         _ => 0,
     }
 }

@@ -14,6 +14,7 @@ use super::bases::Bases;
 use bus::Phase;
 use chip::Chip;
 use chip::Core;
+use chip::Edition;
 use rack::Rack;
 
 fn core(seed: u64) -> Core {
@@ -75,6 +76,7 @@ fn twin_at(rack: Rack, place: u8) -> Machine {
     let bus = running(rack);
     let mut machine = twins::machine(Chip {
         phase: Phase::Idle,
+        edition: Edition::Older,
         core,
     });
     if taken(bus) == place {

@@ -7,7 +7,7 @@ use Rattle.older.proofs.moved.Tie as tie
 
 pub moved-spec : {M : Type 1} → statement M
 moved-spec = tie.close (tie.spec
-    (λ c. search needs)
+    (λ c. search needs) (λ c. search needs)
     (λ c. search needs) (λ c κs. search needs)
     (λ c. search needs) (λ c. search needs) (λ c κs. search needs)
     (λ c. search needs) (λ c. search needs) (λ c. search needs) (λ c. search needs) (λ c κs. search needs)

@@ -1,4 +1,4 @@
--- `accepted::levels` meets its contract: all but the bus is saved.
+-- `accepted::levels` meets its contract: all but the bus and the edition is saved.
 -- Rests on image's Parts.
 use borrow.Author.Needs.{needs}
 use Rattle.image.specs.Good.{Told}

@@ -9,7 +9,9 @@ unfolding stateOf
 whole-spec = tie.close (tie.spec
     (λ c. search needs) (λ c. search needs) (λ c κs. search needs) (λ c. search needs) (λ c κs. search needs) (λ c. search needs)
     (λ c. search needs) (λ c. search needs) (λ c κs. tt) (λ c. search needs) (λ c. search needs) (λ c κs. tt)
+    (λ c. search needs) (λ c κs. tt)
     (λ c.
-    let enables = c .before .before .before in
+    let phase = c .before .before in
+    let enables = phase .before .before .before in
     let port2 = enables .before .before .before .before in
-    rw (c .phase .ensures, enables .enables .ensures, port2 .port2 .ensures, port2 .before .before .port .ensures)))
+    rw (c .edition .ensures, phase .phase .ensures, enables .enables .ensures, port2 .port2 .ensures, port2 .before .before .port .ensures)))

@@ -11,13 +11,13 @@ use Rattle.rack.specs.State.{noCore}
 use Prim.Native.Nat.{_-_}
 use lib.ListN.{length}
 use borrow.Author.Needs.{needs}
-use Rattle.step.specs.Step as card
+use Rattle.rack.specs.Step.{coreReset}
 use Rattle.rack.proofs.Mapped.{mapped, mapped-next, mapped-all}
 use Rattle.rack.proofs.event.reset.Statement.{statement}
 use Rattle.rack.proofs.event.reset.Tie as tie
 
 abbrev Inv-loop : tie.InvT-loop
-Inv-loop cores₀ place₀ cores place = cores ≡ mapped (card.device .afterReset) place cores₀
+Inv-loop cores₀ place₀ cores place = cores ≡ mapped coreReset place cores₀
 
 abbrev μ-loop : tie.MeasureT-loop
 μ-loop cores₀ place₀ cores place = 8 - place
@@ -30,10 +30,10 @@ loop-again : tie.Need-loop-again Inv-loop μ-loop
 loop-again c =
     let turn = c .before .before .before .before in
     rw (add-one (turn .loop .place), c .before .reset .ensures, turn .loop .inv)
-    (mapped-next (card.device .afterReset) (turn .before .args .t1) (turn .loop .place) noCore (omega (arith, eight (turn .before))))
+    (mapped-next coreReset (turn .before .args .t1) (turn .loop .place) noCore (omega (arith, eight (turn .before))))
 
 returns : tie.Need-returns Inv-loop μ-loop
-returns c = c .before .loop .inv ∙ mapped-all (card.device .afterReset) (c .before .before .args .t1) (c .before .loop .place)
+returns c = c .before .loop .inv ∙ mapped-all coreReset (c .before .before .args .t1) (c .before .loop .place)
     (omega (arith, eight (c .before .before)))
 
 pub reset-spec : {M : Type 1} → statement M
