@@ -1,5 +1,5 @@
 -- Where no program forces a flag, no byte is planted and none is struck: from any chip, and from every power-up.
--- Rests on Shapes, Story, SurroundingsKept, Followed and Counted.
+-- Rests on Shapes, Story and Counted.
 use mathlib.Core.Path.{_≡_, _∙_, refl, ap}
 use mathlib.Core.Bool.{false}
 use mathlib.Core.List.{List, [], _∷_, _++_}

@@ -1,6 +1,6 @@
 -- A flag that is forced, in every state: the pin shows the level to which it was put, but for IBF while a byte is fetched; and what it said before
 -- and says now is counted ("Writes and bit set/reset", "Forcing the flags").
--- Rests on ChannelPins and FlagAfter, on the channel's ConditionsLeft, settings' Flags and PortsAfter, and the step's Ends.
+-- Rests on ChannelPins and FlagAfter, on the channel's ConditionsLeft, settings' PortsAfter and the step's Ends.
 use mathlib.Core.Path.{_≡_, _∙_, refl, ap}
 use mathlib.Core.Bool.{Bool, true, false}
 use Prim.Native.Nat.{ℕ, _/_, _%_}

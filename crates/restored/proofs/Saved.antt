@@ -1,5 +1,5 @@
 -- Demand 3 from a chip that a host restores from an image; and what the host holds after a power-up.
--- Rests on Conditions, Stays and Holds, on image's ComesBack, OneImage and SameBytes, and on fates' Tables, SurroundingsKept, Followed, SameByte,
+-- Rests on Conditions, Stays and Holds, on image's ComesBack and SameBytes, and on fates' Tables, SurroundingsKept, Followed, SameByte,
 -- InTheLatch, Discipline, Unforced and Demand.
 use mathlib.Core.Path.{_≡_, _∙_, ap, sym, subst}
 use mathlib.Core.Bool.{true}
