@@ -1,5 +1,5 @@
 # Where the Rattle kit has its tools, and how a program that was made for x86-64 is run: on x86-64 under the kit's loader, on another
-# processor under its emulator too. Read in by ./run, tests/linked and bench/measure, once they know that the command rt is there.
+# processor under its emulator too. Read in by ./build, ./run, tests/linked and bench/measure, once they know that the command rt is there.
 # shellcheck shell=sh disable=SC2034
 home=${RATTLE_HOME:-$(dirname "$(dirname "$(readlink -f "$(command -v rt)")")")}
 kit=$home/on/$(uname -m)

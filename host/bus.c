@@ -1,4 +1,4 @@
-/* The bus: every cycle and every change of a level is an event of the model. */
+/* The bus: every cycle and every change of a level is an event of the model, and is logged. */
 #include "bus.h"
 
 #include <stdio.h>
@@ -30,6 +30,7 @@ static int runs(unsigned int answer)
 
 static unsigned int event(struct bus *bus, unsigned char kind, unsigned char first, unsigned char second)
 {
+    journal_log(&bus->journal, kind, first, second);
     return towanchor_step(bus->image, sizeof bus->image, kind, first, second);
 }
 
@@ -47,6 +48,7 @@ void bus_power_up(struct bus *bus, unsigned char edition, pin_view its_view)
     bus->view = its_view;
     bus->outside_c = high;
     accepted(towanchor_power_up_as(bus->image, sizeof bus->image, edition, high, high, high));
+    journal_begin(&bus->journal, edition, high, high, high);
 }
 
 int bus_begin_read(struct bus *bus, unsigned char address, unsigned char *byte)

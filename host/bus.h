@@ -2,7 +2,7 @@
 #ifndef HOST_BUS_H
 #define HOST_BUS_H
 
-#include "towanchor.h"
+#include "journal.h"
 
 /* How a card shows the pins of a port: towanchor_pins, or the view of a card that differs. */
 typedef unsigned int (*pin_view)(const unsigned char *image, size_t length, unsigned char port);
@@ -11,6 +11,7 @@ struct bus {
     unsigned char image[TOWANCHOR_IMAGE_SIZE]; /* the whole card */
     unsigned char outside_c;                   /* the levels that the outside puts on port C: its own, not the card's */
     pin_view view;
+    struct journal journal;                    /* what the card was told since its power-up */
 };
 
 /* What a read gets that the card refuses: nothing drives the data lines then, and on this backplane idle lines are high. */

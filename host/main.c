@@ -1,5 +1,6 @@
 /* One bale is weighed five times: on this card, on this card with its image saved and restored at every turn, on this card by a scale that
- * strobes too early, on last season's card, and on a new one, which carries an 82C55A. Printer and program are the same. */
+ * strobes too early, on last season's card, and on a new one, which carries an 82C55A. Printer and program are the same. Then the journal of
+ * the first machine is trimmed, and replayed on another card. */
 #include "old_card.h"
 #include "program.h"
 
@@ -63,9 +64,24 @@ static const char *compared(const struct machine *machine, const struct machine 
     return strcmp(machine->printer.text, other->printer.text) == 0 ? "equal" : "different";
 }
 
+/* Trims a machine's journal, and lets what is kept of it happen to another card. */
+static void replay(struct machine *machine)
+{
+    struct journal *journal = &machine->bus.journal;
+    unsigned char image[TOWANCHOR_IMAGE_SIZE];
+
+    journal_trim(journal);
+    printf("the first card's journal: %lu events logged, %lu kept\n", journal->logged, (unsigned long)journal->count);
+    journal_replay(journal, image);
+    printf("    the image of a card on which these are replayed, and the first card's: %s\n",
+           memcmp(image, machine->bus.image, sizeof image) == 0 ? "equal" : "different");
+    journal_trim(journal);
+    printf("    kept when it is trimmed again: %lu\n", (unsigned long)journal->count);
+}
+
 int main(void)
 {
-    struct machine plain, restored, hasty, old, renewed;
+    static struct machine plain, restored, hasty, old, renewed;
     struct restorations restorations = {0, 0};
 
     weigh(&plain, TOWANCHOR_8255A, towanchor_pins, SCALE_STEADY, NULL);
@@ -87,5 +103,6 @@ int main(void)
     printf("    its ticket and the first: %s\n", compared(&plain, &renewed));
     printf("    control is read back as %02X, and as %02X on the first card, which refuses that\n",
            machine_read(&renewed, TOWANCHOR_CONTROL), machine_read(&plain, TOWANCHOR_CONTROL));
+    replay(&plain);
     return 0;
 }

@@ -1,5 +1,6 @@
 /*
- * Towanchor: a proved model of Intel's 8255A and of its newer edition, the 82C55A, as C functions over an image of 96 bytes.
+ * Towanchor: a proved model of Intel's 8255A and of its newer edition, the 82C55A, as C functions over an image of 96 bytes, and one over a
+ * journal of events.
  *
  * An image is the whole state of one chip. The host owns it: it may lie at any address, be copied, saved, moved and restored
  * byte by byte, and there may be as many as the host likes, one for each chip. The host need not look inside. A new image is
@@ -13,8 +14,8 @@
  * with; restoring is no power-up. A machine that was made for lines which idle high, as they did on the old backplane, names them
  * when it is switched on anew: towanchor_power_up_with_levels(image, length, 0xFF, 0xFF, 0xFF).
  *
- * What a function answers, and what it writes into the image, depends on the image and the operands and on nothing else. No
- * function allocates, prints, keeps anything from one call to the next, or fails. Each that takes an image returns one number, to be
+ * What a function answers, and what it writes into the image or the journal, depends on these and the operands and on nothing else. No
+ * function allocates, prints, keeps anything from one call to the next, or fails. Each but towanchor_words returns one number, to be
  * taken apart by the macros below, of which TOWANCHOR_NUMBER says whether the call was accepted. A refused call writes nothing, and
  * all bits of its answer above the number are 0. 'image' points to 'length' bytes, and 'length' must be TOWANCHOR_IMAGE_SIZE.
  */
@@ -36,16 +37,18 @@ extern "C" {
 #define TOWANCHOR_8255A 0          /* the older part; it is made where no edition is named */
 #define TOWANCHOR_82C55A 1         /* the newer part */
 
-/* The number of an answer. Where several would apply, TOWANCHOR_NO_STATE comes first, and then the lowest. */
+/* The number of an answer. Where several would apply, TOWANCHOR_NO_STATE comes first, then TOWANCHOR_TOO_LONG, and then the lowest. */
 #define TOWANCHOR_ACCEPTED 0       /* nothing was refused */
 #define TOWANCHOR_NO_SUCH_KIND 1   /* the kind of an event is none of those below */
+#define TOWANCHOR_NO_FRAME 1       /* the same number, from towanchor_trim: a word of the journal is no frame */
 #define TOWANCHOR_OUT_OF_RANGE 2   /* an address above 3, a port above 2, a channel above 3, a tally above 6 or a group above 1 */
 #define TOWANCHOR_NOT_READABLE 3   /* a read was begun at the control address of an 8255A; an 82C55A never gives this number */
 #define TOWANCHOR_CYCLE_RUNS 4     /* a read or a write was begun while one runs */
 #define TOWANCHOR_NO_CYCLE_RUNS 5  /* a cycle was ended while none runs */
+#define TOWANCHOR_TOO_LONG 6       /* from towanchor_trim: the journal has more than TOWANCHOR_MOST_WORDS words */
 #define TOWANCHOR_NO_STATE 8       /* a length is not that of an image, the image, or older image, is of no state, or the edition is none */
 
-/* Kinds of events, with the operands that each takes; those that a kind lacks are ignored.
+/* Kinds of events, with the operands that each takes; those that a kind lacks are ignored by towanchor_step, and 0 in a journal.
  *
  * Reads and writes end by the same kind, which stands where earlier versions had one for each, 2 for reads and 4 for writes. There is no
  * kind 4 now: it is refused with TOWANCHOR_NO_SUCH_KIND, and the write goes on until TOWANCHOR_END_CYCLE ends it. */
@@ -116,12 +119,25 @@ extern "C" {
 #define TOWANCHOR_OWN_CYCLE 5      /* low: a read of an input's port runs, or a write to an output's */
 #define TOWANCHOR_HIGH 6           /* high */
 
+/* Journals: a host may log the events that it passes to towanchor_step, from power-up on, to let them happen once more. A journal is an array
+ * of words of 32 bits, one for each event: the kind in the upper sixteen bits, and a byte for either operand, the first above the second.
+ *
+ * Each word is a frame: its kind is one of those above, and operands that the kind lacks are 0. It does not matter whether the event was
+ * accepted; but one of a kind that there is not, 4 among them, is no frame and must not be logged. A word that is 0 is a reset. */
+#define TOWANCHOR_MOST_WORDS 8192  /* the most that a journal has which is trimmed */
+#define TOWANCHOR_WORD(kind, first, second) \
+    (((kind) & 0xFFu) << 16 | ((first) & 0xFFu) << 8 | ((second) & 0xFFu)) /* an event as a word; each of the three is cut to a byte */
+#define TOWANCHOR_WORD_KIND(word) (((word) >> 16) & 0xFFFFu)  /* the kind, which is a byte where the word is a frame */
+#define TOWANCHOR_WORD_FIRST(word) (((word) >> 8) & 0xFFu)    /* the first operand */
+#define TOWANCHOR_WORD_SECOND(word) ((word) & 0xFFu)          /* the second operand */
+
 /* Taking an answer apart. */
 #define TOWANCHOR_NUMBER(answer) ((answer) & 0xFFu)           /* of every answer: 0, or why the call was refused */
 #define TOWANCHOR_BYTE(answer) (((answer) >> 8) & 0xFFu)      /* of towanchor_step: the byte that is read */
 #define TOWANCHOR_LEVELS(answer) (((answer) >> 8) & 0xFFu)    /* of towanchor_pins: the levels of the eight pins */
 #define TOWANCHOR_DRIVEN(answer) (((answer) >> 16) & 0xFFu)   /* of towanchor_pins: a one for each pin that the chip drives */
 #define TOWANCHOR_TALLY(answer) (((answer) >> 8) & 0xFFFFu)   /* of towanchor_tally: the count */
+#define TOWANCHOR_KEPT(answer) ((answer) >> 8)                /* of towanchor_trim: how many words were kept */
 #define TOWANCHOR_REASON(answer, half) \
     (((answer) >> ((half) == TOWANCHOR_OUTPUT_HALF ? 16 : 8)) & 0xFFu) /* of towanchor_explain: what that half is doing */
 
@@ -166,6 +182,31 @@ unsigned int towanchor_tally(const unsigned char *image, size_t length, unsigned
 /* Explains a group's INTR: what each of its halves is doing and, where it is low, the first reason (TOWANCHOR_REASON). TOWANCHOR_NUMBER
  * is asked first: a refused answer has TOWANCHOR_NO_HALF for both halves. */
 unsigned int towanchor_explain(const unsigned char *image, size_t length, unsigned char group);
+
+/* Trims a journal: the events after which the state of the chip is another than before are kept, and all others are dropped. 'words' points
+ * to 'count' words, just those that the host has logged: a word that it has not used yet would be taken for an event.
+ *
+ * The log must begin at a power-up, and the edition and the levels must be those of that power-up, as towanchor_power_up_as takes them; after
+ * towanchor_power_up they are TOWANCHOR_8255A and 0, 0, 0. Under others the wrong events would be dropped. A log that begins at an image
+ * which was saved cannot be trimmed.
+ *
+ * Dropped are events that are refused, resets which find all as at power-up, levels and tallies aside, and levels that change nothing. Every
+ * beginning and every end of a cycle that is accepted is kept. So are levels that are there already, where they go through to an input latch
+ * that has something else, as it may have after a mode word which came while STB was low.
+ *
+ * The kept words are moved to the front, in their order, and the rest of the 'count' words are made 0. The answer has how many were kept
+ * (TOWANCHOR_KEPT). The host logs its next event behind them, at words[TOWANCHOR_KEPT(answer)], and may trim again when the array is full.
+ * Trimming what was kept keeps all of it; where everything is kept no room is gained.
+ *
+ * To replay a journal, trimmed or not, the host powers up a chip as at its beginning and passes word after word to towanchor_step, by
+ * TOWANCHOR_WORD_KIND, TOWANCHOR_WORD_FIRST and TOWANCHOR_WORD_SECOND. The kept words lead to the same image as all of them, byte for byte,
+ * tallies and all; each of them finds the state that it found before, and is answered as it was.
+ *
+ * Refuses, in this order: an edition that is none, with TOWANCHOR_NO_STATE; more than TOWANCHOR_MOST_WORDS words, with TOWANCHOR_TOO_LONG; a
+ * word that is no frame, wherever it stands, with TOWANCHOR_NO_FRAME. A refused call changes no word. An empty journal is accepted, and
+ * nothing of it kept. A program that does not call this function links nothing of it. */
+unsigned int towanchor_trim(unsigned int *words, size_t count, unsigned char edition, unsigned char levels_a, unsigned char levels_b,
+                            unsigned char levels_c);
 
 /* The words of a reason of either half, as in "low, the acknowledge line is low". A number that is no reason has those of
  * TOWANCHOR_NO_HALF. gcc and clang do not warn a host that has no use for it. */

@@ -4,6 +4,7 @@
 int main()
 {
     unsigned char image[TOWANCHOR_IMAGE_SIZE];
+    unsigned int words[] = {TOWANCHOR_WORD(TOWANCHOR_RESET, 0, 0)};
     unsigned int refused = 0;
 
     refused |= TOWANCHOR_NUMBER(towanchor_power_up(image, sizeof image));
@@ -13,5 +14,6 @@ int main()
     refused |= TOWANCHOR_NUMBER(towanchor_pins(image, sizeof image, TOWANCHOR_A));
     refused |= TOWANCHOR_NUMBER(towanchor_tally(image, sizeof image, TOWANCHOR_A_IN, TOWANCHOR_OFFERED));
     refused |= TOWANCHOR_NUMBER(towanchor_explain(image, sizeof image, TOWANCHOR_GROUP_A));
+    refused |= TOWANCHOR_NUMBER(towanchor_trim(words, sizeof words / sizeof *words, TOWANCHOR_82C55A, 0xFF, 0xFF, 0xFF));
     return refused == 0 && towanchor_words(TOWANCHOR_HIGH, TOWANCHOR_INPUT_HALF)[0] == 'h' ? 0 : 1;
 }

@@ -1,5 +1,6 @@
 /* The machine of host/: what the outside puts on the lines of port C stays while the card drives the pins, and a guest may do what the card
- * refuses, and goes on; with an 82C55A it reads control. */
+ * refuses, and goes on; with an 82C55A it reads control. Its journal leads to its card, also where many more events came than there is room
+ * for, and says so where it does not any more. */
 #include "../../host/machine.h"
 #include "checks.h"
 
@@ -83,6 +84,54 @@ static void read_back(unsigned char word)
     check(machine_read(&machine, TOWANCHOR_CONTROL) == word, "the machine reads control after mode word", word);
 }
 
+/* The journal has missed nothing, and leads to the card, before it is trimmed and after. */
+static void replays(const char *when)
+{
+    struct journal *journal = &machine.bus.journal;
+    unsigned char image[TOWANCHOR_IMAGE_SIZE];
+    unsigned long logged = journal->logged;
+
+    check(journal->missed == 0, when, 0);
+    journal_replay(journal, image);
+    check(memcmp(image, machine.bus.image, sizeof image) == 0, when, 1);
+    journal_trim(journal);
+    check(journal->count < logged && journal->logged == logged, when, 2);
+    journal_replay(journal, image);
+    check(memcmp(image, machine.bus.image, sizeof image) == 0, when, 3);
+}
+
+/* Lines that stay as they are, many times as often as a journal has words, and a cycle of two events now and then. */
+static void stays_short(void)
+{
+    unsigned int each, cycles = 0;
+
+    bus_power_up(&machine.bus, TOWANCHOR_8255A, towanchor_pins);
+    for (each = 0; each < 5 * TOWANCHOR_MOST_WORDS; each++) {
+        bus_put_levels(&machine.bus, TOWANCHOR_A, 0xFF);
+        if (each % 1000 == 0) {
+            write_byte(TOWANCHOR_CONTROL, ALL_IN);
+            cycles++;
+        }
+    }
+    replays("the journal of idle lines");
+    check(machine.bus.journal.count == 2 * cycles, "what is kept of idle lines", (unsigned int)machine.bus.journal.count);
+}
+
+/* Cycles that fill it: of what comes then nothing is logged, and the machine goes on. */
+static void fills_up(void)
+{
+    const struct journal *journal = &machine.bus.journal;
+    unsigned int each;
+
+    bus_power_up(&machine.bus, TOWANCHOR_8255A, towanchor_pins);
+    for (each = 0; each < TOWANCHOR_MOST_WORDS / 2; each++)
+        write_byte(TOWANCHOR_CONTROL, ALL_IN);
+    check(journal->missed == 0, "a journal that is just full has missed", (unsigned int)journal->missed);
+    write_byte(TOWANCHOR_CONTROL, ALL_OUT);
+    check(journal->missed == 2 && journal->count == TOWANCHOR_MOST_WORDS, "a full journal has missed", (unsigned int)journal->missed);
+    check(bus_levels(&machine.bus, TOWANCHOR_C) == 0, "the card goes on when the journal is full", 0);
+}
+
 int main(void)
 {
     unsigned int value;
@@ -97,8 +146,12 @@ int main(void)
     }
 
     guest(TOWANCHOR_8255A, TOWANCHOR_CONTROL);
+    replays("the journal of a guest of an 8255A");
     guest(TOWANCHOR_82C55A, TOWANCHOR_CONTROL + 1);
     for (value = 0x80; value < 256; value++)
         read_back((unsigned char)value);
+    replays("the journal of a guest of an 82C55A");
+    stays_short();
+    fills_up();
     return checked();
 }

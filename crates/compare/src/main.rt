@@ -1,12 +1,13 @@
 // Runs two models of a chip over the same pseudo-random histories, the proved one and a second one that was written apart
 // from it, and compares what they show, keep and count after every event: first of the 8255A and the 82C55A, then of the 8355 and of
-// racks of cards.
+// racks of cards. Then it compares two trimmers of journals in the same way.
 mod agree;
 mod apart; // the second model
 mod counts;
 mod events;
 mod exchanges;
 mod history;
+mod journals; // journals, trimmed
 mod ports_8355; // the 8355
 mod print;
 mod racks; // racks of cards
@@ -42,7 +43,7 @@ fn runs_8355(text: &[u8], first: usize) -> usize {
 }
 
 // Those of racks, in the same way.
-fn runs_of_racks(text: &[u8], first: usize) {
+fn runs_of_racks(text: &[u8], first: usize) -> usize {
     let good = racks::from_good_bases();
     print::word(b"racks with good bases");
     print::filled(text, first, &good);
@@ -51,15 +52,21 @@ fn runs_of_racks(text: &[u8], first: usize) {
     print::filled(text, first, &any);
     let strange = racks::from_arbitrary_states();
     print::word(b"racks in arbitrary states");
-    print::filled(text, first, &strange);
+    print::filled(text, first, &strange)
+}
+
+fn run_of_journals(text: &[u8], first: usize) {
+    let trimmed = journals::from_any_power_up();
+    print::word(b"trimmed from any power-up");
+    print::filled(text, first, &trimmed);
 }
 
 fn all(text: &[u8]) {
-    runs_of_racks(text, runs_8355(text, runs_8255a(text)));
+    run_of_journals(text, runs_of_racks(text, runs_8355(text, runs_8255a(text))));
 }
 
-// What is printed of each run stands on standard input, a part for each chip and one for racks, with a sign for each count in their
-// order.
+// What is printed of each run stands on standard input, a part for each chip, one for racks and one for journals, with a sign for each
+// count in their order.
 fn main() {
     let mut room = io::large_buffer();
     let length = io::read_full(STDIN_FILENO, &mut room);

@@ -124,3 +124,17 @@ same f g = eqb (rank f) (rank g)
 abbrev pub count : Fate → List Byte → ℕ
 count f [] = 0
 count f (b ∷ bs) = num (same f (b .outcome .fate)) + count f bs
+
+-- A byte, its places aside: whether it was planted, its value and its fate.
+pub record ValueAndFate : Type 0 where
+  pub planted : Bool
+  pub value : ℕ
+  pub fate : Fate
+
+abbrev pub valueAndFate : Byte → ValueAndFate
+valueAndFate b = record { planted = b .offer .planted; value = b .offer .value; fate = b .outcome .fate }
+
+-- So of all the bytes of a channel, in their order.
+abbrev pub valuesAndFates : List Byte → List ValueAndFate
+valuesAndFates [] = []
+valuesAndFates (b ∷ bs) = valueAndFate b ∷ valuesAndFates bs

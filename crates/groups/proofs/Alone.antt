@@ -17,12 +17,12 @@ use Rattle.chip.specs.State.{powerUpAs, portOf, channelOf}
 use Rattle.step.specs.Step.{stepped}
 use Rattle.fates.specs.Surroundings.{atPowerUp}
 use Rattle.fates.specs.Effects.{Effect, levelsOn, effect, effects}
-use Rattle.fates.specs.Bytes.{offeredAt, bytesOf}
+use Rattle.fates.specs.Bytes.{offeredAt, bytesOf, valuesAndFates}
 use Rattle.fates.specs.Promise.{run, surroundingsOf}
 use Rattle.fates.proofs.SurroundingsKept.{surroundings-next}
 use Rattle.groups.specs.Belongings.{belongingsOf}
 use Rattle.groups.specs.Doings.{other, itsCycle}
-use Rattle.groups.specs.Alone.{without, everInTheWay, outOfTheWay, valuesAndFates}
+use Rattle.groups.specs.Alone.{without, everInTheWay, outOfTheWay}
 use Rattle.groups.specs.Apart.{SameTo}
 use Rattle.groups.proofs.Alike.{alike-same}
 use Rattle.groups.proofs.Seen.{same-belongings}

@@ -9,9 +9,8 @@ use Rattle.channel.specs.declared.Fill.{Fill}
 use Rattle.channel.specs.declared.Fill.the-variants.{Empty, Waiting, Fetching}
 use Rattle.fates.specs.Effects.{Effect, offered, followed, taken, ended, clearedAway, forcedFull, forcedEmpty, nothing}
 use Rattle.fates.specs.Left.{Left, left, roomIn, leftAfter}
-use Rattle.fates.specs.Bytes.{Offer, Byte, plantedAt, outcomeOf, settled, withFate, bytes}
+use Rattle.fates.specs.Bytes.{Offer, Byte, plantedAt, outcomeOf, settled, withFate, bytes, valuesAndFates}
 use Rattle.fates.specs.Promise.{heldByte}
-use Rattle.groups.specs.Alone.{valuesAndFates}
 
 -- An effect before others, unless it is `nothing`.
 abbrev pub hearing : Effect → List Effect → List Effect

@@ -1,13 +1,11 @@
 -- A history without one group's events, and when that makes no difference to the other group: no chip is asked ("Two groups").
 use mathlib.Core.Bool.{Bool, false, cond, not, _&&_, _||_}
 use mathlib.Core.List.{List, [], _∷_}
-use Prim.Native.Nat.{ℕ}
 use Rattle.events.specs.Event.{Event}
 use Rattle.bus.specs.declared.Phase.the-variants.{Idle}
 use Rattle.control.specs.declared.Group.{Group}
 use Rattle.fates.specs.Kinds.{Kind, kindOf, accepts}
 use Rattle.fates.specs.Surroundings.{Surroundings, surroundingsNext}
-use Rattle.fates.specs.Bytes.{Fate, Byte}
 use Rattle.groups.specs.Doings.{itsCycle, isOf}
 
 -- The history without the group's events, be they accepted or refused.
@@ -28,17 +26,3 @@ everInTheWay g a (e ∷ es) = inTheWay g a (kindOf e) || everInTheWay g (surroun
 -- The group's cycles are out of the way: none runs where the history begins, and none is in the way of an event.
 abbrev pub outOfTheWay : Group → Surroundings → List Event → Bool
 outOfTheWay g a es = not (itsCycle g (a .phase)) && not (everInTheWay g a es)
-
--- A byte, its places aside: whether it was planted, its value and its fate.
-pub record ValueAndFate : Type 0 where
-  pub planted : Bool
-  pub value : ℕ
-  pub fate : Fate
-
-abbrev pub valueAndFate : Byte → ValueAndFate
-valueAndFate b = record { planted = b .offer .planted; value = b .offer .value; fate = b .outcome .fate }
-
--- So of all the bytes of a channel, in their order.
-abbrev pub valuesAndFates : List Byte → List ValueAndFate
-valuesAndFates [] = []
-valuesAndFates (b ∷ bs) = valueAndFate b ∷ valuesAndFates bs

@@ -10,10 +10,10 @@ use Rattle.control.specs.declared.Group.{Group}
 use Rattle.channel.specs.declared.Side.{Side}
 use Rattle.chip.specs.declared.Chip.{Chip}
 use Rattle.fates.specs.Effects.{portNumber}
+use Rattle.fates.specs.Bytes.{valuesAndFates}
 use Rattle.fates.specs.Promise.{run, newBytes, oldByte}
 use Rattle.groups.specs.Belongings.{belongingsOf}
 use Rattle.groups.specs.Doings.{actsOn}
-use Rattle.groups.specs.Alone.{valuesAndFates}
 
 -- The events leave the group as it was.
 abbrev pub Left : Group → Chip → List Event → Type 0

@@ -14,9 +14,9 @@ use Rattle.chip.specs.declared.Edition.the-variants.{Older}
 use Rattle.chip.specs.State.{allHigh}
 use Rattle.laws.specs.Marked.{strobe}
 use Rattle.fates.specs.Surroundings.{Surroundings, atPowerUp}
-use Rattle.fates.specs.Bytes.{Fate, handedOver, waiting, bytesOf}
+use Rattle.fates.specs.Bytes.{Fate, handedOver, waiting, bytesOf, ValueAndFate, valuesAndFates}
 use Rattle.groups.specs.Doings.{onlyOf}
-use Rattle.groups.specs.Alone.{without, outOfTheWay, ValueAndFate, valuesAndFates}
+use Rattle.groups.specs.Alone.{without, outOfTheWay}
 
 -- Both ports have a handshake: A takes, and B gives.
 abbrev pub setUp : List Event

@@ -65,7 +65,7 @@ module _ (l : List ℕ) (bytes : Bytes l) where
   sixteen-bits B Output = tally-small (places.tallies + places.channelTallies * 3)
 
 -- In a chip that has an image a byte waits only where the mode word strobes the channel.
-waits-strobed : (g : Group) (s : Side) (c : Chip) → hasImage c ≡ true → WaitsByHandshake g s c
+pub waits-strobed : (g : Group) (s : Side) (c : Chip) → hasImage c ≡ true → WaitsByHandshake g s c
 waits-strobed g s c has waits =
     let w = c .core .word in
     strobed-alone w g s (strobes-same w g s ∙ sym (ap (allowed (strobed w g s) s) waits) ∙ apart c has .channel g s)

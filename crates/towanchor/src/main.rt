@@ -1,10 +1,13 @@
 // The program: answers the script that stands on standard input, as an 8255A, by the word --82c55a as an 82C55A, by the word --8355 as an
-// 8355, or by the word --rack as a rack of cards; or, by the word --quiet, says why the interrupts are quiet after it.
+// 8355, or by the word --rack as a rack of cards; or, by the word --quiet, says why the interrupts are quiet after it; or, by the word
+// --trim, prints those of its lines that change the chip.
 mod answers;
 mod input;
 mod output;
 mod quiet;
 mod racks;
+mod strays;
+mod trim;
 
 use script::Device;
 
@@ -13,6 +16,7 @@ enum Asked {
     Answers(Device),
     RackAnswers,
     WhyQuiet,
+    WhatChanges,
 }
 
 // The room is just that of the longest word: a longer one does not fit, and comes as none. Any other word is as none.
@@ -31,6 +35,9 @@ fn first_word() -> Asked {
     if check::same(&word[..length], b"--rack") {
         return Asked::RackAnswers;
     }
+    if check::same(&word[..length], b"--trim") {
+        return Asked::WhatChanges;
+    }
     Asked::Answers(Device::I8255A)
 }
 
@@ -40,6 +47,7 @@ fn answer(text: &[u8]) {
         Asked::Answers(device) => answers::answer(device, text),
         Asked::RackAnswers => racks::answer(text),
         Asked::WhyQuiet => quiet::explain(text),
+        Asked::WhatChanges => trim::trim(text),
     }
 }
 

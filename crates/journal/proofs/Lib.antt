@@ -1,0 +1,6 @@
+pub mod Packed
+pub mod Ahead
+pub mod Held
+pub mod Keeping
+pub mod Trimming
+pub mod Determined

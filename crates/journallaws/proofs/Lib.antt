@@ -1,0 +1,12 @@
+pub mod Same
+pub mod Kept
+pub mod SameFates
+pub mod Meaning
+pub mod Shapes
+pub mod Packing
+pub mod Trimmed
+pub mod Along
+pub mod SameLevels
+pub mod PlainWord
+pub mod ByEvents
+pub mod Example

@@ -1,0 +1,1 @@
+// Theorems about the trim of a journal, in specs/ and proofs/. This crate has no function.
