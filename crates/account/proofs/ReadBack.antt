@@ -19,11 +19,11 @@ use Rattle.chip.specs.declared.Chip.{Chip}
 use Rattle.chip.specs.State.{powerUpAs}
 use Rattle.laws.proofs.Cycles.{read-answers}
 use Rattle.fates.specs.Kinds.{Kind, reset, cycleEnded, unknown, readBegun, writeBegun, newLevels, kindOf, free, accepts}
-use Rattle.fates.specs.Surroundings.{Surroundings, ofModeWord, brought, atPowerUp, surroundingsAfter, surroundingsNext}
+use Rattle.fates.specs.Surroundings.{Surroundings, ofModeWord, brought, atPowerUp, surroundingsAfter, surroundingsNext, surroundingsOver}
 use Rattle.fates.specs.Promise.{run}
 use Rattle.account.specs.Account.{Account, accountNext, opened}
 use Rattle.account.specs.Promise.{surroundingsHere, over, accountOf, Accounted}
-use Rattle.account.specs.ReadBack.{surroundingsOver, Brings, BroughtBy, LastWord, ReadsBack}
+use Rattle.account.specs.ReadBack.{Brings, BroughtBy, LastWord, ReadsBack}
 use Rattle.account.proofs.Words.{with-bit-7-set}
 use Rattle.account.proofs.Account.{account, account-from}
 

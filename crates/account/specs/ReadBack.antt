@@ -11,13 +11,8 @@ use Rattle.bus.specs.declared.Phase.the-variants.{Writing}
 use Rattle.chip.specs.declared.Chip.{Chip}
 use Rattle.step.specs.Step.{stepped}
 use Rattle.fates.specs.Kinds.{reset, cycleEnded, kindOf}
-use Rattle.fates.specs.Surroundings.{Surroundings, surroundingsNext}
+use Rattle.fates.specs.Surroundings.{Surroundings, surroundingsNext, surroundingsOver}
 use Rattle.fates.specs.Promise.{run}
-
--- What surrounds the event after a history.
-abbrev pub surroundingsOver : Surroundings → List Event → Surroundings
-surroundingsOver a [] = a
-surroundingsOver a (e ∷ es) = surroundingsOver (surroundingsNext a e) es
 
 -- An event brings the mode word w: a reset brings 9B, and the end of a write to control brings the word written, where it has bit 7 set. So bit
 -- set/reset brings none.

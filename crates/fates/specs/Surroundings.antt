@@ -1,6 +1,7 @@
 -- What surrounds a channel, worked out from the events alone: the bus phase, the mode word and the levels outside ("State"), for a chip whose edition is
 -- named.
 use mathlib.Core.Bool.{Bool, false, cond, _&&_}
+use mathlib.Core.List.{List, [], _∷_}
 use Prim.Native.Nat.{ℕ}
 use lib.Dec.{eqb}
 use Rattle.bits.specs.Bit.{bitOf}
@@ -81,3 +82,8 @@ surroundingsAfter a e = record {
 -- After any event: a refused one changes nothing.
 abbrev pub surroundingsNext : Surroundings → Event → Surroundings
 surroundingsNext a e = cond (accepts (a .edition) (a .phase) (kindOf e)) (surroundingsAfter a (kindOf e)) a
+
+-- And after a history.
+abbrev pub surroundingsOver : Surroundings → List Event → Surroundings
+surroundingsOver a [] = a
+surroundingsOver a (e ∷ es) = surroundingsOver (surroundingsNext a e) es

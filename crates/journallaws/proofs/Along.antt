@@ -14,26 +14,26 @@ use Rattle.chip.specs.declared.Chip.{Chip}
 use Rattle.chip.specs.declared.Levels.{Levels}
 use Rattle.chip.specs.State.{powerUpAs}
 use Rattle.fates.specs.Kinds.{kindOf, accepts}
-use Rattle.fates.specs.Surroundings.{Surroundings, atPowerUp, surroundingsAfter, surroundingsNext}
+use Rattle.fates.specs.Surroundings.{Surroundings, atPowerUp, surroundingsAfter, surroundingsNext, surroundingsOver}
 use Rattle.fates.specs.Effects.{Effect, offered, followed, taken, ended, clearedAway, forcedFull, forcedEmpty, nothing, effects}
 use Rattle.fates.specs.Left.{Left, left, latchLeft, leftAfter}
 use Rattle.fates.specs.Promise.{run, surroundingsOf}
 use Rattle.fates.proofs.Shapes.{shapeOf, latchAfter}
 use Rattle.fates.proofs.SurroundingsKept.{surroundings-next}
 use Rattle.fates.proofs.Followed.{after, latch, effectIn, next-latch}
-use Rattle.journallaws.specs.Here.{around, leftBy, here, leftHere}
+use Rattle.journallaws.specs.Here.{leftBy, here, leftHere}
 
 -- One event more.
 pub one-more : (c : Chip) (es : List Event) (e : Event) → run c (es ++ e ∷ []) ≡ after (run c es) e
 one-more c [] e = refl
 one-more c (x ∷ es) e = one-more (after c x) es e
 
-pub around-is : (c : Chip) (es : List Event) → surroundingsOf (run c es) ≡ around (surroundingsOf c) es
+pub around-is : (c : Chip) (es : List Event) → surroundingsOf (run c es) ≡ surroundingsOver (surroundingsOf c) es
 around-is c [] = refl
-around-is c (e ∷ es) = around-is (after c e) es ∙ ap (λ a. around a es) (surroundings-next c e)
+around-is c (e ∷ es) = around-is (after c e) es ∙ ap (λ a. surroundingsOver a es) (surroundings-next c e)
 
 -- No event changes the edition.
-same-edition : (a : Surroundings) (es : List Event) → around a es .edition ≡ a .edition
+same-edition : (a : Surroundings) (es : List Event) → surroundingsOver a es .edition ≡ a .edition
 same-edition a [] = refl
 same-edition a (e ∷ es) =
     same-edition (surroundingsNext a e) es

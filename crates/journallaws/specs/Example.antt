@@ -7,11 +7,11 @@ use Rattle.chip.specs.State.{allHigh}
 use Rattle.journallaws.specs.Promise.{answerOf, leftOf}
 
 -- A word, with whether it is kept where every line was high at power-up.
-pub data Logged : Type 0 where
-  kept dropped : ℕ → Logged
+pub data Judged : Type 0 where
+  kept dropped : ℕ → Judged
 
 -- The scale holds STB down while the mode word makes port A its input, so that levels which are there already load the latch, once.
-abbrev pub aStore : List Logged
+abbrev pub aStore : List Judged
 aStore =
     dropped 0x000000  -- a reset of a chip that is as at power-up
     ∷ dropped 0x0502ff  -- levels that are there already
@@ -34,15 +34,15 @@ aStore =
     ∷ []
 
 -- All words, those that are kept, and how many are not.
-abbrev pub allOf : List Logged → List ℕ
-allOf [] = []
-allOf (kept w ∷ ws) = w ∷ allOf ws
-allOf (dropped w ∷ ws) = w ∷ allOf ws
+abbrev pub allAmong : List Judged → List ℕ
+allAmong [] = []
+allAmong (kept w ∷ ws) = w ∷ allAmong ws
+allAmong (dropped w ∷ ws) = w ∷ allAmong ws
 
-abbrev pub keptOf : List Logged → List ℕ
-keptOf [] = []
-keptOf (kept w ∷ ws) = w ∷ keptOf ws
-keptOf (dropped w ∷ ws) = keptOf ws
+abbrev pub keptAmong : List Judged → List ℕ
+keptAmong [] = []
+keptAmong (kept w ∷ ws) = w ∷ keptAmong ws
+keptAmong (dropped w ∷ ws) = keptAmong ws
 
 -- The answer to it and the words that it leaves.
 pub record Gives : Type 0 where
@@ -50,8 +50,8 @@ pub record Gives : Type 0 where
   pub words : List ℕ
 
 abbrev pub given : Edition → Gives
-given ed = record { answer = answerOf ed allHigh (allOf aStore); words = leftOf ed allHigh (allOf aStore) }
+given ed = record { answer = answerOf ed allHigh (allAmong aStore); words = leftOf ed allHigh (allAmong aStore) }
 
 -- Ten words are kept, and eight zero words stand behind them.
 abbrev pub said : Gives
-said = record { answer = 2560; words = keptOf aStore ++ replicate 8 0 }
+said = record { answer = 2560; words = keptAmong aStore ++ replicate 8 0 }

@@ -14,14 +14,9 @@ use Rattle.channel.specs.declared.Fill.the-variants.{Empty}
 use Rattle.chip.specs.declared.Edition.{Edition}
 use Rattle.chip.specs.declared.Levels.{Levels}
 use Rattle.fates.specs.Kinds.{Kind, reset, cycleEnded, unknown, readBegun, writeBegun, newLevels}
-use Rattle.fates.specs.Surroundings.{Surroundings, atPowerUp, surroundingsNext}
+use Rattle.fates.specs.Surroundings.{Surroundings, atPowerUp, surroundingsOver}
 use Rattle.fates.specs.Effects.{Effect, strobePin, strobes, effects}
 use Rattle.fates.specs.Left.{Left, left, leftAfter}
-
--- What surrounds the channels after some events.
-abbrev pub around : Surroundings → List Event → Surroundings
-around a [] = a
-around a (e ∷ es) = around (surroundingsNext a e) es
 
 -- What some effects leave in a channel.
 abbrev pub leftBy : Side → Left → List Effect → Left
@@ -45,7 +40,7 @@ ofACycle unknown = false
 module _ (ed : Edition) (v : Levels) (es : List Event) where
   -- what surrounds the channels,
   abbrev pub here : Surroundings
-  here = around (atPowerUp ed v) es
+  here = surroundingsOver (atPowerUp ed v) es
 
   -- what is left in a channel,
   abbrev pub leftHere : Group → Side → Left
