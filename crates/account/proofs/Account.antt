@@ -6,20 +6,20 @@ use mathlib.Core.List.{List, [], ◌∷◌}
 use Prim.Native.Nat.{ℕ}
 use Rattle.events.proofs.ByKind.{by_kind}
 use Rattle.events.specs.Event.{Event, event}
-use Rattle.bus.specs.Device.{byteIn}
+use Rattle.bus.specs.Device.{byte_in}
 use Rattle.chip.specs.declared.Edition.{Edition}
 use Rattle.chip.specs.declared.Chip.{Chip}
 use Rattle.chip.specs.declared.Levels.{Levels}
-use Rattle.chip.specs.State.{powerUpAs}
+use Rattle.chip.specs.State.{power_up_as}
 use Rattle.step.specs.Step.{device, stepped}
 use Rattle.step.proofs.Outcome.{step-number}
 use Rattle.fates.specs.Kinds.{kind_of, accepts}
 use Rattle.fates.specs.Promise.{run}
 use Rattle.fates.proofs.Accepted.{no-kind-accepted, by_result}
-use Rattle.account.specs.Acts.{numberBy}
-use Rattle.account.specs.Account.{Account, accountNext, opened}
-use Rattle.account.specs.Views.{byteFor, byteAnswered}
-use Rattle.account.specs.Promise.{over, accountOf, Accounted}
+use Rattle.account.specs.Acts.{number_by}
+use Rattle.account.specs.Account.{Account, account_next, opened}
+use Rattle.account.specs.Views.{byte_for, byte_answered}
+use Rattle.account.specs.Promise.{over, account_of, Accounted}
 use Rattle.account.proofs.Agrees.{Agrees, agrees-of, agrees-opened, agrees-next}
 use Rattle.account.proofs.Interrupts.{intr-same}
 use Rattle.account.proofs.Reasons.{explained-same}
@@ -27,14 +27,14 @@ use Rattle.account.proofs.Views.{levels-shown, mask-shown, read-answered}
 use Rattle.account.proofs.Numbers.{number_same}
 
 module _ (c : Chip) (a : Account) (k : Agrees c a) where
-  pub number-told : (e : Event) → (stepped c e).number ≡ numberBy a.surroundings.edition a.surroundings.phase (kind_of e)
+  pub number-told : (e : Event) → (stepped c e).number ≡ number_by a.surroundings.edition a.surroundings.phase (kind_of e)
   number-told e =
       step-number c e.kind e.first e.second ∙ number_same c.edition c.phase e.kind e.first e.second
-      ∙ sym (ap (λ r. numberBy r.edition r.phase (kind_of e)) k.surroundings)
+      ∙ sym (ap (λ r. number_by r.edition r.phase (kind_of e)) k.surroundings)
 
   -- The byte of an accepted event.
   abbrev Answers : Event → Type 0
-  Answers e = accepts c.edition c.phase (kind_of e) ≡ true → byteIn device c e.kind e.first ≡ byteFor a (kind_of e)
+  Answers e = accepts c.edition c.phase (kind_of e) ≡ true → byte_in device c e.kind e.first ≡ byte_for a (kind_of e)
 
   answers : (n x d : ℕ) → Answers (event n x d)
   answers n x d =
@@ -47,15 +47,15 @@ module _ (c : Chip) (a : Account) (k : Agrees c a) where
       (λ n none ok. absurd (no-kind-accepted c.edition c.phase n x d none ok))
       n
 
-  pub byte-told : (e : Event) → (stepped c e).byte ≡ byteAnswered a e
+  pub byte-told : (e : Event) → (stepped c e).byte ≡ byte_answered a e
   byte-told e =
-      by_result (λ r ok. r.byte ≡ cond ok (byteFor a (kind_of e)) 0) c e (answers e.kind e.first e.second) (λ n. refl)
-      ∙ sym (ap (λ r. cond (accepts r.edition r.phase (kind_of e)) (byteFor a (kind_of e)) 0) k.surroundings)
+      by_result (λ r ok. r.byte ≡ cond ok (byte_for a (kind_of e)) 0) c e (answers e.kind e.first e.second) (λ n. refl)
+      ∙ sym (ap (λ r. cond (accepts r.edition r.phase (kind_of e)) (byte_for a (kind_of e)) 0) k.surroundings)
 
 -- Over a history.
 agrees-over : (es : List Event) (c : Chip) (a : Account) → Agrees c a → Agrees (run c es) (over a es)
 agrees-over [] c a k = k
-agrees-over (e ∷ es) c a k = agrees-over es (stepped c e).chip (accountNext a e) (agrees-next c a e k)
+agrees-over (e ∷ es) c a k = agrees-over es (stepped c e).chip (account_next a e) (agrees-next c a e k)
 
 pub accounted : (c : Chip) (a : Account) (es : List Event) → Agrees c a → Accounted c a es
 accounted c a es start =
@@ -71,9 +71,9 @@ accounted c a es start =
     }
 
 -- From any chip, reached by a history or not.
-pub account-from : (c : Chip) (es : List Event) → Accounted c (accountOf c) es
-account-from c es = accounted c (accountOf c) es (agrees-of c)
+pub account-from : (c : Chip) (es : List Event) → Accounted c (account_of c) es
+account-from c es = accounted c (account_of c) es (agrees-of c)
 
 -- From power-up, of either edition and under any levels.
-pub account : (ed : Edition) (l : Levels) (es : List Event) → Accounted (powerUpAs ed l) (opened ed l) es
-account ed l es = accounted (powerUpAs ed l) (opened ed l) es (agrees-opened ed l)
+pub account : (ed : Edition) (l : Levels) (es : List Event) → Accounted (power_up_as ed l) (opened ed l) es
+account ed l es = accounted (power_up_as ed l) (opened ed l) es (agrees-opened ed l)

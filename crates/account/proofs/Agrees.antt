@@ -14,16 +14,16 @@ use Rattle.chip.specs.declared.Edition.{Edition}
 use Rattle.chip.specs.declared.Core.{Core}
 use Rattle.chip.specs.declared.Chip.{Chip}
 use Rattle.chip.specs.declared.Levels.{Levels}
-use Rattle.chip.specs.State.{powerUpAs, channelOf}
-use Rattle.chip.specs.Handshakes.{strobed, enableOf}
+use Rattle.chip.specs.State.{power_up_as, channel_of}
+use Rattle.chip.specs.Handshakes.{strobed, enable_of}
 use Rattle.step.specs.Step.{stepped}
-use Rattle.fates.specs.Surroundings.{atPowerUp, surroundingsNext}
-use Rattle.fates.specs.Effects.{strobePin}
-use Rattle.fates.specs.Promise.{surroundingsOf}
+use Rattle.fates.specs.Surroundings.{at_power_up, surroundings_next}
+use Rattle.fates.specs.Effects.{strobe_pin}
+use Rattle.fates.specs.Promise.{surroundings_of}
 use Rattle.fates.proofs.SurroundingsKept.{surroundings-next}
-use Rattle.account.specs.Summary.{signalAt}
-use Rattle.account.specs.Account.{Account, strobed as Account·strobed, line, served, accountNext, opened}
-use Rattle.account.specs.Promise.{withBit7, surroundingsHere, bitHere, flagHere, accountOf}
+use Rattle.account.specs.Summary.{signal_at}
+use Rattle.account.specs.Account.{Account, strobed as Account·strobed, line, served, account_next, opened}
+use Rattle.account.specs.Promise.{with_bit7, surroundings_here, bit_here, flag_here, account_of}
 use Rattle.account.proofs.Words.{signal_alike, with-bit-7-alike}
 use Rattle.account.proofs.Columns.{takes_same, gives_same, takes-here, gives-here}
 use Rattle.account.proofs.Signals.{strobe-stands, acknowledge-stands}
@@ -35,20 +35,20 @@ use Rattle.account.proofs.Waves.{Even, even-next}
 
 -- The account has what the chip has.
 pub record Agrees (c : Chip) (a : Account) : Type 0 where
-  pub surroundings : a.surroundings ≡ surroundingsHere c
-  pub bit : (n : ℕ) → n < 8 → a.bit n ≡ bitHere c.core n (signalAt c.core.word n)
-  pub output : (g : Group) → a.output g ≡ (channelOf c.core g Output).latch
-  pub input : (g : Group) → a.input g ≡ (channelOf c.core g Input).latch
-  pub ibf : (g : Group) → a.ibf g ≡ full (channelOf c.core g Input)
-  pub obf : (g : Group) → a.obf g ≡ vacant (channelOf c.core g Output)
-  pub given : (g : Group) → a.given g ≡ given (channelOf c.core g Input)
+  pub surroundings : a.surroundings ≡ surroundings_here c
+  pub bit : (n : ℕ) → n < 8 → a.bit n ≡ bit_here c.core n (signal_at c.core.word n)
+  pub output : (g : Group) → a.output g ≡ (channel_of c.core g Output).latch
+  pub input : (g : Group) → a.input g ≡ (channel_of c.core g Input).latch
+  pub ibf : (g : Group) → a.ibf g ≡ full (channel_of c.core g Input)
+  pub obf : (g : Group) → a.obf g ≡ vacant (channel_of c.core g Output)
+  pub given : (g : Group) → a.given g ≡ given (channel_of c.core g Input)
   pub even : Even a
 
 -- The surroundings, with bit 7 of the word counted as set.
-here-next : (c : Chip) (e : Event) → surroundingsHere (stepped c e).chip ≡ surroundingsNext (surroundingsHere c) e
-here-next c e = ap seven (surroundings-next c e) ∙ seven-next (surroundingsOf c) e
+here-next : (c : Chip) (e : Event) → surroundings_here (stepped c e).chip ≡ surroundings_next (surroundings_here c) e
+here-next c e = ap seven (surroundings-next c e) ∙ seven-next (surroundings_of c) e
 
-pub agrees-next : (c : Chip) (a : Account) (e : Event) → Agrees c a → Agrees (stepped c e).chip (accountNext a e)
+pub agrees-next : (c : Chip) (a : Account) (e : Event) → Agrees c a → Agrees (stepped c e).chip (account_next a e)
 agrees-next c a e k = record {
   surroundings = rw k.surroundings (sym (here-next c e));
   bit = λ n hn. rw (k.surroundings, k.bit n hn) (bit-next c n hn e);
@@ -61,9 +61,9 @@ agrees-next c a e k = record {
 }
 
 -- The bit at the line of a strobed channel is its enable.
-pub line-bit : (c : Core) (g : Group) (s : Side) → strobed c.word g s ≡ true → bitHere c (strobePin g s) (signalAt c.word (strobePin g s)) ≡ enableOf c.inte g s
-line-bit c g Input on = ap (bitHere c (strobePin g Input)) (strobe-stands c.word g (takes_same c.word g ∙ on))
-line-bit c g Output on = ap (bitHere c (strobePin g Output)) (acknowledge-stands c.word g (gives_same c.word g ∙ on))
+pub line-bit : (c : Core) (g : Group) (s : Side) → strobed c.word g s ≡ true → bit_here c (strobe_pin g s) (signal_at c.word (strobe_pin g s)) ≡ enable_of c.inte g s
+line-bit c g Input on = ap (bit_here c (strobe_pin g Input)) (strobe-stands c.word g (takes_same c.word g ∙ on))
+line-bit c g Output on = ap (bit_here c (strobe_pin g Output)) (acknowledge-stands c.word g (gives_same c.word g ∙ on))
 
 -- Two conjunctions that agree where the first part holds.
 within : (s p q r : Bool) → (s ≡ true → q ≡ p) → (s && (p && r)) ≡ (s && (q && r))
@@ -75,28 +75,28 @@ module _ (c : Chip) where
   abbrev w : ℕ
   w = c.core.word
 
-  here : (n : ℕ) → signalAt (withBit7 w) n ≡ signalAt w n
-  here n = signal_alike (withBit7 w) w (with-bit-7-alike w) n
+  here : (n : ℕ) → signal_at (with_bit7 w) n ≡ signal_at w n
+  here n = signal_alike (with_bit7 w) w (with-bit-7-alike w) n
 
-  line-here : (g : Group) (s : Side) → strobed w g s ≡ true → (accountOf c).bit (strobePin g s) ≡ enableOf c.core.inte g s
-  line-here g s on = ap (bitHere c.core (strobePin g s)) (here (strobePin g s)) ∙ line-bit c.core g s on
+  line-here : (g : Group) (s : Side) → strobed w g s ≡ true → (account_of c).bit (strobe_pin g s) ≡ enable_of c.core.inte g s
+  line-here g s on = ap (bit_here c.core (strobe_pin g s)) (here (strobe_pin g s)) ∙ line-bit c.core g s on
 
   -- What a half asks for beside its enable.
   abbrev others : Group → Side → Bool
-  others g s = flagHere c.core g s && (line (surroundingsHere c) g s && not (served (surroundingsHere c) g s))
+  others g s = flag_here c.core g s && (line (surroundings_here c) g s && not (served (surroundings_here c) g s))
 
-  even-here : Even (accountOf c)
+  even-here : Even (account_of c)
   even-here g Input =
-      within (Account·strobed (surroundingsHere c) g Input) (enableOf c.core.inte g Input) ((accountOf c).bit (strobePin g Input)) (others g Input)
+      within (Account·strobed (surroundings_here c) g Input) (enable_of c.core.inte g Input) ((account_of c).bit (strobe_pin g Input)) (others g Input)
       (λ on. line-here g Input (sym (takes-here w g) ∙ on))
   even-here g Output =
-      within (Account·strobed (surroundingsHere c) g Output) (enableOf c.core.inte g Output) ((accountOf c).bit (strobePin g Output)) (others g Output)
+      within (Account·strobed (surroundings_here c) g Output) (enable_of c.core.inte g Output) ((account_of c).bit (strobe_pin g Output)) (others g Output)
       (λ on. line-here g Output (sym (gives-here w g) ∙ on))
 
-  pub agrees-of : Agrees c (accountOf c)
+  pub agrees-of : Agrees c (account_of c)
   agrees-of = record {
     surroundings = refl;
-    bit = λ n hn. ap (bitHere c.core n) (here n);
+    bit = λ n hn. ap (bit_here c.core n) (here n);
     output = λ g. refl;
     input = λ g. refl;
     ibf = λ g. refl;
@@ -106,11 +106,11 @@ module _ (c : Chip) where
   }
 
 -- So does the account that is opened at power-up.
-pub agrees-opened : (ed : Edition) (l : Levels) → Agrees (powerUpAs ed l) (opened ed l)
+pub agrees-opened : (ed : Edition) (l : Levels) → Agrees (power_up_as ed l) (opened ed l)
 unfolding bit_of
 agrees-opened ed l = record {
   surroundings = refl;
-  bit = bits 8 (λ n. false) (λ n. bitHere (powerUpAs ed l).core n (signalAt 0x9b n)) tt;
+  bit = bits 8 (λ n. false) (λ n. bit_here (power_up_as ed l).core n (signal_at 0x9b n)) tt;
   output = zeros Output;
   input = zeros Input;
   ibf = empty;
@@ -119,24 +119,24 @@ agrees-opened ed l = record {
   even = low;
 }
   where
-    zeros : (s : Side) (g : Group) → 0 ≡ (channelOf (powerUpAs ed l).core g s).latch
+    zeros : (s : Side) (g : Group) → 0 ≡ (channel_of (power_up_as ed l).core g s).latch
     zeros Input A = refl
     zeros Input B = refl
     zeros Output A = refl
     zeros Output B = refl
 
-    empty : (g : Group) → false ≡ full (channelOf (powerUpAs ed l).core g Input)
+    empty : (g : Group) → false ≡ full (channel_of (power_up_as ed l).core g Input)
     empty A = refl
     empty B = refl
 
-    room : (g : Group) → true ≡ vacant (channelOf (powerUpAs ed l).core g Output)
+    room : (g : Group) → true ≡ vacant (channel_of (power_up_as ed l).core g Output)
     room A = refl
     room B = refl
 
-    none : (g : Group) → false ≡ given (channelOf (powerUpAs ed l).core g Input)
+    none : (g : Group) → false ≡ given (channel_of (power_up_as ed l).core g Input)
     none A = refl
     none B = refl
 
     low : Even (opened ed l)
-    low g Input = sym (and-false (Account·strobed (atPowerUp ed l) g Input))
-    low g Output = sym (and-false (Account·strobed (atPowerUp ed l) g Output))
+    low g Input = sym (and-false (Account·strobed (at_power_up ed l) g Input))
+    low g Output = sym (and-false (Account·strobed (at_power_up ed l) g Output))

@@ -5,38 +5,38 @@ use mathlib.Core.Bool.{Bool, true, false, cond, ◌&&◌, and-false, and-true}
 use Prim.Native.Nat.{ℕ, ◌<◌}
 use lib.Dec.{eqb}
 use borrow.Author.Tests.{eqb-true}
-use Rattle.bits.specs.Bit.{bit_of, withBit}
+use Rattle.bits.specs.Bit.{bit_of, with_bit}
 use Rattle.bits.proofs.BitLaws.{bit-of-with}
 use Rattle.control.specs.declared.Group.{Group}
 use Rattle.control.specs.declared.Group.TheVariants.{A, B}
 use Rattle.roles.specs.Role.{Role}
 use Rattle.roles.specs.Role
-use Rattle.roles.specs.Pins.{isOutput}
+use Rattle.roles.specs.Pins.{is_output}
 use Rattle.channel.specs.declared.Side.{Side}
 use Rattle.channel.specs.declared.Side.TheVariants.{Input, Output}
-use Rattle.channel.specs.Moves.{afterForce}
+use Rattle.channel.specs.Moves.{after_force}
 use Rattle.chip.specs.declared.Enables.{Enables}
 use Rattle.chip.specs.declared.Core.{Core}
-use Rattle.chip.specs.Handshakes.{groupAt, enableOf}
+use Rattle.chip.specs.Handshakes.{group_at, enable_of}
 use Rattle.chip.proofs.OneChannel.{channel-lines, channel-enables}
-use Rattle.settings.specs.ControlWord.{enabled, flagPut, setAs}
-use Rattle.fates.specs.Effects.{strobePin}
-use Rattle.account.specs.Summary.{Signal, io, INTR, IBF, OBF, STB, ACK, signalAt, isIn, freeOut}
-use Rattle.account.proofs.Signals.{roleBy, by-signal}
+use Rattle.settings.specs.ControlWord.{enabled, flag_put, set_as}
+use Rattle.fates.specs.Effects.{strobe_pin}
+use Rattle.account.specs.Summary.{Signal, io, INTR, IBF, OBF, STB, ACK, signal_at, is_in, free_out}
+use Rattle.account.proofs.Signals.{role_by, by-signal}
 
 -- What a role lets bit set/reset do to the latch.
 pub set-latch : (c : Core) (n : ℕ) (v : Bool) (s : Signal) (inward : Bool)
-    → (setAs c n v (roleBy s inward)).c.latch ≡ cond (freeOut s inward) (withBit c.c.latch n v) c.c.latch
+    → (set_as c n v (role_by s inward)).c.latch ≡ cond (free_out s inward) (with_bit c.c.latch n v) c.c.latch
 set-latch c n v io true = refl
 set-latch c n v io false = refl
 set-latch c n v (INTR g) inward = refl
-set-latch c n v (IBF g) inward = ap (λ l. l.latch) (channel-lines c (λ s. afterForce s v) (groupAt n) Input)
-set-latch c n v (OBF g) inward = ap (λ l. l.latch) (channel-lines c (λ s. afterForce s v) (groupAt n) Output)
+set-latch c n v (IBF g) inward = ap (λ l. l.latch) (channel-lines c (λ s. after_force s v) (group_at n) Input)
+set-latch c n v (OBF g) inward = ap (λ l. l.latch) (channel-lines c (λ s. after_force s v) (group_at n) Output)
 set-latch c n v (STB g) inward = refl
 set-latch c n v (ACK g) inward = refl
 
 -- The bit at pin m after bit set/reset of pin n.
-pub put-bit : (l n m : ℕ) (v out : Bool) → m < 8 → bit_of (cond out (withBit l n v) l) m ≡ cond (eqb m n && out) v (bit_of l m)
+pub put-bit : (l n m : ℕ) (v out : Bool) → m < 8 → bit_of (cond out (with_bit l n v) l) m ≡ cond (eqb m n && out) v (bit_of l m)
 put-bit l n m v true hm = bit-of-with l n v m hm ∙ rw (and-true (eqb m n))
 put-bit l n m v false hm = rw (and-false (eqb m n))
 
@@ -49,7 +49,7 @@ moved f m n = go (eqb m n) refl
     go false e = refl
 
 -- A write to port C finds the free outputs by their role.
-pub out-same : (s : Signal) (inward : Bool) → isOutput (roleBy s inward) ≡ freeOut s inward
+pub out-same : (s : Signal) (inward : Bool) → is_output (role_by s inward) ≡ free_out s inward
 out-same io true = refl
 out-same io false = refl
 out-same (INTR g) inward = refl
@@ -69,7 +69,7 @@ is_line (ACK g) = true
 
 -- The enable put at one channel's line is that of each channel with this line.
 put_one : (e : Enables) (v : Bool) (h : Group) (t : Side) (g : Group) (s : Side)
-    → enableOf (enabled e (groupAt (strobePin h t)) t v) g s ≡ cond (eqb (strobePin g s) (strobePin h t) && true) v (enableOf e g s)
+    → enable_of (enabled e (group_at (strobe_pin h t)) t v) g s ≡ cond (eqb (strobe_pin g s) (strobe_pin h t) && true) v (enable_of e g s)
 put_one e v A Input A Input = refl
 put_one e v A Input A Output = refl
 put_one e v A Input B Input = refl
@@ -90,21 +90,21 @@ put_one e v B Output B Output = refl
 -- What it lets bit set/reset do to the enables.
 module _ (c : Core) (n : ℕ) (hn : n < 8) (v : Bool) (w : ℕ) (g : Group) (s : Side) where
   abbrev Put : Signal → Type 0
-  Put r = enableOf (setAs c n v (roleBy r (isIn w n))).inte g s ≡ cond (eqb (strobePin g s) n && is_line r) v (enableOf c.inte g s)
+  Put r = enable_of (set_as c n v (role_by r (is_in w n))).inte g s ≡ cond (eqb (strobe_pin g s) n && is_line r) v (enable_of c.inte g s)
 
-  none-put : cond (eqb (strobePin g s) n && false) v (enableOf c.inte g s) ≡ enableOf c.inte g s
-  none-put = rw (and-false (eqb (strobePin g s) n))
+  none-put : cond (eqb (strobe_pin g s) n && false) v (enable_of c.inte g s) ≡ enable_of c.inte g s
+  none-put = rw (and-false (eqb (strobe_pin g s) n))
 
-  pub set-enable : Put (signalAt w n)
+  pub set-enable : Put (signal_at w n)
   set-enable =
-      by-signal Put n (free (isIn w n)) (sym none-put) (forced Input) (forced Output)
+      by-signal Put n (free (is_in w n)) (sym none-put) (forced Input) (forced Output)
       (λ h at. rw (at) (put_one c.inte v h Input g s))
       (λ h at. rw (at) (put_one c.inte v h Output g s))
       w hn
     where
-      forced : (t : Side) → enableOf (flagPut c (groupAt n) t v).inte g s ≡ cond (eqb (strobePin g s) n && false) v (enableOf c.inte g s)
-      forced t = ap (λ e. enableOf e g s) (channel-enables c (λ s. afterForce s v) (groupAt n) t) ∙ sym none-put
+      forced : (t : Side) → enable_of (flag_put c (group_at n) t v).inte g s ≡ cond (eqb (strobe_pin g s) n && false) v (enable_of c.inte g s)
+      forced t = ap (λ e. enable_of e g s) (channel-enables c (λ s. after_force s v) (group_at n) t) ∙ sym none-put
 
-      free : (inward : Bool) → enableOf (setAs c n v (cond inward Role.input Role.output)).inte g s ≡ cond (eqb (strobePin g s) n && false) v (enableOf c.inte g s)
+      free : (inward : Bool) → enable_of (set_as c n v (cond inward Role.input Role.output)).inte g s ≡ cond (eqb (strobe_pin g s) n && false) v (enable_of c.inte g s)
       free true = sym none-put
       free false = sym none-put

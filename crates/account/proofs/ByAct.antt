@@ -6,65 +6,65 @@ use Prim.Native.Nat.{ℕ}
 use native.Mathlib.Omega.{arith}
 use lib.Dec.{eqb}
 use borrow.Author.Tests.{eqb-true}
-use Rattle.bus.specs.Device.{afterIn}
+use Rattle.bus.specs.Device.{after_in}
 use Rattle.bits.specs.Bit.{bit_of}
 use Rattle.bus.specs.declared.Phase.{Phase}
 use Rattle.bus.specs.declared.Phase.TheVariants.{Idle, Reading, Writing}
 use Rattle.chip.specs.declared.Core.{Core}
 use Rattle.chip.specs.declared.Chip.{Chip}
-use Rattle.chip.specs.State.{withLatch, onPort}
-use Rattle.settings.specs.ModeWord.{afterModeWord}
-use Rattle.settings.specs.ControlWord.{afterControlWord}
+use Rattle.chip.specs.State.{with_latch, on_port}
+use Rattle.settings.specs.ModeWord.{after_mode_word}
+use Rattle.settings.specs.ControlWord.{after_control_word}
 use Rattle.settings.proofs.PortsAfter.{mode-word}
-use Rattle.reads.specs.Read.{afterReadBegins, afterReadEnds}
-use Rattle.writes.specs.Write.{storedBy, latchWritten}
+use Rattle.reads.specs.Read.{after_read_begins, after_read_ends}
+use Rattle.writes.specs.Write.{stored_by, latch_written}
 use Rattle.writes.specs.Write
-use Rattle.levels.specs.Levels.{afterLevels}
+use Rattle.levels.specs.Levels.{after_levels}
 use Rattle.step.specs.Step.{device, after_end, stepped}
 use Rattle.events.proofs.ByKind.{by_kind}
 use Rattle.events.specs.Event.{Event, event}
 use Rattle.step.specs.Step.{device, after_end}
 use Rattle.fates.specs.Kinds.{kind_of, accepts}
-use Rattle.fates.specs.Promise.{surroundingsOf}
+use Rattle.fates.specs.Promise.{surroundings_of}
 use Rattle.fates.proofs.Accepted.{no-kind-accepted, by-outcome}
-use Rattle.account.specs.Acts.{Act, nothing, anew, readBegins, readEnds, writeBegins, written, levels, ending, actOf, act}
+use Rattle.account.specs.Acts.{Act, nothing, anew, read_begins, read_ends, write_begins, written, levels, ending, act_of, act}
 
 -- A core after a write to port C, and after one to port A or B.
 abbrev pub latched : Core → ℕ → Core
-latched c d = withLatch c (latchWritten c.word c.c.latch d)
+latched c d = with_latch c (latch_written c.word c.c.latch d)
 
 abbrev pub stored : Core → ℕ → ℕ → Core
-stored c x d = onPort c x (λ g p. storedBy p c.word g d)
+stored c x d = on_port c x (λ g p. stored_by p c.word g d)
 
 module _ (P : Core → Act → Type 0) (c : Chip)
     (still : P c.core nothing)
-    (renewal : (w : ℕ) → P (afterModeWord c.core w) anew)
-    (read-begins : (x : ℕ) → P (afterReadBegins c.core x) (readBegins x))
-    (read-ends : (x : ℕ) → P (afterReadEnds c.core x) (readEnds x))
-    (write-begins : (x : ℕ) → P c.core (writeBegins x))
-    (pin-set : (x d : ℕ) → eqb x 3 ≡ true → bit_of d 7 ≡ false → P (afterControlWord c.core d) (written x d))
+    (renewal : (w : ℕ) → P (after_mode_word c.core w) anew)
+    (read-begins : (x : ℕ) → P (after_read_begins c.core x) (read_begins x))
+    (read-ends : (x : ℕ) → P (after_read_ends c.core x) (read_ends x))
+    (write-begins : (x : ℕ) → P c.core (write_begins x))
+    (pin-set : (x d : ℕ) → eqb x 3 ≡ true → bit_of d 7 ≡ false → P (after_control_word c.core d) (written x d))
     (lines-written : (x d : ℕ) → eqb x 2 ≡ true → P (latched c.core d) (written x d))
     (port-written : (x d : ℕ) → eqb x 2 ≡ false → eqb x 3 ≡ false → P (stored c.core x d) (written x d))
-    (levels-come : (x d : ℕ) → P (afterLevels c.core x d) (levels x d)) where
-  control : (x d : ℕ) → eqb x 3 ≡ true → (b : Bool) → bit_of d 7 ≡ b → P (afterControlWord c.core d) (cond b anew (written x d))
+    (levels-come : (x d : ℕ) → P (after_levels c.core x d) (levels x d)) where
+  control : (x d : ℕ) → eqb x 3 ≡ true → (b : Bool) → bit_of d 7 ≡ b → P (after_control_word c.core d) (cond b anew (written x d))
   control x d three true seven = rw (mode-word c.core d seven) (renewal d)
   control x d three false seven = pin-set x d three seven
 
   by_address : (x d : ℕ) (two three : Bool) → eqb x 2 ≡ two → eqb x 3 ≡ three
-      → P (cond two (latched c.core d) (cond three (afterControlWord c.core d) (stored c.core x d))) (cond (three && bit_of d 7) anew (written x d))
+      → P (cond two (latched c.core d) (cond three (after_control_word c.core d) (stored c.core x d))) (cond (three && bit_of d 7) anew (written x d))
   by_address x d true true e f = let h = eqb-true x 2 e in let k = eqb-true x 3 f in absurd (omega (arith, h, k))
   by_address x d true false e f = lines-written x d e
   by_address x d false true e f = control x d f (bit_of d 7) refl
   by_address x d false false e f = port-written x d e f
 
   cycle-ended : (ph : Phase) → P (after_end c.core ph) (ending ph)
-  unfolding Write.afterWriteEnds
+  unfolding Write.after_write_ends
   cycle-ended Idle = still
   cycle-ended (Reading x) = read-ends x
   cycle-ended (Writing x d) = by_address x d (eqb x 2) (eqb x 3) refl refl
 
   abbrev Acts : Event → Type 0
-  Acts e = accepts c.edition c.phase (kind_of e) ≡ true → P (afterIn device c e.kind e.first e.second).core (actOf c.phase (kind_of e))
+  Acts e = accepts c.edition c.phase (kind_of e) ≡ true → P (after_in device c e.kind e.first e.second).core (act_of c.phase (kind_of e))
 
   accepted-act : (k x d : ℕ) → Acts (event k x d)
   accepted-act k x d =
@@ -77,7 +77,7 @@ module _ (P : Core → Act → Type 0) (c : Chip)
       (λ k none ok. absurd (no-kind-accepted c.edition c.phase k x d none ok))
       k
 
-  pub by-act : (e : Event) → P (stepped c e).chip.core (act (surroundingsOf c) e)
+  pub by-act : (e : Event) → P (stepped c e).chip.core (act (surroundings_of c) e)
   by-act e =
-      by-outcome (λ c' ok. P c'.core (cond ok (actOf c.phase (kind_of e)) nothing)) c e
+      by-outcome (λ c' ok. P c'.core (cond ok (act_of c.phase (kind_of e)) nothing)) c e
       (accepted-act e.kind e.first e.second) still

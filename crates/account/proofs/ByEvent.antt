@@ -9,10 +9,10 @@ use Rattle.bits.proofs.Logic.{contrary, both}
 use Rattle.events.specs.Event.{Event}
 use Rattle.bus.specs.declared.Phase.{Phase}
 use Rattle.bus.specs.declared.Phase.TheVariants.{Idle, Reading, Writing}
-use Rattle.fates.specs.Kinds.{Kind, reset, cycleEnded, unknown, readBegun, writeBegun, newLevels, kind_of, free, readableAt, accepts}
-use Rattle.fates.specs.Surroundings.{Surroundings, ofModeWord, brought, surroundingsAfter, surroundingsNext}
-use Rattle.account.specs.Acts.{Act, nothing, anew, readBegins, readEnds, writeBegins, written, levels, ending, actOf, act}
-use Rattle.account.specs.Promise.{withBit7}
+use Rattle.fates.specs.Kinds.{Kind, reset, cycle_ended, unknown, read_begun, write_begun, new_levels, kind_of, free, readable_at, accepts}
+use Rattle.fates.specs.Surroundings.{Surroundings, of_mode_word, brought, surroundings_after, surroundings_next}
+use Rattle.account.specs.Acts.{Act, nothing, anew, read_begins, read_ends, write_begins, written, levels, ending, act_of, act}
+use Rattle.account.specs.Promise.{with_bit7}
 
 is-idle : (ph : Phase) → free ph ≡ true → ph ≡ Idle
 is-idle Idle e = refl
@@ -20,68 +20,68 @@ is-idle (Reading x) e = cc
 is-idle (Writing x d) e = cc
 
 -- The same edition and levels, in another phase and under another word.
-abbrev pub onBus : Phase → ℕ → Surroundings → Surroundings
-onBus ph w a = record { phase = ph; edition = a.edition; word = w; levelsA = a.levelsA; levelsB = a.levelsB; levelsC = a.levelsC }
+abbrev pub on_bus : Phase → ℕ → Surroundings → Surroundings
+on_bus ph w a = record { phase = ph; edition = a.edition; word = w; levels_a = a.levels_a; levels_b = a.levels_b; levels_c = a.levels_c }
 
 module _ (P : Surroundings → Act → Type 0) (a : Surroundings)
     (still : P a nothing)
-    (renewal : (w : ℕ) → P (onBus Idle w a) anew)
-    (read-begins : (x : ℕ) → a.phase ≡ Idle → P (onBus (Reading x) a.word a) (readBegins x))
-    (read-ends : (x : ℕ) → a.phase ≡ Reading x → P (onBus Idle a.word a) (readEnds x))
-    (write-begins : (x d : ℕ) → a.phase ≡ Idle → P (onBus (Writing x d) a.word a) (writeBegins x))
-    (write-ends : (x d : ℕ) → a.phase ≡ Writing x d → P (onBus Idle a.word a) (written x d))
-    (levels-come : (x d : ℕ) → P (surroundingsAfter a (newLevels x d)) (levels x d)) where
-  by-phase : (ph : Phase) → a.phase ≡ ph → accepts a.edition ph cycleEnded ≡ true → P (onBus Idle (cond (ofModeWord ph) (brought ph) a.word) a) (ending ph)
+    (renewal : (w : ℕ) → P (on_bus Idle w a) anew)
+    (read-begins : (x : ℕ) → a.phase ≡ Idle → P (on_bus (Reading x) a.word a) (read_begins x))
+    (read-ends : (x : ℕ) → a.phase ≡ Reading x → P (on_bus Idle a.word a) (read_ends x))
+    (write-begins : (x d : ℕ) → a.phase ≡ Idle → P (on_bus (Writing x d) a.word a) (write_begins x))
+    (write-ends : (x d : ℕ) → a.phase ≡ Writing x d → P (on_bus Idle a.word a) (written x d))
+    (levels-come : (x d : ℕ) → P (surroundings_after a (new_levels x d)) (levels x d)) where
+  by-phase : (ph : Phase) → a.phase ≡ ph → accepts a.edition ph cycle_ended ≡ true → P (on_bus Idle (cond (of_mode_word ph) (brought ph) a.word) a) (ending ph)
   by-phase Idle phase ok = absurd (contrary false refl ok)
   by-phase (Reading x) phase ok = read-ends x phase
   by-phase (Writing x d) phase ok = go (eqb x 3 && bit_of d 7)
     where
-      go : (mode : Bool) → P (onBus Idle (cond mode d a.word) a) (cond mode anew (written x d))
+      go : (mode : Bool) → P (on_bus Idle (cond mode d a.word) a) (cond mode anew (written x d))
       go true = renewal d
       go false = write-ends x d phase
 
-  by_name : (ok : Bool) (v : Kind) → accepts a.edition a.phase v ≡ ok → P (cond ok (surroundingsAfter a v) a) (cond ok (actOf a.phase v) nothing)
+  by_name : (ok : Bool) (v : Kind) → accepts a.edition a.phase v ≡ ok → P (cond ok (surroundings_after a v) a) (cond ok (act_of a.phase v) nothing)
   by_name false v e = still
   by_name true reset e = renewal 0x9b
-  by_name true (readBegun x) e = read-begins x (is-idle a.phase (both (readableAt a.edition x) (free a.phase) e).1)
-  by_name true cycleEnded e = by-phase a.phase refl e
-  by_name true (writeBegun x d) e = write-begins x d (is-idle a.phase (both (ltb x 4) (free a.phase) e).1)
-  by_name true (newLevels x d) e = levels-come x d
+  by_name true (read_begun x) e = read-begins x (is-idle a.phase (both (readable_at a.edition x) (free a.phase) e).1)
+  by_name true cycle_ended e = by-phase a.phase refl e
+  by_name true (write_begun x d) e = write-begins x d (is-idle a.phase (both (ltb x 4) (free a.phase) e).1)
+  by_name true (new_levels x d) e = levels-come x d
   by_name true unknown e = absurd (contrary false refl e)
 
-  pub by-event : (e : Event) → P (surroundingsNext a e) (act a e)
+  pub by-event : (e : Event) → P (surroundings_next a e) (act a e)
   by-event e = by_name (accepts a.edition a.phase (kind_of e)) (kind_of e) refl
 
 -- The surroundings with bit 7 of the word counted as set.
 abbrev pub seven : Surroundings → Surroundings
-seven a = onBus a.phase (withBit7 a.word) a
+seven a = on_bus a.phase (with_bit7 a.word) a
 
 -- A word that has it set is itself.
-counted_is : (w : ℕ) → bit_of w 7 ≡ true → withBit7 w ≡ w
+counted_is : (w : ℕ) → bit_of w 7 ≡ true → with_bit7 w ≡ w
 counted_is w set = rw (set)
 
 module _ (a : Surroundings) where
-  seven-ended : (ph : Phase) → seven (onBus Idle (cond (ofModeWord ph) (brought ph) a.word) a) ≡ onBus Idle (cond (ofModeWord ph) (brought ph) (withBit7 a.word)) a
+  seven-ended : (ph : Phase) → seven (on_bus Idle (cond (of_mode_word ph) (brought ph) a.word) a) ≡ on_bus Idle (cond (of_mode_word ph) (brought ph) (with_bit7 a.word)) a
   seven-ended Idle = refl
   seven-ended (Reading x) = refl
   seven-ended (Writing x d) = go (eqb x 3 && bit_of d 7) refl
     where
-      go : (mode : Bool) → (eqb x 3 && bit_of d 7) ≡ mode → seven (onBus Idle (cond mode d a.word) a) ≡ onBus Idle (cond mode d (withBit7 a.word)) a
+      go : (mode : Bool) → (eqb x 3 && bit_of d 7) ≡ mode → seven (on_bus Idle (cond mode d a.word) a) ≡ on_bus Idle (cond mode d (with_bit7 a.word)) a
       go true e = rw (counted_is d (both (eqb x 3) (bit_of d 7) e).1)
       go false e = refl
 
-  seven-after : (v : Kind) → seven (surroundingsAfter a v) ≡ surroundingsAfter (seven a) v
+  seven-after : (v : Kind) → seven (surroundings_after a v) ≡ surroundings_after (seven a) v
   unfolding bit_of
   seven-after reset = refl
-  seven-after (readBegun x) = refl
-  seven-after cycleEnded = seven-ended a.phase
-  seven-after (writeBegun x d) = refl
-  seven-after (newLevels x d) = refl
+  seven-after (read_begun x) = refl
+  seven-after cycle_ended = seven-ended a.phase
+  seven-after (write_begun x d) = refl
+  seven-after (new_levels x d) = refl
   seven-after unknown = refl
 
-  pub seven-next : (e : Event) → seven (surroundingsNext a e) ≡ surroundingsNext (seven a) e
+  pub seven-next : (e : Event) → seven (surroundings_next a e) ≡ surroundings_next (seven a) e
   seven-next e = go (accepts a.edition a.phase (kind_of e))
     where
-      go : (ok : Bool) → seven (cond ok (surroundingsAfter a (kind_of e)) a) ≡ cond ok (surroundingsAfter (seven a) (kind_of e)) (seven a)
+      go : (ok : Bool) → seven (cond ok (surroundings_after a (kind_of e)) a) ≡ cond ok (surroundings_after (seven a) (kind_of e)) (seven a)
       go true = seven-after (kind_of e)
       go false = refl

@@ -10,18 +10,18 @@ use Rattle.control.specs.declared.Group.TheVariants.{A, B}
 use Rattle.channel.specs.declared.Side.{Side}
 use Rattle.channel.specs.declared.Side.TheVariants.{Input, Output}
 use Rattle.chip.specs.declared.Chip.{Chip}
-use Rattle.chip.specs.State.{portOf}
-use Rattle.chip.specs.Handshakes.{strobed, enableOf}
-use Rattle.fates.specs.Effects.{levelsOn, strobePin}
-use Rattle.account.specs.Summary.{columnOf, signalAt, isIn}
+use Rattle.chip.specs.State.{port_of}
+use Rattle.chip.specs.Handshakes.{strobed, enable_of}
+use Rattle.fates.specs.Effects.{levels_on, strobe_pin}
+use Rattle.account.specs.Summary.{column_of, signal_at, is_in}
 use Rattle.account.specs.Account.{Account}
-use Rattle.account.specs.Promise.{withBit7}
+use Rattle.account.specs.Promise.{with_bit7}
 use Rattle.account.proofs.Words.{column-alike, signal_alike, in-alike, with-bit-7-alike}
 use Rattle.account.proofs.Ports.{outside-here}
 use Rattle.account.proofs.Agrees.{Agrees, line-bit}
 
 -- The pins of the lines.
-pin-below : (g : Group) (s : Side) → strobePin g s < 8
+pin-below : (g : Group) (s : Side) → strobe_pin g s < 8
 pin-below A Input = lit< tt
 pin-below A Output = lit< tt
 pin-below B Input = lit< tt
@@ -32,21 +32,21 @@ module _ (c : Chip) (a : Account) (k : Agrees c a) where
   w = c.core.word
 
   -- The account's table is that of the chip's own word.
-  pub column-here : (g : Group) → columnOf a.surroundings.word g ≡ columnOf w g
-  column-here g = ap (λ r. columnOf r.word g) k.surroundings ∙ column-alike (withBit7 w) w (with-bit-7-alike w) g
+  pub column-here : (g : Group) → column_of a.surroundings.word g ≡ column_of w g
+  column-here g = ap (λ r. column_of r.word g) k.surroundings ∙ column-alike (with_bit7 w) w (with-bit-7-alike w) g
 
-  pub signal-here : (n : ℕ) → signalAt a.surroundings.word n ≡ signalAt w n
-  signal-here n = ap (λ r. signalAt r.word n) k.surroundings ∙ signal_alike (withBit7 w) w (with-bit-7-alike w) n
+  pub signal-here : (n : ℕ) → signal_at a.surroundings.word n ≡ signal_at w n
+  signal-here n = ap (λ r. signal_at r.word n) k.surroundings ∙ signal_alike (with_bit7 w) w (with-bit-7-alike w) n
 
-  pub in-here : (n : ℕ) → isIn a.surroundings.word n ≡ isIn w n
-  in-here n = ap (λ r. isIn r.word n) k.surroundings ∙ in-alike (withBit7 w) w (with-bit-7-alike w) n
+  pub in-here : (n : ℕ) → is_in a.surroundings.word n ≡ is_in w n
+  in-here n = ap (λ r. is_in r.word n) k.surroundings ∙ in-alike (with_bit7 w) w (with-bit-7-alike w) n
 
-  pub lines-here : (n : ℕ) → bit_of a.surroundings.levelsC n ≡ bit_of c.core.c.outside n
-  lines-here n = ap (λ r. bit_of r.levelsC n) k.surroundings
+  pub lines-here : (n : ℕ) → bit_of a.surroundings.levels_c n ≡ bit_of c.core.c.outside n
+  lines-here n = ap (λ r. bit_of r.levels_c n) k.surroundings
 
-  pub levels-here : (g : Group) → levelsOn g a.surroundings ≡ (portOf c.core g).outside
-  levels-here g = ap (levelsOn g) k.surroundings ∙ outside-here c g
+  pub levels-here : (g : Group) → levels_on g a.surroundings ≡ (port_of c.core g).outside
+  levels-here g = ap (levels_on g) k.surroundings ∙ outside-here c g
 
   -- The bit at the line of a strobed channel is its enable.
-  pub line_same : (g : Group) (s : Side) → strobed w g s ≡ true → a.bit (strobePin g s) ≡ enableOf c.core.inte g s
-  line_same g s on = k.bit (strobePin g s) (pin-below g s) ∙ line-bit c.core g s on
+  pub line_same : (g : Group) (s : Side) → strobed w g s ≡ true → a.bit (strobe_pin g s) ≡ enable_of c.core.inte g s
+  line_same g s on = k.bit (strobe_pin g s) (pin-below g s) ∙ line-bit c.core g s on

@@ -7,15 +7,15 @@ use Rattle.bits.specs.Bit.{bit_of}
 use Rattle.bus.specs.declared.Phase.{Phase}
 use Rattle.bus.specs.declared.Phase.TheVariants.{Idle, Reading, Writing}
 use Rattle.control.specs.declared.Group.{Group}
-use Rattle.control.specs.Mode.{strobedInput, strobedOutput}
+use Rattle.control.specs.Mode.{strobed_input, strobed_output}
 use Rattle.channel.specs.declared.Side.{Side}
 use Rattle.channel.specs.declared.Side.TheVariants.{Input, Output}
-use Rattle.channel.specs.Channel.{flagOf}
+use Rattle.channel.specs.Channel.{flag_of}
 use Rattle.chip.specs.declared.Chip.{Chip}
-use Rattle.chip.specs.State.{channelOf}
-use Rattle.chip.specs.Handshakes.{enableOf, reading, writing}
-use Rattle.status.specs.Status.{requestOf, intrOf}
-use Rattle.fates.specs.Effects.{strobePin, readRuns, writeRuns}
+use Rattle.chip.specs.State.{channel_of}
+use Rattle.chip.specs.Handshakes.{enable_of, reading, writing}
+use Rattle.status.specs.Status.{request_of, intr_of}
+use Rattle.fates.specs.Effects.{strobe_pin, read_runs, write_runs}
 use Rattle.fates.proofs.Tables.{own_same, line_same as pin-same}
 use Rattle.account.specs.Account.{Account}
 use Rattle.account.specs.Views.{intr}
@@ -26,12 +26,12 @@ use Rattle.account.proofs.Agrees.{Agrees}
 use Rattle.account.proofs.Here.{line_same}
 
 -- The cycle that serves a channel is its own.
-pub read-runs : (ph : Phase) (g : Group) → reading ph g ≡ readRuns g ph
+pub read-runs : (ph : Phase) (g : Group) → reading ph g ≡ read_runs g ph
 read-runs Idle g = refl
 read-runs (Reading x) g = sym (own_same x g)
 read-runs (Writing x d) g = refl
 
-pub write-runs : (ph : Phase) (g : Group) → writing ph g ≡ writeRuns g ph
+pub write-runs : (ph : Phase) (g : Group) → writing ph g ≡ write_runs g ph
 write-runs Idle g = refl
 write-runs (Reading x) g = refl
 write-runs (Writing x d) g = sym (own_same x g)
@@ -46,17 +46,17 @@ module _ (c : Chip) (a : Account) (k : Agrees c a) where
   abbrev w : ℕ
   w = c.core.word
 
-  request-same : (g : Group) (s : Side) → requestOf c g s ≡ a.asks g s
-  unfolding requestOf flagOf
+  request-same : (g : Group) (s : Side) → request_of c g s ≡ a.asks g s
+  unfolding request_of flag_of
   request-same g Input =
       rw (k.even g Input, k.surroundings, takes-here w g, ← pin-same g Input, k.ibf g, read-runs c.phase g)
-      (request (strobedInput w g) (enableOf c.core.inte g Input) (a.bit (strobePin g Input)) (full (channelOf c.core g Input))
-      (bit_of c.core.c.outside (strobePin g Input)) (readRuns g c.phase) (line_same c a k g Input))
+      (request (strobed_input w g) (enable_of c.core.inte g Input) (a.bit (strobe_pin g Input)) (full (channel_of c.core g Input))
+      (bit_of c.core.c.outside (strobe_pin g Input)) (read_runs g c.phase) (line_same c a k g Input))
   request-same g Output =
       rw (k.even g Output, k.surroundings, gives-here w g, ← pin-same g Output, k.obf g, write-runs c.phase g)
-      (request (strobedOutput w g) (enableOf c.core.inte g Output) (a.bit (strobePin g Output)) (vacant (channelOf c.core g Output))
-      (bit_of c.core.c.outside (strobePin g Output)) (writeRuns g c.phase) (line_same c a k g Output))
+      (request (strobed_output w g) (enable_of c.core.inte g Output) (a.bit (strobe_pin g Output)) (vacant (channel_of c.core g Output))
+      (bit_of c.core.c.outside (strobe_pin g Output)) (write_runs g c.phase) (line_same c a k g Output))
 
-  pub intr-same : (g : Group) → intrOf c g ≡ intr a g
-  unfolding intrOf
+  pub intr-same : (g : Group) → intr_of c g ≡ intr a g
+  unfolding intr_of
   intr-same g = rw (request-same g Input, request-same g Output)

@@ -5,14 +5,14 @@ use mathlib.Core.Bool.{Bool, true, false, cond}
 use Prim.Native.Nat.{ℕ}
 use lib.Dec.{eqb}
 use Rattle.control.specs.declared.Group.{Group}
-use Rattle.control.specs.Mode.{strobedInput}
+use Rattle.control.specs.Mode.{strobed_input}
 use Rattle.chip.specs.declared.Port.{Port}
 use Rattle.chip.specs.declared.Core.{Core}
-use Rattle.chip.specs.State.{onPort}
+use Rattle.chip.specs.State.{on_port}
 use Rattle.chip.proofs.OnPort.{word_on, lines-on, enables-on}
-use Rattle.reads.specs.Read.{fetchedFrom, doneWith, afterReadBegins, afterReadEnds}
-use Rattle.writes.specs.Write.{storedBy}
-use Rattle.levels.specs.Levels.{letsThrough, portAfterLevels, afterLevelsOnC, afterLevels}
+use Rattle.reads.specs.Read.{fetched_from, done_with, after_read_begins, after_read_ends}
+use Rattle.writes.specs.Write.{stored_by}
+use Rattle.levels.specs.Levels.{lets_through, port_after_levels, after_levels_on_c, after_levels}
 use Rattle.account.proofs.ByAct.{stored}
 
 -- The mode word, port C's latch and the enables are the same.
@@ -22,24 +22,24 @@ pub record Kept (c' c : Core) : Type 0 where
   pub enables : c'.inte ≡ c.inte
 
 -- So it is with whatever is done at the address of a port.
-on-port : (c : Core) (x : ℕ) (f : Group → Port → Port) → Kept (onPort c x f) c
+on-port : (c : Core) (x : ℕ) (f : Group → Port → Port) → Kept (on_port c x f) c
 on-port c x f = record { word = word_on c x f; latch = ap (λ l. l.latch) (lines-on c x f); enables = enables-on c x f }
 
-pub kept-begun : (c : Core) (x : ℕ) → Kept (afterReadBegins c x) c
-unfolding afterReadBegins
-kept-begun c x = on-port c x (λ g p. fetchedFrom p (strobedInput c.word g))
+pub kept-begun : (c : Core) (x : ℕ) → Kept (after_read_begins c x) c
+unfolding after_read_begins
+kept-begun c x = on-port c x (λ g p. fetched_from p (strobed_input c.word g))
 
-pub kept-ended : (c : Core) (x : ℕ) → Kept (afterReadEnds c x) c
-unfolding afterReadEnds
-kept-ended c x = on-port c x (λ g p. doneWith p (strobedInput c.word g))
+pub kept-ended : (c : Core) (x : ℕ) → Kept (after_read_ends c x) c
+unfolding after_read_ends
+kept-ended c x = on-port c x (λ g p. done_with p (strobed_input c.word g))
 
 pub kept-stored : (c : Core) (x d : ℕ) → Kept (stored c x d) c
-kept-stored c x d = on-port c x (λ g p. storedBy p c.word g d)
+kept-stored c x d = on-port c x (λ g p. stored_by p c.word g d)
 
-pub kept-levelled : (c : Core) (x d : ℕ) → Kept (afterLevels c x d) c
-unfolding afterLevels afterLevelsOnC
+pub kept-levelled : (c : Core) (x d : ℕ) → Kept (after_levels c x d) c
+unfolding after_levels after_levels_on_c
 kept-levelled c x d = go (eqb x 2)
   where
-    go : (two : Bool) → Kept (cond two (afterLevelsOnC c d) (onPort c x (λ g p. portAfterLevels p (letsThrough c g) d))) c
+    go : (two : Bool) → Kept (cond two (after_levels_on_c c d) (on_port c x (λ g p. port_after_levels p (lets_through c g) d))) c
     go true = record { word = refl; latch = refl; enables = refl }
-    go false = on-port c x (λ g p. portAfterLevels p (letsThrough c g) d)
+    go false = on-port c x (λ g p. port_after_levels p (lets_through c g) d)

@@ -7,12 +7,12 @@ use native.Mathlib.Omega.{arith}
 use lib.Dec.{ltb}
 use borrow.Author.Tests.{lt-ltb, le-ltb}
 use Rattle.roles.specs.Role.{number}
-use Rattle.lookup.specs.Lookup.{lookupOf}
-use Rattle.account.specs.Summary.{Signal, io, INTR, IBF, OBF, STB, ACK, signalAt, isIn, role_number}
+use Rattle.lookup.specs.Lookup.{lookup_of}
+use Rattle.account.specs.Summary.{Signal, io, INTR, IBF, OBF, STB, ACK, signal_at, is_in, role_number}
 use Rattle.account.specs.Promise.{LooksUp}
-use Rattle.account.proofs.Signals.{roleBy, role_same}
+use Rattle.account.proofs.Signals.{role_by, role_same}
 
-number_same : (s : Signal) (inward : Bool) → number (roleBy s inward) ≡ role_number s inward
+number_same : (s : Signal) (inward : Bool) → number (role_by s inward) ≡ role_number s inward
 number_same io true = refl
 number_same io false = refl
 number_same (INTR g) inward = refl
@@ -22,10 +22,10 @@ number_same (STB g) inward = refl
 number_same (ACK g) inward = refl
 
 pub looks-up : (w n : ℕ) → LooksUp w n
-unfolding lookupOf
+unfolding lookup_of
 looks-up w n = record {
   cell = λ word pin.
-      rw (le-ltb w 128 word, le-ltb 7 n (omega (arith, pin)), role_same w n pin) (number_same (signalAt w n) (isIn w n));
+      rw (le-ltb w 128 word, le-ltb 7 n (omega (arith, pin)), role_same w n pin) (number_same (signal_at w n) (is_in w n));
   no_word = λ below. rw (lt-ltb w 128 below);
-  noPin = λ above. rw (lt-ltb 7 n above, or-true (ltb w 128));
+  no_pin = λ above. rw (lt-ltb 7 n above, or-true (ltb w 128));
 }

@@ -9,13 +9,13 @@ use Rattle.channel.specs.declared.Side.TheVariants.{Input, Output}
 use Rattle.channel.specs.declared.Fill.{Fill}
 use Rattle.channel.specs.declared.Fill.TheVariants.{Empty, Waiting, Fetching}
 use Rattle.channel.specs.declared.Channel.{Channel}
-use Rattle.channel.specs.Channel.{isWaiting, is_empty, flagOf}
-use Rattle.channel.specs.Moves.{afterOffer, afterFollow, afterHandOver, afterEndRead, afterForce}
-use Rattle.channel.proofs.ConditionsLeft.{leaves, offer-waits, offer-latches, follow-stays, follow-latches, hand-over-leaves, hand-over-keeps, end-read-empties, end-read-keeps, forcedTo, force-leaves, force-keeps}
+use Rattle.channel.specs.Channel.{is_waiting, is_empty, flag_of}
+use Rattle.channel.specs.Moves.{after_offer, after_follow, after_hand_over, after_end_read, after_force}
+use Rattle.channel.proofs.ConditionsLeft.{leaves, offer-waits, offer-latches, follow-stays, follow-latches, hand-over-leaves, hand-over-keeps, end-read-empties, end-read-keeps, forced_to, force-leaves, force-keeps}
 use Rattle.chip.specs.declared.Port.{Port}
-use Rattle.chip.specs.State.{withOutput}
-use Rattle.writes.specs.Write.{storedIn}
-use Rattle.laws.specs.Forcing.{isFetching}
+use Rattle.chip.specs.State.{with_output}
+use Rattle.writes.specs.Write.{stored_in}
+use Rattle.laws.specs.Forcing.{is_fetching}
 use Rattle.laws.proofs.Forcing.{forced-flag}
 
 -- IBF and OBF of a channel.
@@ -23,16 +23,16 @@ abbrev pub full : Channel → Bool
 full ch = not (is_empty ch.fill)
 
 abbrev pub vacant : Channel → Bool
-vacant ch = not (isWaiting ch.fill)
+vacant ch = not (is_waiting ch.fill)
 
 -- A read has been given the byte.
 abbrev pub given : Channel → Bool
-given ch = isFetching ch.fill
+given ch = is_fetching ch.fill
 
 -- A port after a write: own, to this port; out, an output; on, a strobed one.
 module _ (p : Port) (d : ℕ) where
   abbrev after : Bool → Bool → Bool → Port
-  after own out on = cond own (cond out (withOutput p (storedIn p.output on d)) p) p
+  after own out on = cond own (cond out (with_output p (stored_in p.output on d)) p) p
 
   pub written-input : (own out on : Bool) → (after own out on).input ≡ p.input
   written-input true true on = refl
@@ -54,7 +54,7 @@ module _ (p : Port) (d : ℕ) where
 
 module _ (ch : Channel) where
   -- A read that begins, and one that ends, where the channel takes part.
-  pub begun-full : (b : Bool) → full (cond b (afterHandOver ch Fetching) ch) ≡ full ch
+  pub begun-full : (b : Bool) → full (cond b (after_hand_over ch Fetching) ch) ≡ full ch
   begun-full true = ap (λ (f : Fill). not (is_empty f)) (hand-over-leaves ch Fetching) ∙ go ch.fill
     where
       go : (f : Fill) → not (is_empty (leaves f Fetching)) ≡ not (is_empty f)
@@ -63,16 +63,16 @@ module _ (ch : Channel) where
       go Fetching = refl
   begun-full false = refl
 
-  pub ended-full : (on own : Bool) → full (cond (on && own) (afterEndRead ch) ch) ≡ (full ch && not (own && on))
+  pub ended-full : (on own : Bool) → full (cond (on && own) (after_end_read ch) ch) ≡ (full ch && not (own && on))
   ended-full true true = rw (end-read-empties ch) (sym (and-false (full ch)))
   ended-full true false = sym (and-true (full ch))
   ended-full false true = sym (and-true (full ch))
   ended-full false false = sym (and-true (full ch))
 
-  pub begun-given : (on own : Bool) → given (cond (on && own) (afterHandOver ch Fetching) ch) ≡ (given ch || (full ch && (own && on)))
-  begun-given true true = ap isFetching (hand-over-leaves ch Fetching) ∙ go ch.fill
+  pub begun-given : (on own : Bool) → given (cond (on && own) (after_hand_over ch Fetching) ch) ≡ (given ch || (full ch && (own && on)))
+  begun-given true true = ap is_fetching (hand-over-leaves ch Fetching) ∙ go ch.fill
     where
-      go : (f : Fill) → isFetching (leaves f Fetching) ≡ (isFetching f || (not (is_empty f) && true))
+      go : (f : Fill) → is_fetching (leaves f Fetching) ≡ (is_fetching f || (not (is_empty f) && true))
       go Empty = refl
       go Waiting = refl
       go Fetching = refl
@@ -80,27 +80,27 @@ module _ (ch : Channel) where
   begun-given false true = rw (and-false (full ch)) (sym (or-false (given ch)))
   begun-given false false = rw (and-false (full ch)) (sym (or-false (given ch)))
 
-  pub ended-given : (on own : Bool) → given (cond (on && own) (afterEndRead ch) ch) ≡ (given ch && not (own && on))
+  pub ended-given : (on own : Bool) → given (cond (on && own) (after_end_read ch) ch) ≡ (given ch && not (own && on))
   ended-given true true = rw (end-read-empties ch) (sym (and-false (given ch)))
   ended-given true false = sym (and-true (given ch))
   ended-given false true = sym (and-true (given ch))
   ended-given false false = sym (and-true (given ch))
 
   -- A flag that is forced, where the channel takes part.
-  pub forced-full : (b v : Bool) → full (cond b (afterForce Input v ch) ch) ≡ cond b (v || given ch) (full ch)
-  unfolding flagOf
-  forced-full true v = ap (flagOf Input) (force-leaves Input v ch) ∙ forced-flag Input v ch.fill
+  pub forced-full : (b v : Bool) → full (cond b (after_force Input v ch) ch) ≡ cond b (v || given ch) (full ch)
+  unfolding flag_of
+  forced-full true v = ap (flag_of Input) (force-leaves Input v ch) ∙ forced-flag Input v ch.fill
   forced-full false v = refl
 
-  pub forced-vacant : (b v : Bool) → vacant (cond b (afterForce Output v ch) ch) ≡ cond b v (vacant ch)
-  unfolding flagOf
-  forced-vacant true v = ap (flagOf Output) (force-leaves Output v ch) ∙ forced-flag Output v ch.fill
+  pub forced-vacant : (b v : Bool) → vacant (cond b (after_force Output v ch) ch) ≡ cond b v (vacant ch)
+  unfolding flag_of
+  forced-vacant true v = ap (flag_of Output) (force-leaves Output v ch) ∙ forced-flag Output v ch.fill
   forced-vacant false v = refl
 
-  pub forced-given : (b v : Bool) → given (cond b (afterForce Input v ch) ch) ≡ given ch
-  forced-given true v = ap isFetching (force-leaves Input v ch) ∙ go v ch.fill
+  pub forced-given : (b v : Bool) → given (cond b (after_force Input v ch) ch) ≡ given ch
+  forced-given true v = ap is_fetching (force-leaves Input v ch) ∙ go v ch.fill
     where
-      go : (v : Bool) (f : Fill) → isFetching (forcedTo Input v f) ≡ isFetching f
+      go : (v : Bool) (f : Fill) → is_fetching (forced_to Input v f) ≡ is_fetching f
       go true Empty = refl
       go true Waiting = refl
       go true Fetching = refl
@@ -109,18 +109,18 @@ module _ (ch : Channel) where
       go false Fetching = refl
   forced-given false v = refl
 
-  pub forced-latch : (s : Side) (b v : Bool) → (cond b (afterForce s v ch) ch).latch ≡ ch.latch
-  forced-latch s b v = either_way (λ (r : Channel). r.latch) ch.latch b (afterForce s v ch) ch (force-keeps s v ch) refl
+  pub forced-latch : (s : Side) (b v : Bool) → (cond b (after_force s v ch) ch).latch ≡ ch.latch
+  forced-latch s b v = either_way (λ (r : Channel). r.latch) ch.latch b (after_force s v ch) ch (force-keeps s v ch) refl
 
-  pub handed-latch : (left : Fill) (b : Bool) → (cond b (afterHandOver ch left) ch).latch ≡ ch.latch
-  handed-latch left b = either_way (λ (r : Channel). r.latch) ch.latch b (afterHandOver ch left) ch (hand-over-keeps ch left) refl
+  pub handed-latch : (left : Fill) (b : Bool) → (cond b (after_hand_over ch left) ch).latch ≡ ch.latch
+  handed-latch left b = either_way (λ (r : Channel). r.latch) ch.latch b (after_hand_over ch left) ch (hand-over-keeps ch left) refl
 
-  pub ended-latch : (b : Bool) → (cond b (afterEndRead ch) ch).latch ≡ ch.latch
-  ended-latch b = either_way (λ (r : Channel). r.latch) ch.latch b (afterEndRead ch) ch (end-read-keeps ch) refl
+  pub ended-latch : (b : Bool) → (cond b (after_end_read ch) ch).latch ≡ ch.latch
+  ended-latch b = either_way (λ (r : Channel). r.latch) ch.latch b (after_end_read ch) ch (end-read-keeps ch) refl
 
   -- Levels, to an input: two, on port C; on, strobed; fell and low, the line; own, on the port's lines.
   abbrev under : ℕ → ℕ → Bool → Bool → Channel
-  under l d falls through = cond falls (afterOffer ch l) (cond through (afterFollow ch d) ch)
+  under l d falls through = cond falls (after_offer ch l) (cond through (after_follow ch d) ch)
 
   pub under-latch : (l d : ℕ) (two on fell own low : Bool)
       → (under l d (two && (on && fell)) (own && (on && low))).latch ≡ cond on (cond (two && fell) l (cond (own && low) d ch.latch)) ch.latch
@@ -141,7 +141,7 @@ module _ (ch : Channel) where
       go false false = sym (or-false (full ch))
   under-full l d two false fell b =
       rw (and-false two)
-      (either_way full (full ch || false) b (afterFollow ch d) ch (rw (follow-stays ch d) (sym (or-false (full ch)))) (sym (or-false (full ch))))
+      (either_way full (full ch || false) b (after_follow ch d) ch (rw (follow-stays ch d) (sym (or-false (full ch)))) (sym (or-false (full ch))))
 
   pub under-given : (l d : ℕ) (two on fell b : Bool) → given (under l d (two && (on && fell)) b) ≡ (given ch && not (on && (two && fell)))
   under-given l d two true fell b = go (two && fell) b
@@ -152,18 +152,18 @@ module _ (ch : Channel) where
       go false false = sym (and-true (given ch))
   under-given l d two false fell b =
       rw (and-false two)
-      (either_way given (given ch && true) b (afterFollow ch d) ch (rw (follow-stays ch d) (sym (and-true (given ch)))) (sym (and-true (given ch))))
+      (either_way given (given ch && true) b (after_follow ch d) ch (rw (follow-stays ch d) (sym (and-true (given ch)))) (sym (and-true (given ch))))
 
   -- The fall of ACK, to an output.
-  pub taken-vacant : (two on fell : Bool) → vacant (cond (two && (on && fell)) (afterHandOver ch Empty) ch) ≡ (vacant ch || (on && (two && fell)))
+  pub taken-vacant : (two on fell : Bool) → vacant (cond (two && (on && fell)) (after_hand_over ch Empty) ch) ≡ (vacant ch || (on && (two && fell)))
   taken-vacant two true fell = go (two && fell)
     where
-      taken : (f : Fill) → not (isWaiting (leaves f Empty)) ≡ true
+      taken : (f : Fill) → not (is_waiting (leaves f Empty)) ≡ true
       taken Empty = refl
       taken Waiting = refl
       taken Fetching = refl
 
-      go : (a : Bool) → vacant (cond a (afterHandOver ch Empty) ch) ≡ (vacant ch || a)
-      go true = ap (λ (f : Fill). not (isWaiting f)) (hand-over-leaves ch Empty) ∙ taken ch.fill ∙ sym (or-true (vacant ch))
+      go : (a : Bool) → vacant (cond a (after_hand_over ch Empty) ch) ≡ (vacant ch || a)
+      go true = ap (λ (f : Fill). not (is_waiting f)) (hand-over-leaves ch Empty) ∙ taken ch.fill ∙ sym (or-true (vacant ch))
       go false = sym (or-false (vacant ch))
   taken-vacant two false fell = rw (and-false two) (sym (or-false (vacant ch)))

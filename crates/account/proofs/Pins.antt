@@ -16,22 +16,22 @@ use Rattle.channel.specs.declared.Side.{Side}
 use Rattle.channel.specs.declared.Side.TheVariants.{Input, Output}
 use Rattle.chip.specs.declared.Core.{Core}
 use Rattle.chip.specs.declared.Chip.{Chip}
-use Rattle.chip.specs.State.{noEnables}
-use Rattle.chip.specs.Handshakes.{enableOf}
-use Rattle.settings.specs.ModeWord.{afterModeWord}
-use Rattle.settings.specs.ControlWord.{setAs, pinSet, afterControlWord}
-use Rattle.settings.proofs.PortsAfter.{mode-word-latch, mode-word-enables, bit_word, bit-put}
-use Rattle.writes.specs.Write.{latchWritten, writable}
+use Rattle.chip.specs.State.{no_enables}
+use Rattle.chip.specs.Handshakes.{enable_of}
+use Rattle.settings.specs.ModeWord.{after_mode_word}
+use Rattle.settings.specs.ControlWord.{set_as, pin_set, after_control_word}
+use Rattle.settings.proofs.PortsAfter.{mode-word-latch, mode-word-enables, bit-word, bit-put}
+use Rattle.writes.specs.Write.{latch_written, writable}
 use Rattle.step.specs.Step.{stepped}
-use Rattle.fates.specs.Effects.{strobePin}
+use Rattle.fates.specs.Effects.{strobe_pin}
 use Rattle.fates.proofs.PinNamed.{pin-same}
-use Rattle.account.specs.Summary.{columnOf, is_plain, Signal, io, INTR, IBF, OBF, STB, ACK, signalAt, isIn, settable, freeOut, reached}
+use Rattle.account.specs.Summary.{column_of, is_plain, Signal, io, INTR, IBF, OBF, STB, ACK, signal_at, is_in, settable, free_out, reached}
 use Rattle.account.specs.Acts.{written, act}
-use Rattle.account.specs.Account.{names, bitAfter}
-use Rattle.account.specs.Promise.{withBit7, surroundingsHere, bitHere}
+use Rattle.account.specs.Account.{names, bit_after}
+use Rattle.account.specs.Promise.{with_bit7, surroundings_here, bit_here}
 use Rattle.account.proofs.Words.{column-alike, signal_alike, in-alike, with-bit-7-alike}
 use Rattle.account.proofs.Columns.{plain-same}
-use Rattle.account.proofs.Signals.{roleBy, role_same, by-signal}
+use Rattle.account.proofs.Signals.{role_by, role_same, by-signal}
 use Rattle.account.proofs.ByAct.{latched, by-act}
 use Rattle.account.proofs.Kept.{Kept, kept-begun, kept-ended, kept-stored, kept-levelled}
 use Rattle.account.proofs.BitSet.{set-latch, put-bit, moved, out-same, is_line, set-enable}
@@ -40,13 +40,13 @@ no-bit : (n : ℕ) → n < 8 → bit_of 0 n ≡ false
 unfolding bit_of
 no-bit = bits 8 (λ n. bit_of 0 n) (λ n. false) tt
 
-no-enable : (g : Group) (s : Side) → enableOf noEnables g s ≡ false
+no-enable : (g : Group) (s : Side) → enable_of no_enables g s ≡ false
 no-enable A Input = refl
 no-enable A Output = refl
 no-enable B s = refl
 
 -- Made anew, a core has no bit at any pin; and what keeps latch and enables keeps the bits.
-mode-word-bit : (c : Core) (w n : ℕ) → n < 8 → (r : Signal) → false ≡ bitHere (afterModeWord c w) n r
+mode-word-bit : (c : Core) (w n : ℕ) → n < 8 → (r : Signal) → false ≡ bit_here (after_mode_word c w) n r
 mode-word-bit c w n hn io = rw (mode-word-latch c w) (sym (no-bit n hn))
 mode-word-bit c w n hn (INTR g) = refl
 mode-word-bit c w n hn (IBF g) = refl
@@ -54,17 +54,17 @@ mode-word-bit c w n hn (OBF g) = refl
 mode-word-bit c w n hn (STB g) = rw (mode-word-enables c w) (sym (no-enable g Input))
 mode-word-bit c w n hn (ACK g) = rw (mode-word-enables c w) (sym (no-enable g Output))
 
-pub same_bit : (c' c : Core) → c'.c.latch ≡ c.c.latch → c'.inte ≡ c.inte → (n : ℕ) (r : Signal) → bitHere c' n r ≡ bitHere c n r
+pub same_bit : (c' c : Core) → c'.c.latch ≡ c.c.latch → c'.inte ≡ c.inte → (n : ℕ) (r : Signal) → bit_here c' n r ≡ bit_here c n r
 same_bit c' c latch enables n io = ap (λ (l : ℕ). bit_of l n) latch
 same_bit c' c latch enables n (INTR g) = refl
 same_bit c' c latch enables n (IBF g) = refl
 same_bit c' c latch enables n (OBF g) = refl
-same_bit c' c latch enables n (STB g) = ap (λ e. enableOf e g Input) enables
-same_bit c' c latch enables n (ACK g) = ap (λ e. enableOf e g Output) enables
+same_bit c' c latch enables n (STB g) = ap (λ e. enable_of e g Input) enables
+same_bit c' c latch enables n (ACK g) = ap (λ e. enable_of e g Output) enables
 
-kept-bit : (c' c : Core) → Kept c' c → (n : ℕ) → bitHere c n (signalAt c.word n) ≡ bitHere c' n (signalAt c'.word n)
+kept-bit : (c' c : Core) → Kept c' c → (n : ℕ) → bit_here c n (signal_at c.word n) ≡ bit_here c' n (signal_at c'.word n)
 kept-bit c' c k n =
-    sym (ap (λ (v : ℕ). bitHere c' n (signalAt v n)) k.word ∙ same_bit c' c k.latch k.enables n (signalAt c.word n))
+    sym (ap (λ (v : ℕ). bit_here c' n (signal_at v n)) k.word ∙ same_bit c' c k.latch k.enables n (signal_at c.word n))
 
 module _ (c : Chip) (n : ℕ) (hn : n < 8) where
   abbrev core : Core
@@ -74,76 +74,76 @@ module _ (c : Chip) (n : ℕ) (hn : n < 8) where
   w = core.word
 
   abbrev now : Bool
-  now = bitHere core n (signalAt w n)
+  now = bit_here core n (signal_at w n)
 
   -- What a write puts at the pin, under the word as it stands.
   put-here : (x d : ℕ)
-      → bitAfter (surroundingsHere c) n now (written x d)
-      ≡ cond (names x d n && settable (signalAt w n) (isIn w n)) (bit_of d 0) (cond (eqb x 2 && reached w n) (bit_of d n) now)
+      → bit_after (surroundings_here c) n now (written x d)
+      ≡ cond (names x d n && settable (signal_at w n) (is_in w n)) (bit_of d 0) (cond (eqb x 2 && reached w n) (bit_of d n) now)
   put-here x d =
-      let u = withBit7 w in let same = with-bit-7-alike w in
+      let u = with_bit7 w in let same = with-bit-7-alike w in
       rw (signal_alike u w same n, in-alike u w same n, column-alike u w same A)
 
   -- A control word that names pin m.
   module _ (m : ℕ) (hm : m < 8) (v : Bool) where
     abbrev set : Core
-    set = setAs core m v (roleBy (signalAt w m) (isIn w m))
+    set = set_as core m v (role_by (signal_at w m) (is_in w m))
 
     abbrev Set : Signal → Type 0
-    Set r = signalAt w n ≡ r → cond (eqb n m && settable r (isIn w n)) v (bitHere core n r) ≡ bitHere set n r
+    Set r = signal_at w n ≡ r → cond (eqb n m && settable r (is_in w n)) v (bit_here core n r) ≡ bit_here set n r
 
     set-nothing : cond (eqb n m && false) v false ≡ false
     set-nothing = rw (and-false (eqb n m))
 
-    set_line : (g : Group) (s : Side) → n ≡ strobePin g s → is_line (signalAt w n) ≡ true
-        → cond (eqb n m && true) v (enableOf core.inte g s) ≡ enableOf set.inte g s
+    set_line : (g : Group) (s : Side) → n ≡ strobe_pin g s → is_line (signal_at w n) ≡ true
+        → cond (eqb n m && true) v (enable_of core.inte g s) ≡ enable_of set.inte g s
     set_line g s at line =
-        sym (set-enable core m hm v w g s ∙ rw (← at, moved (λ k. is_line (signalAt w k)) n m, line))
+        sym (set-enable core m hm v w g s ∙ rw (← at, moved (λ k. is_line (signal_at w k)) n m, line))
 
-    set-bit : cond (eqb n m && settable (signalAt w n) (isIn w n)) v now ≡ bitHere set n (signalAt w n)
+    set-bit : cond (eqb n m && settable (signal_at w n) (is_in w n)) v now ≡ bit_here set n (signal_at w n)
     set-bit =
         by-signal Set n
-        (λ free. sym (rw (set-latch core m v (signalAt w m) (isIn w m)) (put-bit core.c.latch m n v (freeOut (signalAt w m) (isIn w m)) hn
-        ∙ rw (moved (λ k. freeOut (signalAt w k) (isIn w k)) n m, free))))
+        (λ free. sym (rw (set-latch core m v (signal_at w m) (is_in w m)) (put-bit core.c.latch m n v (free_out (signal_at w m) (is_in w m)) hn
+        ∙ rw (moved (λ k. free_out (signal_at w k) (is_in w k)) n m, free))))
         (λ e. set-nothing) (λ e. set-nothing) (λ e. set-nothing)
         (λ g at e. set_line g Input at (ap is_line e))
         (λ g at e. set_line g Output at (ap is_line e))
         w hn refl
 
   abbrev Goes : Core → Bool → Type 0
-  Goes c' after = after ≡ bitHere c' n (signalAt c'.word n)
+  Goes c' after = after ≡ bit_here c' n (signal_at c'.word n)
 
-  named : (x d : ℕ) → eqb x 3 ≡ true → bit_of d 7 ≡ false → Goes (afterControlWord core d) (bitAfter (surroundingsHere c) n now (written x d))
-  unfolding pinSet
+  named : (x d : ℕ) → eqb x 3 ≡ true → bit_of d 7 ≡ false → Goes (after_control_word core d) (bit_after (surroundings_here c) n now (written x d))
+  unfolding pin_set
   named x d three seven =
       let m = d / 2 % 8 in let v = bit_of d 0 in
-      let same : afterControlWord core d ≡ set m (omega arith) v = bit_word core d seven ∙ ap (setAs core m v) (role_same w m (omega arith)) in
+      let same : after_control_word core d ≡ set m (omega arith) v = bit-word core d seven ∙ ap (set_as core m v) (role_same w m (omega arith)) in
       put-here x d
       ∙ rw (eqb-true x 3 three, pin-same d) (set-bit m (omega arith) v)
-      ∙ sym (ap (λ (u : ℕ). bitHere (afterControlWord core d) n (signalAt u n)) (bit-put core d seven).surroundings.word
-      ∙ ap (λ (c' : Core). bitHere c' n (signalAt w n)) same)
+      ∙ sym (ap (λ (u : ℕ). bit_here (after_control_word core d) n (signal_at u n)) (bit-put core d seven).surroundings.word
+      ∙ ap (λ (c' : Core). bit_here c' n (signal_at w n)) same)
 
   abbrev Written : ℕ → Signal → Type 0
   Written d r =
-      signalAt w n ≡ r
-      → cond (freeOut r (isIn w n) && (ltb n 4 || is_plain (columnOf w A))) (bit_of d n) (bitHere core n r) ≡ bitHere (latched core d) n r
+      signal_at w n ≡ r
+      → cond (free_out r (is_in w n) && (ltb n 4 || is_plain (column_of w A))) (bit_of d n) (bit_here core n r) ≡ bit_here (latched core d) n r
 
-  lines-written : (x d : ℕ) → eqb x 2 ≡ true → Goes (latched core d) (bitAfter (surroundingsHere c) n now (written x d))
-  unfolding latchWritten
+  lines-written : (x d : ℕ) → eqb x 2 ≡ true → Goes (latched core d) (bit_after (surroundings_here c) n now (written x d))
+  unfolding latch_written
   lines-written x d two =
       put-here x d
       ∙ rw (eqb-true x 2 two)
       (by-signal (Written d) n
       (λ free. sym (bit-of-assembled (λ n. cond (writable w n) (bit_of d n) (bit_of core.c.latch n)) n hn
-      ∙ rw (role_same w n hn, out-same (signalAt w n) (isIn w n), plain-same w A, free)))
+      ∙ rw (role_same w n hn, out-same (signal_at w n) (is_in w n), plain-same w A, free)))
       (λ e. refl) (λ e. refl) (λ e. refl) (λ g at e. refl) (λ g at e. refl)
       w hn refl)
 
-  pub bit-next : (e : Event) → Goes (stepped c e).chip.core (bitAfter (surroundingsHere c) n now (act (surroundingsHere c) e))
+  pub bit-next : (e : Event) → Goes (stepped c e).chip.core (bit_after (surroundings_here c) n now (act (surroundings_here c) e))
   bit-next =
-      by-act (λ c' t. Goes c' (bitAfter (surroundingsHere c) n now t)) c
+      by-act (λ c' t. Goes c' (bit_after (surroundings_here c) n now t)) c
       refl
-      (λ v. mode-word-bit core v n hn (signalAt (afterModeWord core v).word n))
+      (λ v. mode-word-bit core v n hn (signal_at (after_mode_word core v).word n))
       (λ x. kept-bit _ core (kept-begun core x) n)
       (λ x. kept-bit _ core (kept-ended core x) n)
       (λ x. refl)

@@ -11,42 +11,42 @@ use Rattle.bits.proofs.Logic.{turned}
 use Rattle.events.specs.Event.{Event}
 use Rattle.control.specs.declared.Group.{Group}
 use Rattle.control.specs.declared.Group.TheVariants.{A, B}
-use Rattle.control.specs.Mode.{strobedInput, strobedOutput, outputOf}
+use Rattle.control.specs.Mode.{strobed_input, strobed_output, output_of}
 use Rattle.control.proofs.Strobed.{giving-is-output}
 use Rattle.channel.specs.declared.Side.{Side}
 use Rattle.channel.specs.declared.Side.TheVariants.{Input, Output}
 use Rattle.channel.specs.declared.Fill.TheVariants.{Empty, Fetching}
-use Rattle.channel.specs.Moves.{afterForce}
+use Rattle.channel.specs.Moves.{after_force}
 use Rattle.channel.proofs.ConditionsLeft.{clear-empties, clear-zeroes}
 use Rattle.chip.specs.declared.Port.{Port}
 use Rattle.chip.specs.declared.Core.{Core}
 use Rattle.chip.specs.declared.Chip.{Chip}
-use Rattle.chip.specs.State.{portOf, channelOf}
-use Rattle.chip.specs.Handshakes.{ownAddress, linePin, flagPin}
+use Rattle.chip.specs.State.{port_of, channel_of}
+use Rattle.chip.specs.Handshakes.{own_address, line_pin, flag_pin}
 use Rattle.chip.proofs.OnPort.{lines-not-own, control-not-own, port-on}
-use Rattle.settings.specs.ControlWord.{afterControlWord}
-use Rattle.settings.proofs.Flags.{flagAtPin}
+use Rattle.settings.specs.ControlWord.{after_control_word}
+use Rattle.settings.proofs.Flags.{flag_at_pin}
 use Rattle.settings.proofs.PortsAfter.{mode-word-channel, bit-put}
 use Rattle.reads.proofs.PortsAfter.{begun-input, begun-output, ended-input, ended-output}
-use Rattle.writes.specs.Write.{storedBy}
-use Rattle.levels.specs.Levels.{fallen, lineFalls, letsThrough}
+use Rattle.writes.specs.Write.{stored_by}
+use Rattle.levels.specs.Levels.{fallen, line_falls, lets_through}
 use Rattle.levels.proofs.PortsAfter.{levels-input, levels-output}
 use Rattle.step.specs.Step.{stepped}
-use Rattle.fates.specs.Effects.{levelsOn}
+use Rattle.fates.specs.Effects.{levels_on}
 use Rattle.fates.proofs.PinNamed.{pin-same}
 use Rattle.fates.proofs.Tables.{own_same, line_same, full-same}
 use Rattle.account.specs.Acts.{act}
-use Rattle.account.specs.Account.{strobed, forces, outputAfter, inputAfter, ibfAfter, givenAfter, obfAfter}
-use Rattle.account.specs.Promise.{surroundingsHere}
+use Rattle.account.specs.Account.{strobed, forces, output_after, input_after, ibf_after, given_after, obf_after}
+use Rattle.account.specs.Promise.{surroundings_here}
 use Rattle.account.proofs.Columns.{takes-here, gives-here, keeps_here}
 use Rattle.account.proofs.ByAct.{latched, by-act}
 use Rattle.account.proofs.Moves.{full, vacant, given, written-input, written-latch, written-vacant, begun-full, ended-full, begun-given, ended-given, forced-full, forced-vacant, forced-given, forced-latch, handed-latch, ended-latch, under-latch, under-full, under-given, taken-vacant}
 
-pub outside-here : (c : Chip) (g : Group) → levelsOn g (surroundingsHere c) ≡ (portOf c.core g).outside
+pub outside-here : (c : Chip) (g : Group) → levels_on g (surroundings_here c) ≡ (port_of c.core g).outside
 outside-here c A = refl
 outside-here c B = refl
 
-latched-port : (c : Core) (d : ℕ) (g : Group) → portOf (latched c d) g ≡ portOf c g
+latched-port : (c : Core) (d : ℕ) (g : Group) → port_of (latched c d) g ≡ port_of c g
 latched-port c d A = refl
 latched-port c d B = refl
 
@@ -59,113 +59,113 @@ module _ (c : Chip) (g : Group) where
 
   -- Bit set/reset forces the flag that it names.
   abbrev named : Side → ℕ → Bool
-  named s d = flagAtPin w g s (d / 2 % 8)
+  named s d = flag_at_pin w g s (d / 2 % 8)
 
   put : (s : Side) (d : ℕ) → bit_of d 7 ≡ false
-      → channelOf (afterControlWord core d) g s ≡ cond (named s d) (afterForce s (bit_of d 0) (channelOf core g s)) (channelOf core g s)
+      → channel_of (after_control_word core d) g s ≡ cond (named s d) (after_force s (bit_of d 0) (channel_of core g s)) (channel_of core g s)
   put s d seven = (bit-put core d seven).channel g s
 
   -- In the account's words.
-  named-same : (s : Side) (x d : ℕ) → eqb x 3 ≡ true → forces (surroundingsHere c) g s x d ≡ named s d
-  named-same Input x d three = rw (takes-here w g, three, pin-same d, full-same g Input, turned (flagPin g Input) (d / 2 % 8))
-  named-same Output x d three = rw (gives-here w g, three, pin-same d, full-same g Output, turned (flagPin g Output) (d / 2 % 8))
+  named-same : (s : Side) (x d : ℕ) → eqb x 3 ≡ true → forces (surroundings_here c) g s x d ≡ named s d
+  named-same Input x d three = rw (takes-here w g, three, pin-same d, full-same g Input, turned (flag_pin g Input) (d / 2 % 8))
+  named-same Output x d three = rw (gives-here w g, three, pin-same d, full-same g Output, turned (flag_pin g Output) (d / 2 % 8))
 
   -- No other write forces a flag.
-  unforced : (s : Side) (x d : ℕ) → eqb x 3 ≡ false → forces (surroundingsHere c) g s x d ≡ false
-  unforced s x d other = rw (other) (and-false (strobed (surroundingsHere c) g s))
+  unforced : (s : Side) (x d : ℕ) → eqb x 3 ≡ false → forces (surroundings_here c) g s x d ≡ false
+  unforced s x d other = rw (other) (and-false (strobed (surroundings_here c) g s))
 
   two-not-three : (x : ℕ) → eqb x 2 ≡ true → eqb x 3 ≡ false
   two-not-three x two = rw (eqb-true x 2 two)
 
   abbrev storing : ℕ → Group → Port → Port
-  storing d g p = storedBy p w g d
+  storing d g p = stored_by p w g d
 
   pub output-next : (e : Event)
-      → (channelOf (stepped c e).chip.core g Output).latch ≡ outputAfter (surroundingsHere c) g (channelOf core g Output).latch (act (surroundingsHere c) e)
-  unfolding storedBy
+      → (channel_of (stepped c e).chip.core g Output).latch ≡ output_after (surroundings_here c) g (channel_of core g Output).latch (act (surroundings_here c) e)
+  unfolding stored_by
   output-next =
-      by-act (λ c' t. (channelOf c' g Output).latch ≡ outputAfter (surroundingsHere c) g (channelOf core g Output).latch t) c
+      by-act (λ c' t. (channel_of c' g Output).latch ≡ output_after (surroundings_here c) g (channel_of core g Output).latch t) c
       refl
-      (λ v. rw (mode-word-channel core v g Output) (clear-zeroes (channelOf core g Output)))
+      (λ v. rw (mode-word-channel core v g Output) (clear-zeroes (channel_of core g Output)))
       (λ x. rw (begun-output core x g))
       (λ x. rw (ended-output core x g))
       (λ x. refl)
-      (λ x d three seven. rw (put Output d seven, own_same x g, control-not-own x three g) (forced-latch (channelOf core g Output) Output (named Output d) (bit_of d 0)))
+      (λ x d three seven. rw (put Output d seven, own_same x g, control-not-own x three g) (forced-latch (channel_of core g Output) Output (named Output d) (bit_of d 0)))
       (λ x d two. rw (latched-port core d g, own_same x g, lines-not-own x two g))
       (λ x d two three. rw (port-on core x (storing d) g, own_same x g, keeps_here w g)
-      (written-latch (portOf core g) d (ownAddress x g) (outputOf w g) (strobedOutput w g)))
-      (λ x d. rw (levels-output core x d g) (handed-latch (channelOf core g Output) Empty (eqb x 2 && lineFalls core d g Output)))
+      (written-latch (port_of core g) d (own_address x g) (output_of w g) (strobed_output w g)))
+      (λ x d. rw (levels-output core x d g) (handed-latch (channel_of core g Output) Empty (eqb x 2 && line_falls core d g Output)))
 
   pub obf-next : (e : Event)
-      → vacant (channelOf (stepped c e).chip.core g Output) ≡ obfAfter (surroundingsHere c) g (vacant (channelOf core g Output)) (act (surroundingsHere c) e)
-  unfolding storedBy fallen
+      → vacant (channel_of (stepped c e).chip.core g Output) ≡ obf_after (surroundings_here c) g (vacant (channel_of core g Output)) (act (surroundings_here c) e)
+  unfolding stored_by fallen
   obf-next =
-      by-act (λ c' t. vacant (channelOf c' g Output) ≡ obfAfter (surroundingsHere c) g (vacant (channelOf core g Output)) t) c
+      by-act (λ c' t. vacant (channel_of c' g Output) ≡ obf_after (surroundings_here c) g (vacant (channel_of core g Output)) t) c
       refl
-      (λ v. rw (mode-word-channel core v g Output, clear-empties (channelOf core g Output)))
+      (λ v. rw (mode-word-channel core v g Output, clear-empties (channel_of core g Output)))
       (λ x. rw (begun-output core x g))
       (λ x. rw (ended-output core x g))
       (λ x. refl)
-      (λ x d three seven. rw (put Output d seven, named-same Output x d three, own_same x g, control-not-own x three g, and-true (vacant (channelOf core g Output)))
-      (forced-vacant (channelOf core g Output) (named Output d) (bit_of d 0)))
-      (λ x d two. rw (unforced Output x d (two-not-three x two), latched-port core d g, own_same x g, lines-not-own x two g) (sym (and-true (vacant (channelOf core g Output)))))
+      (λ x d three seven. rw (put Output d seven, named-same Output x d three, own_same x g, control-not-own x three g, and-true (vacant (channel_of core g Output)))
+      (forced-vacant (channel_of core g Output) (named Output d) (bit_of d 0)))
+      (λ x d two. rw (unforced Output x d (two-not-three x two), latched-port core d g, own_same x g, lines-not-own x two g) (sym (and-true (vacant (channel_of core g Output)))))
       (λ x d two three. rw (unforced Output x d three, port-on core x (storing d) g, own_same x g, gives-here w g)
-      (written-vacant (portOf core g) d (ownAddress x g) (outputOf w g) (strobedOutput w g) (giving-is-output w g)))
+      (written-vacant (port_of core g) d (own_address x g) (output_of w g) (strobed_output w g) (giving-is-output w g)))
       (λ x d. rw (levels-output core x d g, gives-here w g, line_same g Output)
-      (taken-vacant (channelOf core g Output) (eqb x 2) (strobedOutput w g) (fallen core.c.outside d (linePin g Output))))
+      (taken-vacant (channel_of core g Output) (eqb x 2) (strobed_output w g) (fallen core.c.outside d (line_pin g Output))))
 
   pub input-next : (e : Event)
-      → (channelOf (stepped c e).chip.core g Input).latch ≡ inputAfter (surroundingsHere c) g (channelOf core g Input).latch (act (surroundingsHere c) e)
-  unfolding storedBy fallen
+      → (channel_of (stepped c e).chip.core g Input).latch ≡ input_after (surroundings_here c) g (channel_of core g Input).latch (act (surroundings_here c) e)
+  unfolding stored_by fallen
   input-next =
-      by-act (λ c' t. (channelOf c' g Input).latch ≡ inputAfter (surroundingsHere c) g (channelOf core g Input).latch t) c
+      by-act (λ c' t. (channel_of c' g Input).latch ≡ input_after (surroundings_here c) g (channel_of core g Input).latch t) c
       refl
-      (λ v. rw (mode-word-channel core v g Input) (clear-zeroes (channelOf core g Input)))
-      (λ x. rw (begun-input core x g) (handed-latch (channelOf core g Input) Fetching (strobedInput w g && ownAddress x g)))
-      (λ x. rw (ended-input core x g) (ended-latch (channelOf core g Input) (strobedInput w g && ownAddress x g)))
+      (λ v. rw (mode-word-channel core v g Input) (clear-zeroes (channel_of core g Input)))
+      (λ x. rw (begun-input core x g) (handed-latch (channel_of core g Input) Fetching (strobed_input w g && own_address x g)))
+      (λ x. rw (ended-input core x g) (ended-latch (channel_of core g Input) (strobed_input w g && own_address x g)))
       (λ x. refl)
-      (λ x d three seven. rw (put Input d seven) (forced-latch (channelOf core g Input) Input (named Input d) (bit_of d 0)))
+      (λ x d three seven. rw (put Input d seven) (forced-latch (channel_of core g Input) Input (named Input d) (bit_of d 0)))
       (λ x d two. rw (latched-port core d g))
       (λ x d two three. rw (port-on core x (storing d) g)
-      (ap (λ ch. ch.latch) (written-input (portOf core g) d (ownAddress x g) (outputOf w g) (strobedOutput w g))))
+      (ap (λ ch. ch.latch) (written-input (port_of core g) d (own_address x g) (output_of w g) (strobed_output w g))))
       (λ x d. rw (levels-input core x d g, takes-here w g, line_same g Input, own_same x g, outside-here c g)
-      (under-latch (channelOf core g Input) (portOf core g).outside d (eqb x 2) (strobedInput w g) (fallen core.c.outside d (linePin g Input))
-      (ownAddress x g) (not (bit_of core.c.outside (linePin g Input)))))
+      (under-latch (channel_of core g Input) (port_of core g).outside d (eqb x 2) (strobed_input w g) (fallen core.c.outside d (line_pin g Input))
+      (own_address x g) (not (bit_of core.c.outside (line_pin g Input)))))
 
   pub ibf-next : (e : Event)
-      → full (channelOf (stepped c e).chip.core g Input)
-      ≡ ibfAfter (surroundingsHere c) g (full (channelOf core g Input)) (given (channelOf core g Input)) (act (surroundingsHere c) e)
-  unfolding storedBy fallen
+      → full (channel_of (stepped c e).chip.core g Input)
+      ≡ ibf_after (surroundings_here c) g (full (channel_of core g Input)) (given (channel_of core g Input)) (act (surroundings_here c) e)
+  unfolding stored_by fallen
   ibf-next =
-      by-act (λ c' t. full (channelOf c' g Input) ≡ ibfAfter (surroundingsHere c) g (full (channelOf core g Input)) (given (channelOf core g Input)) t) c
+      by-act (λ c' t. full (channel_of c' g Input) ≡ ibf_after (surroundings_here c) g (full (channel_of core g Input)) (given (channel_of core g Input)) t) c
       refl
-      (λ v. rw (mode-word-channel core v g Input, clear-empties (channelOf core g Input)))
-      (λ x. rw (begun-input core x g) (begun-full (channelOf core g Input) (strobedInput w g && ownAddress x g)))
-      (λ x. rw (ended-input core x g, takes-here w g, own_same x g) (ended-full (channelOf core g Input) (strobedInput w g) (ownAddress x g)))
+      (λ v. rw (mode-word-channel core v g Input, clear-empties (channel_of core g Input)))
+      (λ x. rw (begun-input core x g) (begun-full (channel_of core g Input) (strobed_input w g && own_address x g)))
+      (λ x. rw (ended-input core x g, takes-here w g, own_same x g) (ended-full (channel_of core g Input) (strobed_input w g) (own_address x g)))
       (λ x. refl)
-      (λ x d three seven. rw (put Input d seven, named-same Input x d three) (forced-full (channelOf core g Input) (named Input d) (bit_of d 0)))
+      (λ x d three seven. rw (put Input d seven, named-same Input x d three) (forced-full (channel_of core g Input) (named Input d) (bit_of d 0)))
       (λ x d two. rw (unforced Input x d (two-not-three x two), latched-port core d g))
       (λ x d two three. rw (unforced Input x d three, port-on core x (storing d) g)
-      (ap full (written-input (portOf core g) d (ownAddress x g) (outputOf w g) (strobedOutput w g))))
+      (ap full (written-input (port_of core g) d (own_address x g) (output_of w g) (strobed_output w g))))
       (λ x d. rw (levels-input core x d g, takes-here w g, line_same g Input)
-      (under-full (channelOf core g Input) (portOf core g).outside d (eqb x 2) (strobedInput w g) (fallen core.c.outside d (linePin g Input))
-      (ownAddress x g && letsThrough core g)))
+      (under-full (channel_of core g Input) (port_of core g).outside d (eqb x 2) (strobed_input w g) (fallen core.c.outside d (line_pin g Input))
+      (own_address x g && lets_through core g)))
 
   pub given-next : (e : Event)
-      → given (channelOf (stepped c e).chip.core g Input)
-      ≡ givenAfter (surroundingsHere c) g (full (channelOf core g Input)) (given (channelOf core g Input)) (act (surroundingsHere c) e)
-  unfolding storedBy fallen
+      → given (channel_of (stepped c e).chip.core g Input)
+      ≡ given_after (surroundings_here c) g (full (channel_of core g Input)) (given (channel_of core g Input)) (act (surroundings_here c) e)
+  unfolding stored_by fallen
   given-next =
-      by-act (λ c' t. given (channelOf c' g Input) ≡ givenAfter (surroundingsHere c) g (full (channelOf core g Input)) (given (channelOf core g Input)) t) c
+      by-act (λ c' t. given (channel_of c' g Input) ≡ given_after (surroundings_here c) g (full (channel_of core g Input)) (given (channel_of core g Input)) t) c
       refl
-      (λ v. rw (mode-word-channel core v g Input, clear-empties (channelOf core g Input)))
-      (λ x. rw (begun-input core x g, takes-here w g, own_same x g) (begun-given (channelOf core g Input) (strobedInput w g) (ownAddress x g)))
-      (λ x. rw (ended-input core x g, takes-here w g, own_same x g) (ended-given (channelOf core g Input) (strobedInput w g) (ownAddress x g)))
+      (λ v. rw (mode-word-channel core v g Input, clear-empties (channel_of core g Input)))
+      (λ x. rw (begun-input core x g, takes-here w g, own_same x g) (begun-given (channel_of core g Input) (strobed_input w g) (own_address x g)))
+      (λ x. rw (ended-input core x g, takes-here w g, own_same x g) (ended-given (channel_of core g Input) (strobed_input w g) (own_address x g)))
       (λ x. refl)
-      (λ x d three seven. rw (put Input d seven) (forced-given (channelOf core g Input) (named Input d) (bit_of d 0)))
+      (λ x d three seven. rw (put Input d seven) (forced-given (channel_of core g Input) (named Input d) (bit_of d 0)))
       (λ x d two. rw (latched-port core d g))
       (λ x d two three. rw (port-on core x (storing d) g)
-      (ap given (written-input (portOf core g) d (ownAddress x g) (outputOf w g) (strobedOutput w g))))
+      (ap given (written-input (port_of core g) d (own_address x g) (output_of w g) (strobed_output w g))))
       (λ x d. rw (levels-input core x d g, takes-here w g, line_same g Input)
-      (under-given (channelOf core g Input) (portOf core g).outside d (eqb x 2) (strobedInput w g) (fallen core.c.outside d (linePin g Input))
-      (ownAddress x g && letsThrough core g)))
+      (under-given (channel_of core g Input) (port_of core g).outside d (eqb x 2) (strobed_input w g) (fallen core.c.outside d (line_pin g Input))
+      (own_address x g && lets_through core g)))

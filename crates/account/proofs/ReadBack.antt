@@ -8,7 +8,7 @@ use Prim.Native.Nat.{ℕ}
 use lib.Dec.{eqb}
 use borrow.Author.Tests.{eqb-true}
 use Rattle.bits.specs.Bit.{bit_of}
-use Rattle.bits.specs.Sum.{byteBy}
+use Rattle.bits.specs.Sum.{byte_by}
 use Rattle.bits.proofs.Logic.{contrary, both, by-test}
 use Rattle.events.specs.Event.{Event}
 use Rattle.bus.specs.declared.Phase.{Phase}
@@ -16,13 +16,13 @@ use Rattle.bus.specs.declared.Phase.TheVariants.{Idle, Reading, Writing}
 use Rattle.chip.specs.declared.Edition.{Edition}
 use Rattle.chip.specs.declared.Levels.{Levels}
 use Rattle.chip.specs.declared.Chip.{Chip}
-use Rattle.chip.specs.State.{powerUpAs}
+use Rattle.chip.specs.State.{power_up_as}
 use Rattle.laws.proofs.Cycles.{read-answers}
-use Rattle.fates.specs.Kinds.{Kind, reset, cycleEnded, unknown, readBegun, writeBegun, newLevels, kind_of, free, accepts}
-use Rattle.fates.specs.Surroundings.{Surroundings, ofModeWord, brought, atPowerUp, surroundingsAfter, surroundingsNext, surroundingsOver}
+use Rattle.fates.specs.Kinds.{Kind, reset, cycle_ended, unknown, read_begun, write_begun, new_levels, kind_of, free, accepts}
+use Rattle.fates.specs.Surroundings.{Surroundings, of_mode_word, brought, at_power_up, surroundings_after, surroundings_next, surroundings_over}
 use Rattle.fates.specs.Promise.{run}
-use Rattle.account.specs.Account.{Account, accountNext, opened}
-use Rattle.account.specs.Promise.{surroundingsHere, over, accountOf, Accounted}
+use Rattle.account.specs.Account.{Account, account_next, opened}
+use Rattle.account.specs.Promise.{surroundings_here, over, account_of, Accounted}
 use Rattle.account.specs.ReadBack.{Brings, BroughtBy, LastWord, ReadsBack}
 use Rattle.account.proofs.Words.{with-bit-7-set}
 use Rattle.account.proofs.Account.{account, account-from}
@@ -32,7 +32,7 @@ abbrev Goes : Surroundings → Event → ℕ → Type 0
 Goes a e w = Brings a e w ⊎ ((w ≡ a.word) × ((u : ℕ) → ¬ Brings a e u))
 
 -- The write of a mode word is at control, and of a byte that has bit 7 set.
-mode-write : (ph : Phase) → ofModeWord ph ≡ true → (ph ≡ Writing 3 (brought ph)) × (bit_of (brought ph) 7 ≡ true)
+mode-write : (ph : Phase) → of_mode_word ph ≡ true → (ph ≡ Writing 3 (brought ph)) × (bit_of (brought ph) 7 ≡ true)
 mode-write Idle mode = absurd (contrary false refl mode)
 mode-write (Reading p) mode = absurd (contrary false refl mode)
 mode-write (Writing x d) mode =
@@ -43,10 +43,10 @@ module _ (a : Surroundings) (e : Event) where
   -- An event of a kind brings a word: a reset does, and the end of such a write.
   abbrev changes : Kind → Bool
   changes reset = true
-  changes (readBegun x) = false
-  changes cycleEnded = ofModeWord a.phase
-  changes (writeBegun x d) = false
-  changes (newLevels x d) = false
+  changes (read_begun x) = false
+  changes cycle_ended = of_mode_word a.phase
+  changes (write_begun x d) = false
+  changes (new_levels x d) = false
   changes unknown = false
 
   -- Any other brings none, and so the word stays.
@@ -56,44 +56,44 @@ module _ (a : Surroundings) (e : Event) where
       none : (u : ℕ) → ¬ Brings a e u
       none u b =
           ⊎_elim (λ r. contrary (changes (kind_of e)) (ap changes is ∙ without) (ap changes r.0))
-          (λ k. contrary (changes (kind_of e)) (ap changes is ∙ without) (ap changes k.0 ∙ ap ofModeWord k.1 ∙ k.2)) b
+          (λ k. contrary (changes (kind_of e)) (ap changes is ∙ without) (ap changes k.0 ∙ ap of_mode_word k.1 ∙ k.2)) b
 
   -- Whether the event is accepted or not, where its kind brings none.
-  kept : (v : Kind) → kind_of e ≡ v → changes v ≡ false → (surroundingsAfter a v).word ≡ a.word
-      → Goes a e (cond (accepts a.edition a.phase v) (surroundingsAfter a v) a).word
+  kept : (v : Kind) → kind_of e ≡ v → changes v ≡ false → (surroundings_after a v).word ≡ a.word
+      → Goes a e (cond (accepts a.edition a.phase v) (surroundings_after a v) a).word
   kept v is without same =
-      by-test (λ (s : Surroundings). Goes a e s.word) (accepts a.edition a.phase v) (surroundingsAfter a v) a
+      by-test (λ (s : Surroundings). Goes a e s.word) (accepts a.edition a.phase v) (surroundings_after a v) a
       (λ ok. subst (Goes a e) (sym same) (stays v is without)) (λ refused. stays v is without)
 
   -- The end of a cycle: of the write of a mode word, or of another.
-  ended : kind_of e ≡ cycleEnded → (mode : Bool) → ofModeWord a.phase ≡ mode → Goes a e (cond mode (brought a.phase) a.word)
+  ended : kind_of e ≡ cycle_ended → (mode : Bool) → of_mode_word a.phase ≡ mode → Goes a e (cond mode (brought a.phase) a.word)
   ended is true mode = let k = mode-write a.phase mode in inl (inr (is, k.0, k.1))
-  ended is false mode = stays cycleEnded is mode
+  ended is false mode = stays cycle_ended is mode
 
-  refused_end : (ph : Phase) → not (free ph) ≡ false → ofModeWord ph ≡ false
+  refused_end : (ph : Phase) → not (free ph) ≡ false → of_mode_word ph ≡ false
   refused_end Idle none = refl
   refused_end (Reading p) none = refl
   refused_end (Writing x d) none = absurd (contrary true none refl)
 
-  by_name : (v : Kind) → kind_of e ≡ v → Goes a e (cond (accepts a.edition a.phase v) (surroundingsAfter a v) a).word
+  by_name : (v : Kind) → kind_of e ≡ v → Goes a e (cond (accepts a.edition a.phase v) (surroundings_after a v) a).word
   by_name reset is = inl (inl (is, refl))
-  by_name (readBegun x) is = kept (readBegun x) is refl refl
-  by_name cycleEnded is =
-      by-test (λ (s : Surroundings). Goes a e s.word) (not (free a.phase)) (surroundingsAfter a cycleEnded) a
-      (λ ok. ended is (ofModeWord a.phase) refl) (λ none. stays cycleEnded is (refused_end a.phase none))
-  by_name (writeBegun x d) is = kept (writeBegun x d) is refl refl
-  by_name (newLevels x d) is = kept (newLevels x d) is refl refl
+  by_name (read_begun x) is = kept (read_begun x) is refl refl
+  by_name cycle_ended is =
+      by-test (λ (s : Surroundings). Goes a e s.word) (not (free a.phase)) (surroundings_after a cycle_ended) a
+      (λ ok. ended is (of_mode_word a.phase) refl) (λ none. stays cycle_ended is (refused_end a.phase none))
+  by_name (write_begun x d) is = kept (write_begun x d) is refl refl
+  by_name (new_levels x d) is = kept (new_levels x d) is refl refl
   by_name unknown is = stays unknown is refl
 
-  goes : Goes a e (surroundingsNext a e).word
+  goes : Goes a e (surroundings_next a e).word
   goes = by_name (kind_of e) refl
 
 -- The word in force after a history is its last.
-last_word : (a : Surroundings) (es : List Event) → LastWord a es (surroundingsOver a es).word
+last_word : (a : Surroundings) (es : List Event) → LastWord a es (surroundings_over a es).word
 last_word a [] = inr (refl, tt)
 last_word a (e ∷ es) =
     ⊎_elim
-    (λ (k : BroughtBy (surroundingsNext a e) es (surroundingsOver (surroundingsNext a e) es).word). inl (record {
+    (λ (k : BroughtBy (surroundings_next a e) es (surroundings_over (surroundings_next a e) es).word). inl (record {
       before = e ∷ k.before;
       bringing = k.bringing;
       after = k.after;
@@ -102,7 +102,7 @@ last_word a (e ∷ es) =
       last = k.last;
     }))
     (λ k. ⊎_elim
-    (λ (brings : Brings a e (surroundingsNext a e).word). inl (record {
+    (λ (brings : Brings a e (surroundings_next a e).word). inl (record {
       before = [];
       bringing = e;
       after = es;
@@ -111,33 +111,33 @@ last_word a (e ∷ es) =
       last = k.1;
     }))
     (λ none. inr (k.0 ∙ none.0, (none.1, k.1))) (goes a e))
-    (last_word (surroundingsNext a e) es)
+    (last_word (surroundings_next a e) es)
 
 -- It has bit 7 set, where that of the beginning has.
-mode-bit : (a : Surroundings) (es : List Event) → bit_of a.word 7 ≡ true → bit_of (surroundingsOver a es).word 7 ≡ true
+mode-bit : (a : Surroundings) (es : List Event) → bit_of a.word 7 ≡ true → bit_of (surroundings_over a es).word 7 ≡ true
 unfolding bit_of
 mode-bit a [] set = set
-mode-bit a (e ∷ es) set = mode-bit (surroundingsNext a e) es
+mode-bit a (e ∷ es) set = mode-bit (surroundings_next a e) es
     (⊎_elim (λ b. ⊎_elim (λ r. rw r.1) (λ k. k.2) b) (λ k. ap (λ (w : ℕ). bit_of w 7) k.0 ∙ set) (goes a e))
 
 -- The account has those surroundings.
-over-surroundings : (a : Account) (es : List Event) → (over a es).surroundings ≡ surroundingsOver a.surroundings es
+over-surroundings : (a : Account) (es : List Event) → (over a es).surroundings ≡ surroundings_over a.surroundings es
 over-surroundings a [] = refl
-over-surroundings a (e ∷ es) = over-surroundings (accountNext a e) es
+over-surroundings a (e ∷ es) = over-surroundings (account_next a e) es
 
 reads-back : (c : Chip) (a : Account) (es : List Event) → Accounted c a es → bit_of a.surroundings.word 7 ≡ true → ReadsBack c a.surroundings es
 reads-back c a es k set = record {
-  word = (surroundingsOver a.surroundings es).word;
+  word = (surroundings_over a.surroundings es).word;
   is_last = last_word a.surroundings es;
-  modeBit = mode-bit a.surroundings es set;
-  answered = λ d ok. read-answers (run c es) 3 d ok ∙ k.reads 3 ∙ ap (λ (s : Surroundings). byteBy (bit_of s.word)) (over-surroundings a es);
+  mode_bit = mode-bit a.surroundings es set;
+  answered = λ d ok. read-answers (run c es) 3 d ok ∙ k.reads 3 ∙ ap (λ (s : Surroundings). byte_by (bit_of s.word)) (over-surroundings a es);
 }
 
 -- From power-up, of either edition and under any levels: where no word was brought it is 9B.
-pub read_back : (ed : Edition) (l : Levels) (es : List Event) → ReadsBack (powerUpAs ed l) (atPowerUp ed l) es
+pub read_back : (ed : Edition) (l : Levels) (es : List Event) → ReadsBack (power_up_as ed l) (at_power_up ed l) es
 unfolding bit_of
-read_back ed l es = reads-back (powerUpAs ed l) (opened ed l) es (account ed l es) refl
+read_back ed l es = reads-back (power_up_as ed l) (opened ed l) es (account ed l es) refl
 
 -- From any chip, reached by a history or not.
-pub read-back-from : (c : Chip) (es : List Event) → ReadsBack c (surroundingsHere c) es
-read-back-from c es = reads-back c (accountOf c) es (account-from c es) (with-bit-7-set c.core.word)
+pub read-back-from : (c : Chip) (es : List Event) → ReadsBack c (surroundings_here c) es
+read-back-from c es = reads-back c (account_of c) es (account-from c es) (with-bit-7-set c.core.word)

@@ -10,19 +10,19 @@ use Rattle.control.specs.declared.Group.{Group}
 use Rattle.control.specs.declared.Group.TheVariants.{A, B}
 use Rattle.channel.specs.declared.Side.{Side}
 use Rattle.channel.specs.declared.Side.TheVariants.{Input, Output}
-use Rattle.channel.specs.Channel.{flagOf}
+use Rattle.channel.specs.Channel.{flag_of}
 use Rattle.chip.specs.declared.Chip.{Chip}
-use Rattle.chip.specs.State.{channelOf}
-use Rattle.chip.specs.Handshakes.{strobed, enableOf}
+use Rattle.chip.specs.State.{channel_of}
+use Rattle.chip.specs.Handshakes.{strobed, enable_of}
 use Rattle.status.specs.declared.reasons.Reason.TheVariants.{EnableOff, FlagWrong, LineLow, OwnCycle, High}
 use Rattle.status.specs.declared.reasons.Explained.TheVariants.{ModeZero, InputHalf, OutputHalf, BothHalves}
-use Rattle.status.specs.Reasons.{reasonOf, explainedIn, explainedOf, reasonNumber, numbersOf}
-use Rattle.fates.specs.Effects.{strobePin, readRuns, writeRuns}
+use Rattle.status.specs.Reasons.{reason_of, explained_in, explained_of, reason_number, numbers_of}
+use Rattle.fates.specs.Effects.{strobe_pin, read_runs, write_runs}
 use Rattle.fates.proofs.Tables.{line_same as pin-same}
-use Rattle.account.specs.Summary.{Column, plainIn, plainOut, strobedIn, strobedOut, bothWays, columnOf, takes, gives, keeps, is_plain}
+use Rattle.account.specs.Summary.{Column, plain_in, plain_out, strobed_in, strobed_out, both_ways, column_of, takes, gives, keeps, is_plain}
 use Rattle.account.specs.Account.{Account}
-use Rattle.account.specs.Reasons.{lacks, said, saidIn, explained}
-use Rattle.account.proofs.Columns.{takes_same, gives_same, keeps_same, plain-same, isTwo, two-same}
+use Rattle.account.specs.Reasons.{lacks, said, said_in, explained}
+use Rattle.account.proofs.Columns.{takes_same, gives_same, keeps_same, plain-same, is_two, two-same}
 use Rattle.account.proofs.Moves.{full, vacant}
 use Rattle.account.proofs.Agrees.{Agrees}
 use Rattle.account.proofs.Here.{column-here, lines-here, line_same}
@@ -30,7 +30,7 @@ use Rattle.account.proofs.Interrupts.{read-runs, write-runs}
 
 -- The first of four reasons, by its number.
 first : (on right up runs : Bool)
-    → reasonNumber (cond (not on) EnableOff (cond (not right) FlagWrong (cond (not up) LineLow (cond runs OwnCycle High))))
+    → reason_number (cond (not on) EnableOff (cond (not right) FlagWrong (cond (not up) LineLow (cond runs OwnCycle High))))
     ≡ cond on (cond right (cond up (cond runs 5 6) 4) 3) 2
 first true true true true = refl
 first true true true false = refl
@@ -45,36 +45,36 @@ module _ (c : Chip) (a : Account) (k : Agrees c a) where
   phase-here : a.surroundings.phase ≡ c.phase
   phase-here = ap (λ r. r.phase) k.surroundings
 
-  reason-same : (g : Group) (s : Side) → strobed w g s ≡ true → reasonNumber (reasonOf c g s) ≡ lacks a g s
-  unfolding reasonOf flagOf
+  reason-same : (g : Group) (s : Side) → strobed w g s ≡ true → reason_number (reason_of c g s) ≡ lacks a g s
+  unfolding reason_of flag_of
   reason-same g Input on =
-      rw (line_same c a k g Input on, k.ibf g, lines-here c a k (strobePin g Input), phase-here, ← pin-same g Input, read-runs c.phase g)
-      (first (enableOf c.core.inte g Input) (full (channelOf c.core g Input)) (bit_of c.core.c.outside (strobePin g Input)) (readRuns g c.phase))
+      rw (line_same c a k g Input on, k.ibf g, lines-here c a k (strobe_pin g Input), phase-here, ← pin-same g Input, read-runs c.phase g)
+      (first (enable_of c.core.inte g Input) (full (channel_of c.core g Input)) (bit_of c.core.c.outside (strobe_pin g Input)) (read_runs g c.phase))
   reason-same g Output on =
-      rw (line_same c a k g Output on, k.obf g, lines-here c a k (strobePin g Output), phase-here, ← pin-same g Output, write-runs c.phase g)
-      (first (enableOf c.core.inte g Output) (vacant (channelOf c.core g Output)) (bit_of c.core.c.outside (strobePin g Output)) (writeRuns g c.phase))
+      rw (line_same c a k g Output on, k.obf g, lines-here c a k (strobe_pin g Output), phase-here, ← pin-same g Output, write-runs c.phase g)
+      (first (enable_of c.core.inte g Output) (vacant (channel_of c.core g Output)) (bit_of c.core.c.outside (strobe_pin g Output)) (write_runs g c.phase))
 
-  said_same : (g : Group) → numbersOf (explainedIn c g) ≡ saidIn a g (columnOf a.surroundings.word g)
-  unfolding explainedIn
-  said_same g = rw (column-here c a k g, ← plain-same w g, ← two-same w g, ← keeps_same w g) (go (columnOf w g) refl)
+  said_same : (g : Group) → numbers_of (explained_in c g) ≡ said_in a g (column_of a.surroundings.word g)
+  unfolding explained_in
+  said_same g = rw (column-here c a k g, ← plain-same w g, ← two-same w g, ← keeps_same w g) (go (column_of w g) refl)
     where
-      taken : (col : Column) → columnOf w g ≡ col → takes col ≡ true → reasonNumber (reasonOf c g Input) ≡ lacks a g Input
+      taken : (col : Column) → column_of w g ≡ col → takes col ≡ true → reason_number (reason_of c g Input) ≡ lacks a g Input
       taken col e on = reason-same g Input (sym (takes_same w g) ∙ ap takes e ∙ on)
 
-      given : (col : Column) → columnOf w g ≡ col → gives col ≡ true → reasonNumber (reasonOf c g Output) ≡ lacks a g Output
+      given : (col : Column) → column_of w g ≡ col → gives col ≡ true → reason_number (reason_of c g Output) ≡ lacks a g Output
       given col e on = reason-same g Output (sym (gives_same w g) ∙ ap gives e ∙ on)
 
-      go : (col : Column) → columnOf w g ≡ col
-          → numbersOf (cond (is_plain col) ModeZero (cond (isTwo col) (BothHalves (reasonOf c g Input) (reasonOf c g Output))
-          (cond (keeps col) (OutputHalf (reasonOf c g Output)) (InputHalf (reasonOf c g Input))))) ≡ saidIn a g col
-      go plainIn e = refl
-      go plainOut e = refl
-      go strobedIn e = ap (λ (i : ℕ). said i 0) (taken strobedIn e refl)
-      go strobedOut e = ap (λ (o : ℕ). said 0 o) (given strobedOut e refl)
-      go bothWays e = ap₂ said (taken bothWays e refl) (given bothWays e refl)
+      go : (col : Column) → column_of w g ≡ col
+          → numbers_of (cond (is_plain col) ModeZero (cond (is_two col) (BothHalves (reason_of c g Input) (reason_of c g Output))
+          (cond (keeps col) (OutputHalf (reason_of c g Output)) (InputHalf (reason_of c g Input))))) ≡ said_in a g col
+      go plain_in e = refl
+      go plain_out e = refl
+      go strobed_in e = ap (λ (i : ℕ). said i 0) (taken strobed_in e refl)
+      go strobed_out e = ap (λ (o : ℕ). said 0 o) (given strobed_out e refl)
+      go both_ways e = ap₂ said (taken both_ways e refl) (given both_ways e refl)
 
-  pub explained-same : (n : ℕ) → numbersOf (explainedOf c n) ≡ explained a n
-  unfolding explainedOf
+  pub explained-same : (n : ℕ) → numbers_of (explained_of c n) ≡ explained a n
+  unfolding explained_of
   explained-same zero = said_same A
   explained-same (suc zero) = said_same B
   explained-same (suc (suc n)) =

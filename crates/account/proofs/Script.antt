@@ -6,26 +6,26 @@ use Prim.Native.Nat.{ℕ}
 use Rattle.events.specs.Event.{Event}
 use Rattle.chip.specs.declared.Edition.{Edition}
 use Rattle.chip.specs.declared.Chip.{Chip}
-use Rattle.chip.specs.State.{allHigh, powerUpAs}
+use Rattle.chip.specs.State.{all_high, power_up_as}
 use Rattle.step.specs.Step.{stepped}
-use Rattle.text.specs.History.{historyOf}
-use Rattle.script.specs.Answers.{as8255A, by8255A, lineText, shownAfter}
-use Rattle.script.specs.History.{answersTo}
+use Rattle.text.specs.History.{history_of}
+use Rattle.script.specs.Answers.{as_8255a, by_8255a, line_text, shown_after}
+use Rattle.script.specs.History.{answers_to}
 use Rattle.fates.proofs.ScriptRun.{run-kept}
-use Rattle.account.specs.Account.{Account, accountNext, opened}
-use Rattle.account.specs.Script.{lineBy, linesBy, AnsweredBy}
+use Rattle.account.specs.Account.{Account, account_next, opened}
+use Rattle.account.specs.Script.{line_by, lines_by, AnsweredBy}
 use Rattle.account.proofs.Agrees.{Agrees, agrees-opened, agrees-next}
 use Rattle.account.proofs.Views.{levels-shown}
 use Rattle.account.proofs.Account.{number-told, byte-told}
 
-line-is : (c : Chip) (a : Account) (e : Event) → Agrees c a → lineText (shownAfter (by8255A (stepped c e))) ≡ lineBy a e
+line-is : (c : Chip) (a : Account) (e : Event) → Agrees c a → line_text (shown_after (by_8255a (stepped c e))) ≡ line_by a e
 line-is c a e k =
-    let levels = levels-shown (stepped c e).chip (accountNext a e) (agrees-next c a e k) in
+    let levels = levels-shown (stepped c e).chip (account_next a e) (agrees-next c a e k) in
     cc (number-told c a k e, byte-told c a k e, levels 0, levels 1, levels 2)
 
-lines_are : (es : List Event) (c : Chip) (a : Account) → Agrees c a → answersTo (as8255A c) es ≡ linesBy a es
+lines_are : (es : List Event) (c : Chip) (a : Account) → Agrees c a → answers_to (as_8255a c) es ≡ lines_by a es
 lines_are [] c a k = refl
-lines_are (e ∷ es) c a k = cc (line-is c a e k, lines_are es (stepped c e).chip (accountNext a e) (agrees-next c a e k))
+lines_are (e ∷ es) c a k = cc (line-is c a e k, lines_are es (stepped c e).chip (account_next a e) (agrees-next c a e k))
 
 pub answered-by : (ed : Edition) (text : List ℕ) → AnsweredBy ed text
-answered-by ed text = (run-kept ed text).answers ∙ lines_are (historyOf text) (powerUpAs ed allHigh) (opened ed allHigh) (agrees-opened ed allHigh)
+answered-by ed text = (run-kept ed text).answers ∙ lines_are (history_of text) (power_up_as ed all_high) (opened ed all_high) (agrees-opened ed all_high)

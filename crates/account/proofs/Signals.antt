@@ -9,34 +9,34 @@ use Rattle.bits.specs.Bit.{bit_of}
 use Rattle.bits.proofs.Tested.{all, each, numbers-of-two}
 use Rattle.control.specs.declared.Group.{Group}
 use Rattle.control.specs.declared.Group.TheVariants.{A, B}
-use Rattle.control.specs.Mode.{mode_of, input_of, upperInput, lowerInput}
-use Rattle.roles.specs.Role.{Role, number, roleOf, usesOf, freeRole}
+use Rattle.control.specs.Mode.{mode_of, input_of, upper_input, lower_input}
+use Rattle.roles.specs.Role.{Role, number, role_of, uses_of, free_role}
 use Rattle.roles.specs.Role
 use Rattle.roles.proofs.PinByMasks.{number-one}
 use Rattle.roles.proofs.SameWords.{role-as-byte}
 use Rattle.channel.specs.declared.Side.TheVariants.{Input, Output}
-use Rattle.chip.specs.Handshakes.{groupAt}
-use Rattle.fates.specs.Effects.{strobePin}
-use Rattle.account.specs.Summary.{Column, plainIn, plainOut, strobedIn, strobedOut, bothWays, columnOf, takes, gives, Signal, io, INTR, IBF, OBF, STB, ACK, row, signalAt, isIn}
+use Rattle.chip.specs.Handshakes.{group_at}
+use Rattle.fates.specs.Effects.{strobe_pin}
+use Rattle.account.specs.Summary.{Column, plain_in, plain_out, strobed_in, strobed_out, both_ways, column_of, takes, gives, Signal, io, INTR, IBF, OBF, STB, ACK, row, signal_at, is_in}
 use Rattle.account.proofs.Words.{signal_alike, in-alike, byte-alike}
-use Rattle.account.proofs.Columns.{columnB}
+use Rattle.account.proofs.Columns.{column_b}
 
 -- The role of a pin that is `s`, and free as an input or not.
-abbrev pub roleBy : Signal → Bool → Role
-roleBy io inward = cond inward Role.input Role.output
-roleBy (INTR g) inward = Role.INTR
-roleBy (IBF g) inward = Role.IBF
-roleBy (OBF g) inward = Role.OBF
-roleBy (STB g) inward = Role.STB
-roleBy (ACK g) inward = Role.ACK
+abbrev pub role_by : Signal → Bool → Role
+role_by io inward = cond inward Role.input Role.output
+role_by (INTR g) inward = Role.INTR
+role_by (IBF g) inward = Role.IBF
+role_by (OBF g) inward = Role.OBF
+role_by (STB g) inward = Role.STB
+role_by (ACK g) inward = Role.ACK
 
-of-byte : (w n : ℕ) → w < 256 → n < 8 → roleOf w n ≡ roleBy (signalAt w n) (isIn w n)
-unfolding roleOf usesOf freeRole mode_of input_of upperInput lowerInput bit_of
+of-byte : (w n : ℕ) → w < 256 → n < 8 → role_of w n ≡ role_by (signal_at w n) (is_in w n)
+unfolding role_of uses_of free_role mode_of input_of upper_input lower_input bit_of
 of-byte w n hw hn =
-    number-one (roleOf w n) (roleBy (signalAt w n) (isIn w n))
-    (numbers-of-two 256 8 (λ w n. number (roleOf w n)) (λ w n. number (roleBy (signalAt w n) (isIn w n))) tt w n hw hn)
+    number-one (role_of w n) (role_by (signal_at w n) (is_in w n))
+    (numbers-of-two 256 8 (λ w n. number (role_of w n)) (λ w n. number (role_by (signal_at w n) (is_in w n))) tt w n hw hn)
 
-pub role_same : (w n : ℕ) → n < 8 → roleOf w n ≡ roleBy (signalAt w n) (isIn w n)
+pub role_same : (w n : ℕ) → n < 8 → role_of w n ≡ role_by (signal_at w n) (is_in w n)
 role_same w n hn =
     sym (role-as-byte w n) ∙ of-byte (w % 256) n (omega arith) hn
     ∙ rw (signal_alike (w % 256) w (byte-alike w) n, in-alike (w % 256) w (byte-alike w) n)
@@ -50,20 +50,20 @@ own B B = true
 
 abbrev stands : ℕ → Signal → Bool
 stands n io = true
-stands n (INTR g) = own g (groupAt n)
-stands n (IBF g) = own g (groupAt n)
-stands n (OBF g) = own g (groupAt n)
-stands n (STB g) = eqb n (strobePin g Input)
-stands n (ACK g) = eqb n (strobePin g Output)
+stands n (INTR g) = own g (group_at n)
+stands n (IBF g) = own g (group_at n)
+stands n (OBF g) = own g (group_at n)
+stands n (STB g) = eqb n (strobe_pin g Input)
+stands n (ACK g) = eqb n (strobe_pin g Output)
 
 -- Which signal a pin can be, for whoever goes by cases.
 module _ (P : Signal → Type 0) (n : ℕ)
     (free : P io)
-    (interrupt : P (INTR (groupAt n)))
-    (full : P (IBF (groupAt n)))
-    (vacant : P (OBF (groupAt n)))
-    (strobe : (g : Group) → n ≡ strobePin g Input → P (STB g))
-    (acknowledge : (g : Group) → n ≡ strobePin g Output → P (ACK g)) where
+    (interrupt : P (INTR (group_at n)))
+    (full : P (IBF (group_at n)))
+    (vacant : P (OBF (group_at n)))
+    (strobe : (g : Group) → n ≡ strobe_pin g Input → P (STB g))
+    (acknowledge : (g : Group) → n ≡ strobe_pin g Output → P (ACK g)) where
   own_is : (g h : Group) → T (own g h) → h ≡ g
   own_is A A t = refl
   own_is A B t = absurd t
@@ -72,49 +72,49 @@ module _ (P : Signal → Type 0) (n : ℕ)
 
   by-stand : (s : Signal) → T (stands n s) → P s
   by-stand io t = free
-  by-stand (INTR g) t = subst (λ (h : Group). P (INTR h)) (own_is g (groupAt n) t) interrupt
-  by-stand (IBF g) t = subst (λ (h : Group). P (IBF h)) (own_is g (groupAt n) t) full
-  by-stand (OBF g) t = subst (λ (h : Group). P (OBF h)) (own_is g (groupAt n) t) vacant
-  by-stand (STB g) t = strobe g (eqb→eq n (strobePin g Input) t)
-  by-stand (ACK g) t = acknowledge g (eqb→eq n (strobePin g Output) t)
+  by-stand (INTR g) t = subst (λ (h : Group). P (INTR h)) (own_is g (group_at n) t) interrupt
+  by-stand (IBF g) t = subst (λ (h : Group). P (IBF h)) (own_is g (group_at n) t) full
+  by-stand (OBF g) t = subst (λ (h : Group). P (OBF h)) (own_is g (group_at n) t) vacant
+  by-stand (STB g) t = strobe g (eqb→eq n (strobe_pin g Input) t)
+  by-stand (ACK g) t = acknowledge g (eqb→eq n (strobe_pin g Output) t)
 
-  pub by-signal : (w : ℕ) → n < 8 → P (signalAt w n)
+  pub by-signal : (w : ℕ) → n < 8 → P (signal_at w n)
   unfolding bit_of
   by-signal w hn =
-      by-stand (signalAt w n)
+      by-stand (signal_at w n)
       (subst (λ (s : Signal). T (stands n s)) (signal_alike (w % 256) w (byte-alike w) n)
-      (each 8 (λ n. stands n (signalAt (w % 256) n)) (each 256 (λ w. all 8 (λ n. stands n (signalAt w n))) tt (w % 256) (omega arith)) n hn))
+      (each 8 (λ n. stands n (signal_at (w % 256) n)) (each 256 (λ w. all 8 (λ n. stands n (signal_at w n))) tt (w % 256) (omega arith)) n hn))
 
 -- The pin of a strobed channel's line is that line.
-pub strobe-stands : (w : ℕ) (g : Group) → takes (columnOf w g) ≡ true → signalAt w (strobePin g Input) ≡ STB g
-strobe-stands w A = go (columnOf w A)
+pub strobe-stands : (w : ℕ) (g : Group) → takes (column_of w g) ≡ true → signal_at w (strobe_pin g Input) ≡ STB g
+strobe-stands w A = go (column_of w A)
   where
     go : (k : Column) → takes k ≡ true → row io io (STB A) io (STB A) k ≡ STB A
-    go plainIn on = cc
-    go plainOut on = cc
-    go strobedIn on = refl
-    go strobedOut on = cc
-    go bothWays on = refl
+    go plain_in on = cc
+    go plain_out on = cc
+    go strobed_in on = refl
+    go strobed_out on = cc
+    go both_ways on = refl
 strobe-stands w B = go (bit_of w 2) (bit_of w 1)
   where
-    go : (one taking : Bool) → takes (columnB one taking) ≡ true → row io io (STB B) (ACK B) io (columnB one taking) ≡ STB B
+    go : (one taking : Bool) → takes (column_b one taking) ≡ true → row io io (STB B) (ACK B) io (column_b one taking) ≡ STB B
     go true true on = refl
     go true false on = cc
     go false true on = cc
     go false false on = cc
 
-pub acknowledge-stands : (w : ℕ) (g : Group) → gives (columnOf w g) ≡ true → signalAt w (strobePin g Output) ≡ ACK g
-acknowledge-stands w A = go (columnOf w A)
+pub acknowledge-stands : (w : ℕ) (g : Group) → gives (column_of w g) ≡ true → signal_at w (strobe_pin g Output) ≡ ACK g
+acknowledge-stands w A = go (column_of w A)
   where
     go : (k : Column) → gives k ≡ true → row io io io (ACK A) (ACK A) k ≡ ACK A
-    go plainIn on = cc
-    go plainOut on = cc
-    go strobedIn on = cc
-    go strobedOut on = refl
-    go bothWays on = refl
+    go plain_in on = cc
+    go plain_out on = cc
+    go strobed_in on = cc
+    go strobed_out on = refl
+    go both_ways on = refl
 acknowledge-stands w B = go (bit_of w 2) (bit_of w 1)
   where
-    go : (one taking : Bool) → gives (columnB one taking) ≡ true → row io io (STB B) (ACK B) io (columnB one taking) ≡ ACK B
+    go : (one taking : Bool) → gives (column_b one taking) ≡ true → row io io (STB B) (ACK B) io (column_b one taking) ≡ ACK B
     go true true on = cc
     go true false on = refl
     go false true on = cc

@@ -3,28 +3,28 @@
 -- Rests on Script and on text's Quoted.
 use mathlib.Core.Path.{◌≡◌, ◌∙◌, refl}
 use Rattle.bits.specs.Bit.{bit_of}
-use Rattle.events.specs.Kinds.{isKind, operandsOf}
+use Rattle.events.specs.Kinds.{is_kind, operands_of}
 use Rattle.chip.specs.declared.Edition.{Edition}
 use Rattle.chip.specs.declared.Edition.TheVariants.{Older, Newer}
-use Rattle.chip.specs.State.{allHigh}
-use Rattle.text.specs.Digits.{digitValue, digitCode, pairValue}
+use Rattle.chip.specs.State.{all_high}
+use Rattle.text.specs.Digits.{digit_value, digit_code, pair_value}
 use Rattle.text.specs.Lines.{lines_of}
-use Rattle.text.specs.Frames.{leadingByte, isFrame, frame_of, frameIn}
-use Rattle.text.specs.History.{historyOf}
+use Rattle.text.specs.Frames.{leading_byte, is_frame, frame_of, frame_in}
+use Rattle.text.specs.History.{history_of}
 use Rattle.text.specs.Quoted.{answered, listed}
 use Rattle.text.proofs.Quoted.{answered-alike}
-use Rattle.script.specs.Answers.{lineText, at_start, answersOf}
-use Rattle.fates.specs.ScriptRun.{deviceFor}
+use Rattle.script.specs.Answers.{line_text, at_start, answers_of}
+use Rattle.fates.specs.ScriptRun.{device_for}
 use Rattle.account.specs.Account.{opened}
-use Rattle.account.specs.Script.{linesBy}
+use Rattle.account.specs.Script.{lines_by}
 use Rattle.account.specs.Texts.{texts}
 use Rattle.account.proofs.Script.{answered-by}
 
-as-listed : (ed : Edition) → answered (λ text. linesBy (opened ed allHigh) (historyOf text)) (texts ed) ≡ listed (texts ed)
-unfolding bit_of digitValue digitCode pairValue isKind operandsOf leadingByte isFrame frame_of lines_of frameIn lineText
+as-listed : (ed : Edition) → answered (λ text. lines_by (opened ed all_high) (history_of text)) (texts ed) ≡ listed (texts ed)
+unfolding bit_of digit_value digit_code pair_value is_kind operands_of leading_byte is_frame frame_of lines_of frame_in line_text
 as-listed Older = refl
 as-listed Newer = refl
 
-pub texts-answered : (ed : Edition) → answered (answersOf (at_start (deviceFor ed))) (texts ed) ≡ listed (texts ed)
+pub texts-answered : (ed : Edition) → answered (answers_of (at_start (device_for ed))) (texts ed) ≡ listed (texts ed)
 texts-answered ed =
-    answered-alike (answersOf (at_start (deviceFor ed))) (λ text. linesBy (opened ed allHigh) (historyOf text)) (answered-by ed) (texts ed) ∙ as-listed ed
+    answered-alike (answers_of (at_start (device_for ed))) (λ text. lines_by (opened ed all_high) (history_of text)) (answered-by ed) (texts ed) ∙ as-listed ed

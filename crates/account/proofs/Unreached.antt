@@ -14,11 +14,11 @@ use Rattle.control.specs.declared.Group.TheVariants.{A, B}
 use Rattle.channel.specs.declared.Side.TheVariants.{Input, Output}
 use Rattle.channel.specs.declared.Fill.TheVariants.{Empty, Fetching}
 use Rattle.chip.specs.declared.Chip.{Chip}
-use Rattle.chip.specs.State.{channelOf}
-use Rattle.account.specs.Summary.{signalAt}
+use Rattle.chip.specs.State.{channel_of}
+use Rattle.account.specs.Summary.{signal_at}
 use Rattle.account.specs.Account.{Account}
-use Rattle.account.specs.Promise.{withBit7, surroundingsHere, bitHere, accountOf, Accounted}
-use Rattle.account.specs.Unreached.{withCondition, withWord, SameSight}
+use Rattle.account.specs.Promise.{with_bit7, surroundings_here, bit_here, account_of, Accounted}
+use Rattle.account.specs.Unreached.{with_condition, with_word, SameSight}
 use Rattle.account.proofs.Words.{signal_alike, with-bit-7-alike}
 use Rattle.account.proofs.Moves.{full, vacant, given}
 use Rattle.account.proofs.Pins.{same_bit}
@@ -38,23 +38,23 @@ same-sight c c' a es k k' = record {
 }
 
 -- So it is with a chip that agrees with another's account.
-same-account : (c c' : Chip) → Agrees c' (accountOf c) → (es : List Event) → SameSight c c' es
-same-account c c' k es = same-sight c c' (accountOf c) es (account-from c es) (accounted c' (accountOf c) es k)
+same-account : (c c' : Chip) → Agrees c' (account_of c) → (es : List Event) → SameSight c c' es
+same-account c c' k es = same-sight c c' (account_of c) es (account-from c es) (accounted c' (account_of c) es k)
 
 -- What the account has of a group's channels is the same.
 record SameChannels (c c' : Chip) (h : Group) : Type 0 where
-  output : (channelOf c.core h Output).latch ≡ (channelOf c'.core h Output).latch
-  input : (channelOf c.core h Input).latch ≡ (channelOf c'.core h Input).latch
-  ibf : full (channelOf c.core h Input) ≡ full (channelOf c'.core h Input)
-  obf : vacant (channelOf c.core h Output) ≡ vacant (channelOf c'.core h Output)
-  given : given (channelOf c.core h Input) ≡ given (channelOf c'.core h Input)
+  output : (channel_of c.core h Output).latch ≡ (channel_of c'.core h Output).latch
+  input : (channel_of c.core h Input).latch ≡ (channel_of c'.core h Input).latch
+  ibf : full (channel_of c.core h Input) ≡ full (channel_of c'.core h Input)
+  obf : vacant (channel_of c.core h Output) ≡ vacant (channel_of c'.core h Output)
+  given : given (channel_of c.core h Input) ≡ given (channel_of c'.core h Input)
 
 -- One chip's account agrees with another that has the same surroundings, bits and channels.
-agrees_like : (c c' : Chip) → surroundingsHere c ≡ surroundingsHere c' → ((n : ℕ) → signalAt (withBit7 c.core.word) n ≡ signalAt c'.core.word n)
-    → c.core.c.latch ≡ c'.core.c.latch → c.core.inte ≡ c'.core.inte → ((h : Group) → SameChannels c c' h) → Agrees c' (accountOf c)
+agrees_like : (c c' : Chip) → surroundings_here c ≡ surroundings_here c' → ((n : ℕ) → signal_at (with_bit7 c.core.word) n ≡ signal_at c'.core.word n)
+    → c.core.c.latch ≡ c'.core.c.latch → c.core.inte ≡ c'.core.inte → ((h : Group) → SameChannels c c' h) → Agrees c' (account_of c)
 agrees_like c c' surroundings signals latch enables same = record {
   surroundings = surroundings;
-  bit = λ n hn. same_bit c.core c'.core latch enables n (signalAt (withBit7 c.core.word) n) ∙ ap (bitHere c'.core n) (signals n);
+  bit = λ n hn. same_bit c.core c'.core latch enables n (signal_at (with_bit7 c.core.word) n) ∙ ap (bit_here c'.core n) (signals n);
   output = λ h. (same h).output;
   input = λ h. (same h).input;
   ibf = λ h. (same h).ibf;
@@ -63,40 +63,40 @@ agrees_like c c' surroundings signals latch enables same = record {
   even = (agrees-of c).even;
 }
 
-signals-here : (c : Chip) (n : ℕ) → signalAt (withBit7 c.core.word) n ≡ signalAt c.core.word n
-signals-here c = signal_alike (withBit7 c.core.word) c.core.word (with-bit-7-alike c.core.word)
+signals-here : (c : Chip) (n : ℕ) → signal_at (with_bit7 c.core.word) n ≡ signal_at c.core.word n
+signals-here c = signal_alike (with_bit7 c.core.word) c.core.word (with-bit-7-alike c.core.word)
 
 -- An output marked fetching, and the same output empty.
-same-channels : (c : Chip) (g h : Group) → SameChannels (withCondition c g Fetching) (withCondition c g Empty) h
+same-channels : (c : Chip) (g h : Group) → SameChannels (with_condition c g Fetching) (with_condition c g Empty) h
 same-channels c A A = record { output = refl; input = refl; ibf = refl; obf = refl; given = refl }
 same-channels c A B = record { output = refl; input = refl; ibf = refl; obf = refl; given = refl }
 same-channels c B A = record { output = refl; input = refl; ibf = refl; obf = refl; given = refl }
 same-channels c B B = record { output = refl; input = refl; ibf = refl; obf = refl; given = refl }
 
-agrees-empty : (c : Chip) (g : Group) → Agrees (withCondition c g Empty) (accountOf (withCondition c g Fetching))
-agrees-empty c A = agrees_like (withCondition c A Fetching) (withCondition c A Empty) refl (signals-here c) refl refl (same-channels c A)
-agrees-empty c B = agrees_like (withCondition c B Fetching) (withCondition c B Empty) refl (signals-here c) refl refl (same-channels c B)
+agrees-empty : (c : Chip) (g : Group) → Agrees (with_condition c g Empty) (account_of (with_condition c g Fetching))
+agrees-empty c A = agrees_like (with_condition c A Fetching) (with_condition c A Empty) refl (signals-here c) refl refl (same-channels c A)
+agrees-empty c B = agrees_like (with_condition c B Fetching) (with_condition c B Empty) refl (signals-here c) refl refl (same-channels c B)
 
-pub mark-unseen : (c : Chip) (g : Group) (es : List Event) → SameSight (withCondition c g Fetching) (withCondition c g Empty) es
-mark-unseen c g = same-account (withCondition c g Fetching) (withCondition c g Empty) (agrees-empty c g)
+pub mark-unseen : (c : Chip) (g : Group) (es : List Event) → SameSight (with_condition c g Fetching) (with_condition c g Empty) es
+mark-unseen c g = same-account (with_condition c g Fetching) (with_condition c g Empty) (agrees-empty c g)
 
 -- A word in which bit 7 counts as set has it set.
 seventh : (w : ℕ) → bit_of w 7 ≡ false → bit_of (w + 128) 7 ≡ true
 unfolding bit_of
 seventh w clear = let h = eqb-false (w / 128 % 2) 1 clear in let one : (w + 128) / 128 % 2 ≡ 1 = omega (arith, h) in rw (one)
 
-counted-set : (w : ℕ) → bit_of (withBit7 w) 7 ≡ true
+counted-set : (w : ℕ) → bit_of (with_bit7 w) 7 ≡ true
 counted-set w = go (bit_of w 7) refl
   where
     go : (b : Bool) → bit_of w 7 ≡ b → bit_of (cond b w (w + 128)) 7 ≡ true
     go true e = e
     go false e = seventh w e
 
-pub bit-7-unseen : (c : Chip) (w : ℕ) (es : List Event) → SameSight (withWord c w) (withWord c (withBit7 w)) es
+pub bit-7-unseen : (c : Chip) (w : ℕ) (es : List Event) → SameSight (with_word c w) (with_word c (with_bit7 w)) es
 bit-7-unseen c w =
-    same-account (withWord c w) (withWord c (withBit7 w))
-    (agrees_like (withWord c w) (withWord c (withBit7 w)) (rw (counted-set w)) (λ n. refl) refl refl same)
+    same-account (with_word c w) (with_word c (with_bit7 w))
+    (agrees_like (with_word c w) (with_word c (with_bit7 w)) (rw (counted-set w)) (λ n. refl) refl refl same)
   where
-    same : (h : Group) → SameChannels (withWord c w) (withWord c (withBit7 w)) h
+    same : (h : Group) → SameChannels (with_word c w) (with_word c (with_bit7 w)) h
     same A = record { output = refl; input = refl; ibf = refl; obf = refl; given = refl }
     same B = record { output = refl; input = refl; ibf = refl; obf = refl; given = refl }

@@ -3,52 +3,52 @@ use Rattle.std.specs.Prelude.{◌≡◌, Bool, false, not, List, [], ◌∷◌, 
 use Rattle.bits.specs.Bit.{num}
 use Rattle.events.specs.Event.{Event}
 use Rattle.chip.specs.declared.Edition.{Edition}
-use Rattle.chip.specs.State.{allHigh}
-use Rattle.text.specs.History.{historyOf}
-use Rattle.script.specs.Answers.{lineText, at_start, answersOf}
-use Rattle.script.specs.Run.{ranOf}
+use Rattle.chip.specs.State.{all_high}
+use Rattle.text.specs.History.{history_of}
+use Rattle.script.specs.Answers.{line_text, at_start, answers_of}
+use Rattle.script.specs.Run.{ran_of}
 use Rattle.fates.specs.Kinds.{kind_of}
-use Rattle.fates.specs.ScriptRun.{deviceFor}
-use Rattle.account.specs.Acts.{numberBy}
-use Rattle.account.specs.Account.{Account, accountNext, opened}
-use Rattle.account.specs.Views.{levelsShown, byteAnswered}
+use Rattle.fates.specs.ScriptRun.{device_for}
+use Rattle.account.specs.Acts.{number_by}
+use Rattle.account.specs.Account.{Account, account_next, opened}
+use Rattle.account.specs.Views.{levels_shown, byte_answered}
 
 -- The answer line of an event: its number and its byte, and the levels of A, B and C after it.
-abbrev pub lineBy : Account → Event → List ℕ
-lineBy a e =
-    lineText (record {
-      number = numberBy a.surroundings.edition a.surroundings.phase (kind_of e);
-      byte = byteAnswered a e;
-      a = levelsShown (accountNext a e) 0;
-      b = levelsShown (accountNext a e) 1;
-      c = levelsShown (accountNext a e) 2;
+abbrev pub line_by : Account → Event → List ℕ
+line_by a e =
+    line_text (record {
+      number = number_by a.surroundings.edition a.surroundings.phase (kind_of e);
+      byte = byte_answered a e;
+      a = levels_shown (account_next a e) 0;
+      b = levels_shown (account_next a e) 1;
+      c = levels_shown (account_next a e) 2;
     })
 
 -- The answer lines of a history.
-abbrev pub linesBy : Account → List Event → List ℕ
-linesBy a [] = []
-linesBy a (e ∷ es) = lineBy a e ++ linesBy (accountNext a e) es
+abbrev pub lines_by : Account → List Event → List ℕ
+lines_by a [] = []
+lines_by a (e ∷ es) = line_by a e ++ lines_by (account_next a e) es
 
 -- What is promised of a text for a chip of either edition: its answers are the account's, from a power-up with every line high.
 abbrev pub AnsweredBy : Edition → List ℕ → Type 0
-AnsweredBy ed text = answersOf (at_start (deviceFor ed)) text ≡ linesBy (opened ed allHigh) (historyOf text)
+AnsweredBy ed text = answers_of (at_start (device_for ed)) text ≡ lines_by (opened ed all_high) (history_of text)
 
 -- How many lines a text has, by its LFs: one for each, and one more where bytes follow the last.
 abbrev pub endings : List ℕ → ℕ
 endings [] = 0
 endings (b ∷ text) = num (eqb b 10) + endings text
 
-abbrev pub hasRest : List ℕ → Bool
-hasRest [] = false
-hasRest (b ∷ []) = not (eqb b 10)
-hasRest (b ∷ c ∷ text) = hasRest (c ∷ text)
+abbrev pub has_rest : List ℕ → Bool
+has_rest [] = false
+has_rest (b ∷ []) = not (eqb b 10)
+has_rest (b ∷ c ∷ text) = has_rest (c ∷ text)
 
-abbrev pub lineTotal : List ℕ → ℕ
-lineTotal text = endings text + num (hasRest text)
+abbrev pub line_total : List ℕ → ℕ
+line_total text = endings text + num (has_rest text)
 
 -- What a run gives back, in plain words: 6 for a text of more than 4,096 bytes, whatever the room; else 7 where the output is shorter than
 -- eleven bytes for each line; and else 0 and the number of lines.
 pub record RunNumbered (text : List ℕ) (room : ℕ) : Type 0 where
-  pub tooLong : 4096 < length text → ranOf text room ≡ record { number = 6; lines = 0 }
-  pub noRoom : length text ≤ 4096 → room < 11 * lineTotal text → ranOf text room ≡ record { number = 7; lines = 0 }
-  pub runs : length text ≤ 4096 → 11 * lineTotal text ≤ room → ranOf text room ≡ record { number = 0; lines = lineTotal text }
+  pub too_long : 4096 < length text → ran_of text room ≡ record { number = 6; lines = 0 }
+  pub no_room : length text ≤ 4096 → room < 11 * line_total text → ran_of text room ≡ record { number = 7; lines = 0 }
+  pub runs : length text ≤ 4096 → 11 * line_total text ≤ room → ran_of text room ≡ record { number = 0; lines = line_total text }

@@ -6,11 +6,11 @@ use Rattle.text.specs.Quoted.{Text, ◌gives◌}
 
 -- The whole case: group A in mode 1 as an input with its interrupt enabled; the byte 41 strobed in; a read begun, a second one refused, and
 -- the end; a read of control and an event of no kind, both refused. The newer edition reads control, and has that one answer of its own.
-abbrev pub wholeCase : Edition → Text
-wholeCase Older =
+abbrev pub whole_case : Edition → Text
+whole_case Older =
     "0303B0\n02\n030309\n02\n050041\n0502EF\n0502FF\n0100\n0100\n02\n0103\n07\n"
     gives "0000FFFFFF\n0000FF0010\n0000FF0010\n0000FF0010\n0000410010\n0000410020\n0000410038\n0041410030\n0400410030\n0000410010\n0300410010\n0100410010\n"
-wholeCase Newer =
+whole_case Newer =
     "0303B0\n02\n030309\n02\n050041\n0502EF\n0502FF\n0100\n0100\n02\n0103\n07\n"
     gives "0000FFFFFF\n0000FF0010\n0000FF0010\n0000FF0010\n0000410010\n0000410020\n0000410038\n0041410030\n0400410030\n0000410010\n00B0410010\n0100410010\n"
 
@@ -18,7 +18,7 @@ wholeCase Newer =
 -- exactly its operands, of two digits each. Nothing is trimmed. 04 and 06 are no kinds, with operands or without.
 abbrev pub texts : Edition → List Text
 texts ed =
-    wholeCase ed
+    whole_case ed
     ∷ ("" gives "")
     ∷ ("\n" gives "0100FFFFFF\n")
     ∷ ("0500AB" gives "0100FFFFFF\n")

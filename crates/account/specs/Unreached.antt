@@ -4,27 +4,27 @@ use Rattle.events.specs.Event.{Event}
 use Rattle.control.specs.declared.Group.{Group}
 use Rattle.channel.specs.declared.Fill.{Fill}
 use Rattle.chip.specs.declared.Chip.{Chip}
-use Rattle.chip.specs.State.{portOf, withOutput, withPort}
-use Rattle.status.specs.Status.{intrOf}
-use Rattle.status.specs.Reasons.{explainedOf, numbersOf}
+use Rattle.chip.specs.State.{port_of, with_output, with_port}
+use Rattle.status.specs.Status.{intr_of}
+use Rattle.status.specs.Reasons.{explained_of, numbers_of}
 use Rattle.ports.specs.Reads.{read_of}
-use Rattle.ports.specs.Pins.{pinsOf}
+use Rattle.ports.specs.Pins.{pins_of}
 use Rattle.step.specs.Step.{stepped}
 use Rattle.fates.specs.Promise.{run}
 
 -- A chip with an output in another condition.
-abbrev pub withCondition : Chip → Group → Fill → Chip
-withCondition c g f =
-    let p = portOf c.core g in
+abbrev pub with_condition : Chip → Group → Fill → Chip
+with_condition c g f =
+    let p = port_of c.core g in
     record {
       phase = c.phase;
       edition = c.edition;
-      core = withPort c.core g (withOutput p (record { fill = f; latch = p.output.latch; tally = p.output.tally }));
+      core = with_port c.core g (with_output p (record { fill = f; latch = p.output.latch; tally = p.output.tally }));
     }
 
 -- A chip with another mode word.
-abbrev pub withWord : Chip → ℕ → Chip
-withWord c w = record {
+abbrev pub with_word : Chip → ℕ → Chip
+with_word c w = record {
   phase = c.phase;
   edition = c.edition;
   core = record { word = w; a = c.core.a; b = c.core.b; c = c.core.c; inte = c.core.inte };
@@ -34,8 +34,8 @@ withWord c w = record {
 pub record SameSight (c c' : Chip) (es : List Event) : Type 0 where
   pub number : (e : Event) → (stepped (run c es) e).number ≡ (stepped (run c' es) e).number
   pub byte : (e : Event) → (stepped (run c es) e).byte ≡ (stepped (run c' es) e).byte
-  pub levels : (p : ℕ) → (pinsOf (run c es) p).levels ≡ (pinsOf (run c' es) p).levels
-  pub driven : (p : ℕ) → (pinsOf (run c es) p).driven ≡ (pinsOf (run c' es) p).driven
+  pub levels : (p : ℕ) → (pins_of (run c es) p).levels ≡ (pins_of (run c' es) p).levels
+  pub driven : (p : ℕ) → (pins_of (run c es) p).driven ≡ (pins_of (run c' es) p).driven
   pub reads : (p : ℕ) → read_of (run c es) p ≡ read_of (run c' es) p
-  pub interrupt : (g : Group) → intrOf (run c es) g ≡ intrOf (run c' es) g
-  pub explains : (n : ℕ) → numbersOf (explainedOf (run c es) n) ≡ numbersOf (explainedOf (run c' es) n)
+  pub interrupt : (g : Group) → intr_of (run c es) g ≡ intr_of (run c' es) g
+  pub explains : (n : ℕ) → numbers_of (explained_of (run c es) n) ≡ numbers_of (explained_of (run c' es) n)

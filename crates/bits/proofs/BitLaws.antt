@@ -11,7 +11,7 @@ use lib.ListN.{get_or}
 use lib.Pow.{pow_pos}
 use borrow.Author.Tests.{ne_eqb}
 use Rattle.bits.specs.Table.{table}
-use Rattle.bits.specs.Bit.{bit_of, num, value_of, assembled, withBit}
+use Rattle.bits.specs.Bit.{bit_of, num, value_of, assembled, with_bit}
 use Rattle.bits.proofs.Tested.{numbers}
 use Rattle.bits.proofs.Tabled.{table_at}
 
@@ -61,13 +61,13 @@ pub byte-by-bits : (x : ℕ) (f : ℕ → Bool) → x < 256 → ((n : ℕ) → n
 byte-by-bits x f hx h = sym (assembled-bits x hx) ∙ assembled-same (bit_of x) f h
 
 -- What the contract of with_bit says of each bit.
-pub bit-of-with : (x n : ℕ) (on : Bool) (k : ℕ) → k < 8 → bit_of (withBit x n on) k ≡ cond (eqb k n) on (bit_of x k)
-unfolding withBit
+pub bit-of-with : (x n : ℕ) (on : Bool) (k : ℕ) → k < 8 → bit_of (with_bit x n on) k ≡ cond (eqb k n) on (bit_of x k)
+unfolding with_bit
 bit-of-with x n on = bit-of-assembled (λ k. cond (eqb k n) on (bit_of x k))
 
 -- There is no bit above 7 to put.
-pub with-above : (x n : ℕ) (on : Bool) → x < 256 → 7 < n → withBit x n on ≡ x
-unfolding withBit
+pub with-above : (x n : ℕ) (on : Bool) → x < 256 → 7 < n → with_bit x n on ≡ x
+unfolding with_bit
 with-above x n on hx hn =
     assembled-same (λ k. cond (eqb k n) on (bit_of x k)) (bit_of x)
     (λ k hk. let e : eqb k n ≡ false = ne_eqb k n (λ (p : k ≡ n). omega arith) in rw e)

@@ -7,7 +7,7 @@ use native.Mathlib.Nat.{mod-lt}
 use native.Mathlib.Omega.{arith}
 use lib.Dec.{T, eqb, lit<}
 use lib.Bits.{bit_and, bit_or, and_shr, or_shr, and_mod, or_mod, and_lt, or_lt}
-use Rattle.bits.specs.Bit.{bit_of, assembled, withBit, blend_of}
+use Rattle.bits.specs.Bit.{bit_of, assembled, with_bit, blend_of}
 use Rattle.bits.proofs.Tested.{all, same, bits, bits-of-two}
 use Rattle.bits.proofs.BitLaws.{bit-of-assembled, assembled-same, byte-by-bits}
 
@@ -70,8 +70,8 @@ unfolding bit_of
 full true k h = bits 8 (λ k. bit_of 255 k) (λ k. true) tt k h
 full false k h = bits 8 (λ k. bit_of 0 k) (λ k. false) tt k h
 
-pub blend-puts : (x n : ℕ) (on : Bool) → n < 8 → blend_of (1 * 2 ^ n % 256) (cond on 255 0) x ≡ withBit x n on
-unfolding withBit
+pub blend-puts : (x n : ℕ) (on : Bool) → n < 8 → blend_of (1 * 2 ^ n % 256) (cond on 255 0) x ≡ with_bit x n on
+unfolding with_bit
 blend-puts x n on hn =
     blend-assembled (1 * 2 ^ n % 256) (cond on 255 0) x
     ∙ assembled-same

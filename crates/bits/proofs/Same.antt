@@ -6,17 +6,17 @@ use mathlib.Core.List.{List, [], ◌∷◌}
 use Prim.Native.Nat.{ℕ}
 use lib.Dec.{eqb}
 use borrow.Author.Tests.{eqb-true, eq-eqb}
-use Rattle.bits.specs.Same.{sameBytes}
+use Rattle.bits.specs.Same.{same_bytes}
 use Rattle.bits.proofs.Logic.{both, contrary}
 
-pub same_lists : (l m : List ℕ) → sameBytes l m ≡ true → l ≡ m
+pub same_lists : (l m : List ℕ) → same_bytes l m ≡ true → l ≡ m
 same_lists [] [] same = refl
 same_lists [] (y ∷ ys) same = absurd (contrary false refl same)
 same_lists (x ∷ xs) [] same = absurd (contrary false refl same)
 same_lists (x ∷ xs) (y ∷ ys) same =
-    let k = both (eqb x y) (sameBytes xs ys) same in
+    let k = both (eqb x y) (same_bytes xs ys) same in
     λ i. eqb-true x y k.0 i ∷ same_lists xs ys k.1 i
 
-pub same_self : (l : List ℕ) → sameBytes l l ≡ true
+pub same_self : (l : List ℕ) → same_bytes l l ≡ true
 same_self [] = refl
-same_self (x ∷ xs) = ap (λ b. b && sameBytes xs xs) (eq-eqb x x refl) ∙ same_self xs
+same_self (x ∷ xs) = ap (λ b. b && same_bytes xs xs) (eq-eqb x x refl) ∙ same_self xs

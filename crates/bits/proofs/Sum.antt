@@ -5,7 +5,7 @@ use mathlib.Core.Bool.{Bool}
 use Prim.Native.Nat.{ℕ, ◌+◌, ◌*◌, ◌<◌}
 use native.Mathlib.Omega.{arith}
 use Rattle.bits.specs.Bit.{num, value_of, assembled}
-use Rattle.bits.specs.Sum.{byteBy}
+use Rattle.bits.specs.Sum.{byte_by}
 use Rattle.bits.proofs.BitLaws.{assembled-same}
 
 eight : (b₀ b₁ b₂ b₃ b₄ b₅ b₆ b₇ : ℕ)
@@ -13,9 +13,9 @@ eight : (b₀ b₁ b₂ b₃ b₄ b₅ b₆ b₇ : ℕ)
     ≡ b₀ + 2 * b₁ + 4 * b₂ + 8 * b₃ + 16 * b₄ + 32 * b₅ + 64 * b₆ + 128 * b₇
 eight b₀ b₁ b₂ b₃ b₄ b₅ b₆ b₇ = omega arith
 
-byte-is : (f : ℕ → Bool) → assembled f ≡ byteBy f
+byte-is : (f : ℕ → Bool) → assembled f ≡ byte_by f
 unfolding value_of
 byte-is f = eight (num (f 0)) (num (f 1)) (num (f 2)) (num (f 3)) (num (f 4)) (num (f 5)) (num (f 6)) (num (f 7))
 
-pub byte-same : (f h : ℕ → Bool) → ((n : ℕ) → n < 8 → f n ≡ h n) → assembled f ≡ byteBy h
+pub byte-same : (f h : ℕ → Bool) → ((n : ℕ) → n < 8 → f n ≡ h n) → assembled f ≡ byte_by h
 byte-same f h same = assembled-same f h same ∙ byte-is h

@@ -24,8 +24,8 @@ abbrev pub assembled : (ℕ → Bool) → ℕ
 assembled f = value_of (table f 8)
 
 -- The byte x with bit n put to on. There is no bit above 7 to put: x stays as it is.
-unfoldable pub withBit : ℕ → ℕ → Bool → ℕ
-withBit x n on = assembled (λ k. cond (eqb k n) on (bit_of x k))
+unfoldable pub with_bit : ℕ → ℕ → Bool → ℕ
+with_bit x n on = assembled (λ k. cond (eqb k n) on (bit_of x k))
 
 -- The byte that has the bits of x where the mask has a one, and the bits of y elsewhere.
 unfoldable pub blend_of : ℕ → ℕ → ℕ → ℕ

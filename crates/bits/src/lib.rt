@@ -1,6 +1,6 @@
 // Bits of a byte, by shifts and masks: one taken, one put, eight assembled, two bytes blended under a mask; and two bytes as a number.
 ghost use Rattle.std.specs.Prelude.{◌≡◌, cond, ◌+◌, ◌*◌};
-ghost use Rattle.bits.specs.Bit.{bit_of, withBit, byte_of, blend_of};
+ghost use Rattle.bits.specs.Bit.{bit_of, with_bit, byte_of, blend_of};
 
 // Whether bit n of x is set. A byte has no bit above 7, so none is set there.
 pub fn bit(x: u8, n: u8) -> bool
@@ -14,7 +14,7 @@ pub fn bit(x: u8, n: u8) -> bool
 
 // x with bit n put to on; x itself where n is above 7.
 pub fn with_bit(x: u8, n: u8, on: bool) -> u8
-    ensures { result ≡ withBit x n on }
+    ensures { result ≡ with_bit x n on }
 {
     if 7 < n {
         return x;

@@ -9,8 +9,8 @@ use lib.Dec.{eqb}
 use Rattle.events.specs.Event.{Event}
 use Rattle.bus.specs.declared.Phase.{Phase}
 use Rattle.bus.specs.declared.Phase.TheVariants.{Idle, Reading, Writing}
-use Rattle.bus.specs.Device.{Device, Given, gives, resetIn, readBegunIn, cycleEndedIn, writeBegunIn, levelsPutIn, byteIn, runIn}
-use Rattle.bus.specs.Begun.{cycleOf, givenIn, NoneBegins, BegunBy, Begun}
+use Rattle.bus.specs.Device.{Device, Given, gives, reset_in, read_begun_in, cycle_ended_in, write_begun_in, levels_put_in, byte_in, run_in}
+use Rattle.bus.specs.Begun.{cycle_of, given_in, NoneBegins, BegunBy, Begun}
 use Rattle.bus.proofs.Outcomes.{outcomes}
 
 module _ {S R : Type 0} (dev : Device S R) where
@@ -20,16 +20,16 @@ module _ {S R : Type 0} (dev : Device S R) where
       ((o.number ≡ 0) × (dev.phase o.state ≡ ph))
       ⊎ ((dev.phase o.state ≡ Idle) ⊎ ((dev.phase o.state ≡ dev.phase s) × (o.number ≡ 0 → ph ≡ Idle)))
 
-  leaves : (s : S) (e : Event) → Leaves s (cycleOf e) (givenIn dev s e)
+  leaves : (s : S) (e : Event) → Leaves s (cycle_of e) (given_in dev s e)
   leaves s e =
-      outcomes dev s e.kind e.first e.second (Leaves s (cycleOf e))
+      outcomes dev s e.kind e.first e.second (Leaves s (cycle_of e))
       (λ no. inr (inr (refl, λ ok. absurd (no ok))))
       (λ ok. go e.first e.second (eqb e.kind 0) (eqb e.kind 1) (eqb e.kind 2) (eqb e.kind 3))
     where
       go : (x d : ℕ) (r b n w : Bool)
           → Leaves s (cond b (Reading x) (cond w (Writing x d) Idle))
-          (gives (cond r (resetIn dev s) (cond b (readBegunIn dev s x) (cond n (cycleEndedIn dev s) (cond w (writeBegunIn dev s x d) (levelsPutIn dev s x d)))))
-          0 (byteIn dev s e.kind x))
+          (gives (cond r (reset_in dev s) (cond b (read_begun_in dev s x) (cond n (cycle_ended_in dev s) (cond w (write_begun_in dev s x d) (levels_put_in dev s x d)))))
+          0 (byte_in dev s e.kind x))
       go x d true b n w = inr (inl (dev.phase-on Idle _))
       go x d false true n w = inl (refl, dev.phase-on (Reading x) _)
       go x d false false true w = inr (inl (dev.phase-on Idle _))
@@ -37,7 +37,7 @@ module _ {S R : Type 0} (dev : Device S R) where
       go x d false false false false = inr (inr (dev.phase-on (dev.phase s) _, λ ok. refl))
 
   -- What was begun among the later events was begun among all.
-  earlier : (s : S) (e : Event) (es : List Event) (ph : Phase) → BegunBy dev (givenIn dev s e).state es ph → BegunBy dev s (e ∷ es) ph
+  earlier : (s : S) (e : Event) (es : List Event) (ph : Phase) → BegunBy dev (given_in dev s e).state es ph → BegunBy dev s (e ∷ es) ph
   earlier s e es ph b = record {
     before = e ∷ b.before;
     beginning = b.beginning;
@@ -50,7 +50,7 @@ module _ {S R : Type 0} (dev : Device S R) where
 
   -- What ran before the later events was begun by the first, or ran before that one too.
   first : (s : S) (e : Event) (es : List Event) (ph : Phase) → ¬ (ph ≡ Idle)
-      → (ph ≡ dev.phase (givenIn dev s e).state) × NoneBegins dev (givenIn dev s e).state es → Begun dev s (e ∷ es) ph
+      → (ph ≡ dev.phase (given_in dev s e).state) × NoneBegins dev (given_in dev s e).state es → Begun dev s (e ∷ es) ph
   first s e es ph runs ran =
       ⊎_elim
       (λ begins. inl (record {
@@ -65,9 +65,9 @@ module _ {S R : Type 0} (dev : Device S R) where
       (⊎_elim (λ idle. absurd (runs (ran.0 ∙ idle))) (λ stays. inr (ran.0 ∙ stays.0, (stays.1, ran.1))))
       (leaves s e)
 
-  pub begun : (s : S) (es : List Event) → ¬ (dev.phase (runIn dev s es) ≡ Idle) → Begun dev s es (dev.phase (runIn dev s es))
+  pub begun : (s : S) (es : List Event) → ¬ (dev.phase (run_in dev s es) ≡ Idle) → Begun dev s es (dev.phase (run_in dev s es))
   begun s [] runs = inr (refl, tt)
   begun s (e ∷ es) runs =
-      let next = (givenIn dev s e).state in
-      let ph = dev.phase (runIn dev next es) in
+      let next = (given_in dev s e).state in
+      let ph = dev.phase (run_in dev next es) in
       ⊎_elim (λ later. inl (earlier s e es ph later)) (first s e es ph runs) (begun next es runs)

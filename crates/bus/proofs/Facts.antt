@@ -14,14 +14,14 @@ use Rattle.bus.proofs.Begun.{begun}
 
 pub facts : {S R : Type 0} (dev : Device S R) (l : Limits) (s : S) → dev.limits (dev.rest s) ≡ l → Facts dev l s
 facts dev l s same = subst (λ (l : Limits). Facts dev l s) same (record {
-  byTable = number-given dev s;
+  by_table = number-given dev s;
   numbered = numbered _ _;
   refusal = refusal-changes-nothing dev s;
   ignored = operands-ignored dev s;
   at_place = at-place dev s;
   begins = cycle-begins dev s;
   ends = cycle-ends dev s;
-  inAnyPhase = in-any-phase dev s;
-  phaseByEvents = λ es. phase-by-events dev _ s es refl;
+  in_any_phase = in-any-phase dev s;
+  phase_by_events = λ es. phase-by-events dev _ s es refl;
   begun = begun dev s;
 })

@@ -9,13 +9,13 @@ use Prim.Native.Nat.{ℕ, zero, suc}
 use native.Mathlib.Omega.{arith}
 use lib.ListN.{get_or}
 use Rattle.bits.proofs.Logic.{contrary}
-use Rattle.events.specs.Kinds.{noKind}
+use Rattle.events.specs.Kinds.{no_kind}
 use Rattle.bus.specs.declared.Phase.{Phase}
 use Rattle.bus.specs.declared.Limits.{Limits}
 use Rattle.bus.specs.Refusals.{Row, row, rows, first_of, number_of}
-use Rattle.bus.specs.Device.{Device, stepIn}
+use Rattle.bus.specs.Device.{Device, step_in}
 use Rattle.bus.specs.Numbered.{First, NoneOf, Numbered}
-use Rattle.bus.specs.Cycles.{refusedIn}
+use Rattle.bus.specs.Cycles.{refused_in}
 
 -- No row has the number 0.
 abbrev Positive : List Row → Type 0
@@ -55,9 +55,9 @@ pub numbered : (l : Limits) (ph : Phase) (k x : ℕ) → Numbered l ph k x
 unfolding number_of
 numbered l ph k x = record {
   given = λ n. found n (rows l ph k x);
-  onlyThen = λ n. is-first n (rows l ph k x);
+  only_then = λ n. is-first n (rows l ph k x);
   accepted = none (rows l ph k x);
-  onlyAccepted = is_none (rows l ph k x) (positive l ph k x);
+  only_accepted = is_none (rows l ph k x) (positive l ph k x);
 }
 
 none-at : (rs : List Row) → NoneOf rs → (j : ℕ) → (get_or rs j (row 0 false)).applies ≡ false
@@ -67,9 +67,9 @@ none-at (r ∷ rs) u (suc j) = none-at rs u.1 j
 
 -- An event that any row speaks of is refused.
 pub row-refuses : (l : Limits) (ph : Phase) (k x j : ℕ) → (get_or (rows l ph k x) j (row 0 false)).applies ≡ true → ¬ (number_of l ph k x ≡ 0)
-row-refuses l ph k x j applies e = contrary _ (none-at (rows l ph k x) ((numbered l ph k x).onlyAccepted e) j) applies
+row-refuses l ph k x j applies e = contrary _ (none-at (rows l ph k x) ((numbered l ph k x).only_accepted e) j) applies
 
 -- What is no kind is refused with 1, whatever its operands.
-pub no-kind-refused : {S R : Type 0} (dev : Device S R) (s : S) (k x d : ℕ) → noKind k ≡ true → stepIn dev s k x d ≡ refusedIn s 1
-unfolding stepIn number_of
+pub no-kind-refused : {S R : Type 0} (dev : Device S R) (s : S) (k x d : ℕ) → no_kind k ≡ true → step_in dev s k x d ≡ refused_in s 1
+unfolding step_in number_of
 no-kind-refused dev s k x d none = rw (none)

@@ -6,15 +6,15 @@ use mathlib.Core.List.{List, [], ◌∷◌}
 use Prim.Native.Nat.{ℕ}
 use lib.Dec.{eqb, ltb}
 use borrow.Author.Tests.{ne_eqb}
-use Rattle.events.specs.Kinds.{isKind}
+use Rattle.events.specs.Kinds.{is_kind}
 use Rattle.events.specs.Event.{Event}
 use Rattle.events.proofs.ByKind.{by_kind, no-kind-differs}
 use Rattle.bus.specs.declared.Phase.{Phase}
 use Rattle.bus.specs.declared.Phase.TheVariants.{Idle, Reading, Writing}
 use Rattle.bus.specs.declared.Limits.{Limits}
-use Rattle.bus.specs.Refusals.{isBusy, number_of}
-use Rattle.bus.specs.Device.{Device, Given, number_in, resetIn, readBegunIn, cycleEndedIn, writeBegunIn, levelsPutIn, afterIn, stepIn, runIn}
-use Rattle.bus.specs.Cycles.{isAccepted, phaseAfter, phaseOver}
+use Rattle.bus.specs.Refusals.{is_busy, number_of}
+use Rattle.bus.specs.Device.{Device, Given, number_in, reset_in, read_begun_in, cycle_ended_in, write_begun_in, levels_put_in, after_in, step_in, run_in}
+use Rattle.bus.specs.Cycles.{is_accepted, phase_after, phase_over}
 use Rattle.bus.proofs.Outcomes.{outcomes, either}
 
 -- What is accepted in those words has the number 0 by the table, and nothing else has.
@@ -37,14 +37,14 @@ ends : (busy : Bool) → (busy || false) ≡ eqb (cond (not busy) 5 0) 0
 ends false = refl
 ends true = refl
 
-accepted-so : (l : Limits) (ph : Phase) (k x : ℕ) → isAccepted l ph k x ≡ eqb (number_of l ph k x) 0
-unfolding number_of isKind
+accepted-so : (l : Limits) (ph : Phase) (k x : ℕ) → is_accepted l ph k x ≡ eqb (number_of l ph k x) 0
+unfolding number_of is_kind
 accepted-so l ph k x =
-    by_kind (λ k. isAccepted l ph k x ≡ eqb (number_of l ph k x) 0)
+    by_kind (λ k. is_accepted l ph k x ≡ eqb (number_of l ph k x) 0)
     refl
-    (rw (or-false _) (reads (ltb x l.addresses) (ltb x l.readable) (isBusy ph)))
-    (ends (isBusy ph))
-    (rw (or-false _) (writes (ltb x l.addresses) (isBusy ph)))
+    (rw (or-false _) (reads (ltb x l.addresses) (ltb x l.readable) (is_busy ph)))
+    (ends (is_busy ph))
+    (rw (or-false _) (writes (ltb x l.addresses) (is_busy ph)))
     (levels (ltb x l.ports))
     (λ k none. rw (
       no-kind-differs k 0 none refl,
@@ -57,27 +57,27 @@ accepted-so l ph k x =
 
 module _ {S R : Type 0} (dev : Device S R) where
   -- After an accepted event.
-  pub phase-goes : (s : S) (k x d : ℕ) → dev.phase (afterIn dev s k x d) ≡ phaseAfter (dev.phase s) k x d
+  pub phase-goes : (s : S) (k x d : ℕ) → dev.phase (after_in dev s k x d) ≡ phase_after (dev.phase s) k x d
   phase-goes s k x d = go (eqb k 0) (eqb k 1) (eqb k 2) (eqb k 3)
     where
       go : (r b e w : Bool)
-          → dev.phase (cond r (resetIn dev s) (cond b (readBegunIn dev s x) (cond e (cycleEndedIn dev s) (cond w (writeBegunIn dev s x d) (levelsPutIn dev s x d)))))
+          → dev.phase (cond r (reset_in dev s) (cond b (read_begun_in dev s x) (cond e (cycle_ended_in dev s) (cond w (write_begun_in dev s x d) (levels_put_in dev s x d)))))
           ≡ cond r Idle (cond b (Reading x) (cond e Idle (cond w (Writing x d) (dev.phase s))))
-      go true b e w = dev.phase-on Idle (dev.afterReset (dev.rest s))
-      go false true e w = dev.phase-on (Reading x) (dev.afterBegin (dev.rest s) x)
+      go true b e w = dev.phase-on Idle (dev.after_reset (dev.rest s))
+      go false true e w = dev.phase-on (Reading x) (dev.after_begin (dev.rest s) x)
       go false false true w = dev.phase-on Idle (dev.after_end (dev.rest s) (dev.phase s))
       go false false false true = dev.phase-on (Writing x d) (dev.rest s)
-      go false false false false = dev.phase-on (dev.phase s) (dev.afterLevels (dev.rest s) x d)
+      go false false false false = dev.phase-on (dev.phase s) (dev.after_levels (dev.rest s) x d)
 
   -- An accepted event leaves the limits, and so does every event.
-  limits-after : (s : S) (k x d : ℕ) → dev.limits (dev.rest (afterIn dev s k x d)) ≡ dev.limits (dev.rest s)
+  limits-after : (s : S) (k x d : ℕ) → dev.limits (dev.rest (after_in dev s k x d)) ≡ dev.limits (dev.rest s)
   limits-after s k x d = go (eqb k 0) (eqb k 1) (eqb k 2) (eqb k 3)
     where
       on : (ph : Phase) (r : R) → dev.limits r ≡ dev.limits (dev.rest s) → dev.limits (dev.rest (dev.on ph r)) ≡ dev.limits (dev.rest s)
       on ph r same = ap dev.limits (dev.rest-on ph r) ∙ same
 
       go : (r b e w : Bool)
-          → dev.limits (dev.rest (cond r (resetIn dev s) (cond b (readBegunIn dev s x) (cond e (cycleEndedIn dev s) (cond w (writeBegunIn dev s x d) (levelsPutIn dev s x d))))))
+          → dev.limits (dev.rest (cond r (reset_in dev s) (cond b (read_begun_in dev s x) (cond e (cycle_ended_in dev s) (cond w (write_begun_in dev s x d) (levels_put_in dev s x d))))))
           ≡ dev.limits (dev.rest s)
       go true b e w = on Idle _ (dev.reset-limits (dev.rest s))
       go false true e w = on (Reading x) _ (dev.begin-limits (dev.rest s) x)
@@ -85,22 +85,22 @@ module _ {S R : Type 0} (dev : Device S R) where
       go false false false true = on (Writing x d) _ refl
       go false false false false = on (dev.phase s) _ (dev.levels-limits (dev.rest s) x d)
 
-  pub limits-stay : (s : S) (k x d : ℕ) → dev.limits (dev.rest (stepIn dev s k x d).state) ≡ dev.limits (dev.rest s)
+  pub limits-stay : (s : S) (k x d : ℕ) → dev.limits (dev.rest (step_in dev s k x d).state) ≡ dev.limits (dev.rest s)
   limits-stay s k x d = either dev s k x d (λ (s' : S). dev.limits (dev.rest s') ≡ dev.limits (dev.rest s)) refl (λ ok. limits-after s k x d)
 
   -- After any event.
   pub phase-next : (l : Limits) (s : S) (k x d : ℕ) → dev.limits (dev.rest s) ≡ l
-      → dev.phase (stepIn dev s k x d).state ≡ cond (isAccepted l (dev.phase s) k x) (phaseAfter (dev.phase s) k x d) (dev.phase s)
+      → dev.phase (step_in dev s k x d).state ≡ cond (is_accepted l (dev.phase s) k x) (phase_after (dev.phase s) k x d) (dev.phase s)
   phase-next l s k x d same =
       rw (accepted-so l (dev.phase s) k x, ← same)
-      (outcomes dev s k x d (λ (o : Given S). dev.phase o.state ≡ cond (eqb (number_in dev s k x) 0) (phaseAfter (dev.phase s) k x d) (dev.phase s))
+      (outcomes dev s k x d (λ (o : Given S). dev.phase o.state ≡ cond (eqb (number_in dev s k x) 0) (phase_after (dev.phase s) k x d) (dev.phase s))
       (λ no. rw (ne_eqb _ _ no))
       (λ ok. rw (ok) (phase-goes s k x d)))
 
   -- After any history, from any state.
-  pub phase-by-events : (l : Limits) (s : S) (es : List Event) → dev.limits (dev.rest s) ≡ l → dev.phase (runIn dev s es) ≡ phaseOver l (dev.phase s) es
+  pub phase-by-events : (l : Limits) (s : S) (es : List Event) → dev.limits (dev.rest s) ≡ l → dev.phase (run_in dev s es) ≡ phase_over l (dev.phase s) es
   phase-by-events l s [] same = refl
   phase-by-events l s (e ∷ es) same =
-      let next = (stepIn dev s e.kind e.first e.second).state in
+      let next = (step_in dev s e.kind e.first e.second).state in
       phase-by-events l next es (limits-stay s e.kind e.first e.second ∙ same)
-      ∙ ap (λ (ph : Phase). phaseOver l ph es) (phase-next l s e.kind e.first e.second same)
+      ∙ ap (λ (ph : Phase). phase_over l ph es) (phase-next l s e.kind e.first e.second same)

@@ -17,6 +17,6 @@ NoneOf (r ∷ rs) = (r.applies ≡ false) × NoneOf rs
 -- The number of every event is that of the first row that applies, and of no other.
 pub record Numbered (l : Limits) (ph : Phase) (k x : ℕ) : Type 0 where
   pub given : (n : ℕ) → First n (rows l ph k x) → number_of l ph k x ≡ n
-  pub onlyThen : (n : ℕ) → ¬ (n ≡ 0) → number_of l ph k x ≡ n → First n (rows l ph k x)
+  pub only_then : (n : ℕ) → ¬ (n ≡ 0) → number_of l ph k x ≡ n → First n (rows l ph k x)
   pub accepted : NoneOf (rows l ph k x) → number_of l ph k x ≡ 0
-  pub onlyAccepted : number_of l ph k x ≡ 0 → NoneOf (rows l ph k x)
+  pub only_accepted : number_of l ph k x ≡ 0 → NoneOf (rows l ph k x)

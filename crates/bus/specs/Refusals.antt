@@ -1,32 +1,32 @@
 -- The number of an event: the refusals, in the order of their table, over the limits of a device ("Events and numbers").
 use Rattle.std.specs.Prelude.{Bool, true, false, cond, not, ◌&&◌, ◌||◌, List, [], ◌∷◌, ℕ, eqb, ltb}
 use Rattle.events.specs.Kinds as kinds
-use Rattle.events.specs.Kinds.{noKind, begins}
+use Rattle.events.specs.Kinds.{no_kind, begins}
 use Rattle.bus.specs.declared.Phase.{Phase}
 use Rattle.bus.specs.declared.Phase.TheVariants.{Idle, Reading, Writing}
 use Rattle.bus.specs.declared.Limits.{Limits}
 
 -- A cycle runs: a read at whatever address, or a write to whatever address.
-abbrev pub isBusy : Phase → Bool
-isBusy Idle = false
-isBusy (Reading p) = true
-isBusy (Writing a d) = true
+abbrev pub is_busy : Phase → Bool
+is_busy Idle = false
+is_busy (Reading p) = true
+is_busy (Writing a d) = true
 
 -- Limits, by the count of addresses, of those that can be read, and of ports.
-abbrev pub limitsOf : ℕ → ℕ → ℕ → Limits
-limitsOf a r p = record { addresses = a; readable = r; ports = p }
+abbrev pub limits_of : ℕ → ℕ → ℕ → Limits
+limits_of a r p = record { addresses = a; readable = r; ports = p }
 
 -- Address x is above the last.
-abbrev pub noAddress : Limits → ℕ → Bool
-noAddress l x = not (ltb x l.addresses)
+abbrev pub no_address : Limits → ℕ → Bool
+no_address l x = not (ltb x l.addresses)
 
 -- Port x is above the last.
-abbrev pub noPort : Limits → ℕ → Bool
-noPort l x = not (ltb x l.ports)
+abbrev pub no_port : Limits → ℕ → Bool
+no_port l x = not (ltb x l.ports)
 
 -- Address x is above the last that can be read.
-abbrev pub noReading : Limits → ℕ → Bool
-noReading l x = not (ltb x l.readable)
+abbrev pub no_reading : Limits → ℕ → Bool
+no_reading l x = not (ltb x l.readable)
 
 -- A row of the table: the number, and whether the row applies to the event.
 pub record Row : Type 0 where
@@ -40,11 +40,11 @@ row n b = record { number = n; applies = b }
 -- address is not to be read. 4: the bus is taken. 5: the bus is idle, and has no cycle to end.
 abbrev pub rows : Limits → Phase → ℕ → ℕ → List Row
 rows l ph k x =
-    row 1 (noKind k)
-    ∷ row 2 ((begins k && noAddress l x) || (eqb k kinds.outsideLevels && noPort l x))
-    ∷ row 3 (eqb k kinds.beginRead && noReading l x)
-    ∷ row 4 (begins k && isBusy ph)
-    ∷ row 5 (eqb k kinds.endCycle && not (isBusy ph))
+    row 1 (no_kind k)
+    ∷ row 2 ((begins k && no_address l x) || (eqb k kinds.outside_levels && no_port l x))
+    ∷ row 3 (eqb k kinds.begin_read && no_reading l x)
+    ∷ row 4 (begins k && is_busy ph)
+    ∷ row 5 (eqb k kinds.end_cycle && not (is_busy ph))
     ∷ []
 
 -- The number of the first row that applies; 0 where none does.

@@ -1,6 +1,6 @@
 // The bus that a device shares with others: what runs on it, how far a device's addresses reach, and the number of an event.
 ghost use Rattle.std.specs.Prelude.{◌≡◌};
-ghost use Rattle.bus.specs.Refusals.{isBusy, number_of};
+ghost use Rattle.bus.specs.Refusals.{is_busy, number_of};
 
 use events::{BEGIN_READ, BEGIN_WRITE, END_CYCLE, OUTSIDE_LEVELS, RESET};
 
@@ -35,7 +35,7 @@ pub struct Limits {
 }
 
 fn busy(phase: Phase) -> bool
-    ensures { result ≡ isBusy phase }
+    ensures { result ≡ is_busy phase }
 {
     match phase {
         Phase::Idle => false,

@@ -14,78 +14,78 @@ use Rattle.chip.specs.declared.Chip.{Chip}
 use Rattle.image.specs.Places as places
 use Rattle.image.specs.Layout.{image_of}
 use Rattle.image.specs.Loaded.{state_of}
-use Rattle.image.specs.Good.{hasImage, isImage, Bytes}
-use Rattle.image.specs.Slices.{savedIn}
+use Rattle.image.specs.Good.{has_image, is_image, Bytes}
+use Rattle.image.specs.Slices.{saved_in}
 use Rattle.image.proofs.ComesBack.{comes_back}
 use Rattle.image.proofs.OneImage.{has-image}
 use Rattle.image.proofs.Long.{written_over}
-use Rattle.older.specs.Layout.{olderOf}
-use Rattle.older.specs.Loaded.{olderState}
-use Rattle.older.specs.Good.{isOlder}
+use Rattle.older.specs.Layout.{older_of}
+use Rattle.older.specs.Loaded.{older_state}
+use Rattle.older.specs.Good.{is_older}
 use Rattle.older.specs.Before.{NoneForced, FromBefore}
 use Rattle.older.proofs.ComesBack as older
 use Rattle.older.proofs.Long.{is-long}
 use Rattle.older.proofs.OneImage.{older-where, tells-such}
-use Rattle.calls.specs.Calls.{lastChannel, counterNumbered, tallyAnswer, convertAnswer, convertImage}
+use Rattle.calls.specs.Calls.{last_channel, counter_numbered, tally_answer, convert_answer, convert_image}
 
 module _ (o l : List ℕ) where
   -- Bytes that are no older image: number 8, and nothing is written.
-  pub convert-bad : isOlder o ≡ false → (convertAnswer o l ≡ 8) × (convertImage o l ≡ l)
-  unfolding convertAnswer convertImage
+  pub convert-bad : is_older o ≡ false → (convert_answer o l ≡ 8) × (convert_image o l ≡ l)
+  unfolding convert_answer convert_image
   convert-bad bad = (rw (bad), rw (bad))
 
   -- So it is where there is no room for an image, or too much.
-  pub convert-other : isOlder o ≡ true → ¬ (length l ≡ places.length) → (convertAnswer o l ≡ 8) × (convertImage o l ≡ l)
-  unfolding convertAnswer convertImage savedIn
+  pub convert-other : is_older o ≡ true → ¬ (length l ≡ places.length) → (convert_answer o l ≡ 8) × (convert_image o l ≡ l)
+  unfolding convert_answer convert_image saved_in
   convert-other good other = let no = ne_eqb (length l) places.length other in (rw (good, no), rw (good, no))
 
-  module _ (bytes : Bytes o) (good : isOlder o ≡ true) (long : length l ≡ places.length) where
+  module _ (bytes : Bytes o) (good : is_older o ≡ true) (long : length l ≡ places.length) where
     -- Accepted, and the bytes are the image of the state that the older image tells.
-    pub converts : convertAnswer o l ≡ 0
-    unfolding convertAnswer
+    pub converts : convert_answer o l ≡ 0
+    unfolding convert_answer
     converts = rw (good, eq-eqb (length l) places.length long)
 
-    pub convert-same : convertImage o l ≡ image_of (olderState o)
-    unfolding convertImage
-    convert-same = rw (good) (written_over l (olderState o) long)
+    pub convert-same : convert_image o l ≡ image_of (older_state o)
+    unfolding convert_image
+    convert-same = rw (good) (written_over l (older_state o) long)
 
     -- So they are an image, and tell that state.
-    pub convert-good : isImage (convertImage o l) ≡ true
-    convert-good = ap isImage convert-same ∙ has-image (olderState o) (tells-such o bytes good)
+    pub convert-good : is_image (convert_image o l) ≡ true
+    convert-good = ap is_image convert-same ∙ has-image (older_state o) (tells-such o bytes good)
 
-    pub convert-tells : state_of (convertImage o l) ≡ olderState o
-    convert-tells = ap state_of convert-same ∙ comes_back (olderState o) (tells-such o bytes good)
+    pub convert-tells : state_of (convert_image o l) ≡ older_state o
+    convert-tells = ap state_of convert-same ∙ comes_back (older_state o) (tells-such o bytes good)
 
 -- A chip that an older image tells is of the older edition, and nothing was planted or struck in it.
-from-before : (o : List ℕ) → FromBefore (olderState o)
-unfolding olderState
+from-before : (o : List ℕ) → FromBefore (older_state o)
+unfolding older_state
 from-before o = (refl, none)
   where
-    none : NoneForced (olderState o)
+    none : NoneForced (older_state o)
     none A Input = (refl, refl)
     none A Output = (refl, refl)
     none B Input = (refl, refl)
     none B Output = (refl, refl)
 
 -- Both new tallies read 0 in every channel.
-module _ (o l : List ℕ) (bytes : Bytes o) (good : isOlder o ≡ true) (long : length l ≡ places.length) (k : ℕ) (channel : k < 4) where
-  pub none-planted : tallyAnswer (convertImage o l) k 5 ≡ 0
-  unfolding tallyAnswer counterNumbered
+module _ (o l : List ℕ) (bytes : Bytes o) (good : is_older o ≡ true) (long : length l ≡ places.length) (k : ℕ) (channel : k < 4) where
+  pub none-planted : tally_answer (convert_image o l) k 5 ≡ 0
+  unfolding tally_answer counter_numbered
   none-planted =
-      rw (convert-good o l bytes good long, convert-tells o l bytes good long, le-ltb lastChannel k (omega (arith, channel)), ((from-before o).1 _ _).0)
+      rw (convert-good o l bytes good long, convert-tells o l bytes good long, le-ltb last_channel k (omega (arith, channel)), ((from-before o).1 _ _).0)
 
-  pub none-struck : tallyAnswer (convertImage o l) k 6 ≡ 0
-  unfolding tallyAnswer counterNumbered
+  pub none-struck : tally_answer (convert_image o l) k 6 ≡ 0
+  unfolding tally_answer counter_numbered
   none-struck =
-      rw (convert-good o l bytes good long, convert-tells o l bytes good long, le-ltb lastChannel k (omega (arith, channel)), ((from-before o).1 _ _).1)
+      rw (convert-good o l bytes good long, convert-tells o l bytes good long, le-ltb last_channel k (omega (arith, channel)), ((from-before o).1 _ _).1)
 
 -- Of every state of the older edition with an image, in which nothing was planted or struck, the older image becomes the image.
-pub brought-over : (c : Chip) (l : List ℕ) → hasImage c ≡ true → FromBefore c → length l ≡ places.length → convertImage (olderOf c) l ≡ image_of c
-unfolding convertImage
+pub brought-over : (c : Chip) (l : List ℕ) → has_image c ≡ true → FromBefore c → length l ≡ places.length → convert_image (older_of c) l ≡ image_of c
+unfolding convert_image
 brought-over c l has before long =
-    rw (older-where c before.0, has, written_over l (olderState (olderOf c)) long) (ap image_of (older.comes_back c before))
+    rw (older-where c before.0, has, written_over l (older_state (older_of c)) long) (ap image_of (older.comes_back c before))
 
 -- An older image is no image, for its length: every call that asks for an image answers it with 8.
-pub no-image : (o : List ℕ) → isOlder o ≡ true → isImage o ≡ false
-unfolding isImage
+pub no-image : (o : List ℕ) → is_older o ≡ true → is_image o ≡ false
+unfolding is_image
 no-image o good = rw (ne_eqb (length o) places.length (λ e. omega (arith, e, is-long o good)))

@@ -12,14 +12,14 @@ use Rattle.step.specs.Step.{step_of}
 use Rattle.step.proofs.Outcome.{step-refuses, step-number}
 use Rattle.image.specs.Layout.{image_of}
 use Rattle.image.specs.Loaded.{state_of}
-use Rattle.image.specs.Good.{isImage, Bytes}
-use Rattle.image.proofs.SameBytes.{same_bytes}
-use Rattle.calls.specs.Calls.{packed, stepAnswer, stepImage}
+use Rattle.image.specs.Good.{is_image, Bytes}
+use Rattle.image.proofs.SameBytes.{same-bytes}
+use Rattle.calls.specs.Calls.{packed, step_answer, step_image}
 
 module _ (l : List ℕ) (k x d : ℕ) where
   -- The same number and the same byte.
-  pub host-answer : isImage l ≡ true → stepAnswer l k x d ≡ packed (step_of (state_of l) k x d).number (step_of (state_of l) k x d).byte 0
-  unfolding stepAnswer
+  pub host-answer : is_image l ≡ true → step_answer l k x d ≡ packed (step_of (state_of l) k x d).number (step_of (state_of l) k x d).byte 0
+  unfolding step_answer
   host-answer good = rw (good)
 
   stays : ¬ ((step_of (state_of l) k x d).number ≡ 0) → (step_of (state_of l) k x d).chip ≡ state_of l
@@ -27,10 +27,10 @@ module _ (l : List ℕ) (k x d : ℕ) where
 
   -- What is so of the image of the state after an accepted event, and of the bytes and their own state where the event is refused, is so of
   -- what the call leaves and the state after.
-  pub by_number : (P : List ℕ → Chip → Type 0) → isImage l ≡ true
+  pub by_number : (P : List ℕ → Chip → Type 0) → is_image l ≡ true
       → P (image_of (step_of (state_of l) k x d).chip) (step_of (state_of l) k x d).chip → P l (state_of l)
-      → P (stepImage l k x d) (step_of (state_of l) k x d).chip
-  unfolding stepImage
+      → P (step_image l k x d) (step_of (state_of l) k x d).chip
+  unfolding step_image
   by_number P good after before = rw (good) (go (eqb (step_of (state_of l) k x d).number 0) refl)
     where
       go : (b : Bool) → eqb (step_of (state_of l) k x d).number 0 ≡ b
@@ -39,14 +39,14 @@ module _ (l : List ℕ) (k x d : ℕ) where
       go false refused = subst (P l) (sym (stays (eqb-false _ _ refused))) before
 
   -- Decode, step, encode: a refusal, which writes nothing, leaves the same bytes.
-  pub host-step : Bytes l → isImage l ≡ true → stepImage l k x d ≡ image_of (step_of (state_of l) k x d).chip
-  host-step bytes good = by_number (λ m c. m ≡ image_of c) good refl (sym (same_bytes l bytes good))
+  pub host-step : Bytes l → is_image l ≡ true → step_image l k x d ≡ image_of (step_of (state_of l) k x d).chip
+  host-step bytes good = by_number (λ m c. m ≡ image_of c) good refl (sym (same-bytes l bytes good))
 
   -- Bad bytes: number 8, whatever the event, and nothing is written.
-  pub bad-answer : isImage l ≡ false → stepAnswer l k x d ≡ 8
-  unfolding stepAnswer
+  pub bad-answer : is_image l ≡ false → step_answer l k x d ≡ 8
+  unfolding step_answer
   bad-answer bad = rw (bad)
 
-  pub bad-stays : isImage l ≡ false → stepImage l k x d ≡ l
-  unfolding stepImage
+  pub bad-stays : is_image l ≡ false → step_image l k x d ≡ l
+  unfolding step_image
   bad-stays bad = rw (bad)

@@ -6,7 +6,7 @@ use Prim.Native.Nat.{ℕ, ◌%◌, ◌<◌, ◌≤◌}
 use borrow.Author.Tests.{lt-ltb, le-ltb}
 use Rattle.bus.specs.declared.Phase.{Phase}
 use Rattle.bus.specs.declared.Phase.TheVariants.{Idle, Reading, Writing}
-use Rattle.step.specs.Step.{onBus}
+use Rattle.step.specs.Step.{on_bus}
 use Rattle.image.specs.Places as places
 use Rattle.image.specs.Layout.{image_of}
 use Rattle.image.specs.Loaded.{byte_at, state_of}
@@ -29,5 +29,5 @@ module _ (l : List ℕ) where
   none_runs above end = rw (le-ltb bus places.writes above, le-ltb bus places.idle end)
 
   -- On an idle bus there is nothing to end.
-  pub idle-stays : Told l → places.writes ≤ bus → places.idle ≤ bus → l ≡ image_of (onBus Idle (state_of l).edition (state_of l).core)
-  idle-stays told above end = sym told ∙ ap (λ (ph : Phase). image_of (onBus ph (state_of l).edition (state_of l).core)) (none_runs above end)
+  pub idle-stays : Told l → places.writes ≤ bus → places.idle ≤ bus → l ≡ image_of (on_bus Idle (state_of l).edition (state_of l).core)
+  idle-stays told above end = sym told ∙ ap (λ (ph : Phase). image_of (on_bus ph (state_of l).edition (state_of l).core)) (none_runs above end)

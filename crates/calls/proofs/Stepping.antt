@@ -6,32 +6,32 @@ use mathlib.Core.List.{List}
 use Prim.Native.Nat.{ℕ}
 use native.Mathlib.Omega.{arith}
 use borrow.Author.Tests.{ne_eqb}
-use Rattle.bus.specs.Device.{afterIn, byteIn}
+use Rattle.bus.specs.Device.{after_in, byte_in}
 use Rattle.bus.specs.Refusals.{number_of}
 use Rattle.step.specs.Step.{limits, device}
 use Rattle.step.proofs.Outcome.{step-accepts, step-refuses}
 use Rattle.image.specs.Layout.{image_of}
 use Rattle.image.specs.Loaded.{state_of}
-use Rattle.image.specs.Good.{isImage}
-use Rattle.calls.specs.Calls.{packed, stepAnswer, stepImage}
+use Rattle.image.specs.Good.{is_image}
+use Rattle.calls.specs.Calls.{packed, step_answer, step_image}
 
-module _ (l : List ℕ) (k x d n : ℕ) (good : isImage l ≡ true)
+module _ (l : List ℕ) (k x d n : ℕ) (good : is_image l ≡ true)
     (asked : n ≡ number_of (limits (state_of l).edition) (state_of l).phase k x) where
   alone : n ≡ packed n 0 0
   alone = omega arith
 
-  pub refused-answer : ¬ (n ≡ 0) → n ≡ stepAnswer l k x d
-  unfolding stepAnswer
+  pub refused-answer : ¬ (n ≡ 0) → n ≡ step_answer l k x d
+  unfolding step_answer
   refused-answer h = rw (good, step-refuses (state_of l) k x d (λ e. h (asked ∙ e)), ← asked) alone
 
-  pub refused-image : ¬ (n ≡ 0) → l ≡ stepImage l k x d
-  unfolding stepImage
+  pub refused-image : ¬ (n ≡ 0) → l ≡ step_image l k x d
+  unfolding step_image
   refused-image h = rw (good, step-refuses (state_of l) k x d (λ e. h (asked ∙ e)), ← asked, ne_eqb n 0 h)
 
-  pub accepted-answer : n ≡ 0 → packed 0 (byteIn device (state_of l) k x) 0 ≡ stepAnswer l k x d
-  unfolding stepAnswer
+  pub accepted-answer : n ≡ 0 → packed 0 (byte_in device (state_of l) k x) 0 ≡ step_answer l k x d
+  unfolding step_answer
   accepted-answer zero = rw (good, step-accepts (state_of l) k x d (sym asked ∙ zero))
 
-  pub accepted-image : n ≡ 0 → image_of (afterIn device (state_of l) k x d) ≡ stepImage l k x d
-  unfolding stepImage
+  pub accepted-image : n ≡ 0 → image_of (after_in device (state_of l) k x d) ≡ step_image l k x d
+  unfolding step_image
   accepted-image zero = rw (good, step-accepts (state_of l) k x d (sym asked ∙ zero))

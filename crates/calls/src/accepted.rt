@@ -2,8 +2,8 @@
 // bytes the event can change, and leaves most of the others alone.
 ghost use Rattle.std.specs.Prelude.{◌≡◌};
 ghost use Rattle.ports.specs.Reads.{read_of};
-ghost use Rattle.bus.specs.Device.{readBegunIn, writeBegunIn, levelsPutIn, afterIn, byteIn};
-ghost use Rattle.chip.specs.Addresses.{portA, portB};
+ghost use Rattle.bus.specs.Device.{read_begun_in, write_begun_in, levels_put_in, after_in, byte_in};
+ghost use Rattle.chip.specs.Addresses.{port_a, port_b};
 ghost use Rattle.step.specs.Step.{device};
 ghost use Rattle.image.specs.Layout.{image_of};
 ghost use Rattle.image.specs.Loaded.{state_of};
@@ -16,8 +16,8 @@ use bus::Phase;
 // a read takes twice the instructions.
 fn read_a(image: &mut [u8]) -> u8
     requires { Told image.old }
-    ensures value { result ≡ read_of (state_of image.old) portA }
-    ensures image_after { image.new ≡ image_of (readBegunIn device (state_of image.old) portA) }
+    ensures value { result ≡ read_of (state_of image.old) port_a }
+    ensures image_after { image.new ≡ image_of (read_begun_in device (state_of image.old) port_a) }
 {
     let chip = load::state(image);
     image::save::core(image, reads::begin(chip.core, chip::PORT_A));
@@ -27,8 +27,8 @@ fn read_a(image: &mut [u8]) -> u8
 
 fn read_b(image: &mut [u8]) -> u8
     requires { Told image.old }
-    ensures value { result ≡ read_of (state_of image.old) portB }
-    ensures image_after { image.new ≡ image_of (readBegunIn device (state_of image.old) portB) }
+    ensures value { result ≡ read_of (state_of image.old) port_b }
+    ensures image_after { image.new ≡ image_of (read_begun_in device (state_of image.old) port_b) }
 {
     let chip = load::state(image);
     image::save::core(image, reads::begin(chip.core, chip::PORT_B));
@@ -38,9 +38,9 @@ fn read_b(image: &mut [u8]) -> u8
 
 // Elsewhere a read changes the bus alone.
 fn read_other(image: &mut [u8], address: u8) -> u8
-    requires { Told image.old × (¬ (address ≡ portA)) × (¬ (address ≡ portB)) }
+    requires { Told image.old × (¬ (address ≡ port_a)) × (¬ (address ≡ port_b)) }
     ensures value { result ≡ read_of (state_of image.old) address }
-    ensures image_after { image.new ≡ image_of (readBegunIn device (state_of image.old) address) }
+    ensures image_after { image.new ≡ image_of (read_begun_in device (state_of image.old) address) }
 {
     let chip = load::state(image);
     image::save::bus(image, Phase::Reading(address));
@@ -50,7 +50,7 @@ fn read_other(image: &mut [u8], address: u8) -> u8
 fn begin_read(image: &mut [u8], address: u8) -> u8
     requires { Told image.old }
     ensures value { result ≡ read_of (state_of image.old) address }
-    ensures image_after { image.new ≡ image_of (readBegunIn device (state_of image.old) address) }
+    ensures image_after { image.new ≡ image_of (read_begun_in device (state_of image.old) address) }
 {
     match address {
         chip::PORT_A => read_a(image),
@@ -61,14 +61,14 @@ fn begin_read(image: &mut [u8], address: u8) -> u8
 
 fn begin_write(image: &mut [u8], address: u8, byte: u8)
     requires { Told image.old }
-    ensures { image.new ≡ image_of (writeBegunIn device (state_of image.old) address byte) }
+    ensures { image.new ≡ image_of (write_begun_in device (state_of image.old) address byte) }
 {
     image::save::bus(image, Phase::Writing(address, byte));
 }
 
 fn levels(image: &mut [u8], port: u8, levels: u8)
     requires { Told image.old }
-    ensures { image.new ≡ image_of (levelsPutIn device (state_of image.old) port levels) }
+    ensures { image.new ≡ image_of (levels_put_in device (state_of image.old) port levels) }
 {
     let chip = load::state(image);
     image::save::core(image, levels::set(chip.core, port, levels));
@@ -77,8 +77,8 @@ fn levels(image: &mut [u8], port: u8, levels: u8)
 // The byte of the event is given back.
 pub(super) fn accept(image: &mut [u8], kind: u8, first: u8, second: u8) -> u8
     requires { Told image.old }
-    ensures value { result ≡ byteIn device (state_of image.old) kind first }
-    ensures image_after { image.new ≡ image_of (afterIn device (state_of image.old) kind first second) }
+    ensures value { result ≡ byte_in device (state_of image.old) kind first }
+    ensures image_after { image.new ≡ image_of (after_in device (state_of image.old) kind first second) }
 {
     match kind {
         events::RESET => {

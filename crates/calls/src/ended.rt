@@ -2,12 +2,12 @@
 // and not by the phase that is made of it: so the compiler sees, end by end, which bytes can change.
 ghost use Rattle.std.specs.Prelude.{◌≡◌};
 ghost use Rattle.bus.specs.declared.Phase.TheVariants.{Idle};
-ghost use Rattle.bus.specs.Device.{cycleEndedIn};
-ghost use Rattle.settings.specs.ModeWord.{afterModeWord};
-ghost use Rattle.settings.specs.ControlWord.{afterControlWord};
-ghost use Rattle.reads.specs.Read.{afterReadEnds};
-ghost use Rattle.writes.specs.Write.{afterWriteEnds};
-ghost use Rattle.step.specs.Step.{onBus, device};
+ghost use Rattle.bus.specs.Device.{cycle_ended_in};
+ghost use Rattle.settings.specs.ModeWord.{after_mode_word};
+ghost use Rattle.settings.specs.ControlWord.{after_control_word};
+ghost use Rattle.reads.specs.Read.{after_read_ends};
+ghost use Rattle.writes.specs.Write.{after_write_ends};
+ghost use Rattle.step.specs.Step.{on_bus, device};
 ghost use Rattle.image.specs.Layout.{image_of};
 ghost use Rattle.image.specs.Loaded.{state_of};
 ghost use Rattle.image.specs.Good.{Told};
@@ -20,7 +20,7 @@ use image::places::{BUS, IDLE, WRITES, WRITTEN};
 
 fn leave(image: &mut [u8], core: Core)
     requires { Told image.old }
-    ensures { image.new ≡ image_of (onBus Idle (state_of image.old).edition core) }
+    ensures { image.new ≡ image_of (on_bus Idle (state_of image.old).edition core) }
 {
     image::save::core(image, core);
     image::save::bus(image, Phase::Idle);
@@ -29,7 +29,7 @@ fn leave(image: &mut [u8], core: Core)
 // The chip under a new mode word, by which a reset is done too.
 pub(super) fn renew(image: &mut [u8], word: u8)
     requires { Told image.old }
-    ensures { image.new ≡ image_of (onBus Idle (state_of image.old).edition (afterModeWord (state_of image.old).core word)) }
+    ensures { image.new ≡ image_of (on_bus Idle (state_of image.old).edition (after_mode_word (state_of image.old).core word)) }
 {
     let chip = load::state(image);
     leave(image, settings::renew(chip.core, word));
@@ -37,7 +37,7 @@ pub(super) fn renew(image: &mut [u8], word: u8)
 
 fn set_pin(image: &mut [u8], byte: u8)
     requires { Told image.old }
-    ensures { image.new ≡ image_of (onBus Idle (state_of image.old).edition (afterControlWord (state_of image.old).core byte)) }
+    ensures { image.new ≡ image_of (on_bus Idle (state_of image.old).edition (after_control_word (state_of image.old).core byte)) }
 {
     let chip = load::state(image);
     leave(image, settings::command(chip.core, byte));
@@ -46,7 +46,7 @@ fn set_pin(image: &mut [u8], byte: u8)
 // A write to the control address.
 fn command(image: &mut [u8], byte: u8)
     requires { Told image.old }
-    ensures { image.new ≡ image_of (onBus Idle (state_of image.old).edition (afterControlWord (state_of image.old).core byte)) }
+    ensures { image.new ≡ image_of (on_bus Idle (state_of image.old).edition (after_control_word (state_of image.old).core byte)) }
 {
     let control = control::word::decode(byte);
     match control {
@@ -57,7 +57,7 @@ fn command(image: &mut [u8], byte: u8)
 
 fn store(image: &mut [u8], address: u8, byte: u8)
     requires { Told image.old }
-    ensures { image.new ≡ image_of (onBus Idle (state_of image.old).edition (afterWriteEnds (state_of image.old).core address byte)) }
+    ensures { image.new ≡ image_of (on_bus Idle (state_of image.old).edition (after_write_ends (state_of image.old).core address byte)) }
 {
     let chip = load::state(image);
     leave(image, writes::end(chip.core, address, byte));
@@ -65,7 +65,7 @@ fn store(image: &mut [u8], address: u8, byte: u8)
 
 fn end_write(image: &mut [u8], address: u8, byte: u8)
     requires { Told image.old }
-    ensures { image.new ≡ image_of (onBus Idle (state_of image.old).edition (afterWriteEnds (state_of image.old).core address byte)) }
+    ensures { image.new ≡ image_of (on_bus Idle (state_of image.old).edition (after_write_ends (state_of image.old).core address byte)) }
 {
     if address == chip::CONTROL {
         command(image, byte);
@@ -76,7 +76,7 @@ fn end_write(image: &mut [u8], address: u8, byte: u8)
 
 fn end_read(image: &mut [u8], address: u8)
     requires { Told image.old }
-    ensures { image.new ≡ image_of (onBus Idle (state_of image.old).edition (afterReadEnds (state_of image.old).core address)) }
+    ensures { image.new ≡ image_of (on_bus Idle (state_of image.old).edition (after_read_ends (state_of image.old).core address)) }
 {
     let chip = load::state(image);
     leave(image, reads::end(chip.core, address));
@@ -85,7 +85,7 @@ fn end_read(image: &mut [u8], address: u8)
 // Whatever runs on the bus ends.
 pub(super) fn end_cycle(image: &mut [u8])
     requires { Told image.old }
-    ensures { image.new ≡ image_of (cycleEndedIn device (state_of image.old)) }
+    ensures { image.new ≡ image_of (cycle_ended_in device (state_of image.old)) }
 {
     let bus = image[BUS];
     let byte = image[WRITTEN];

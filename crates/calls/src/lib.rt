@@ -2,8 +2,8 @@
 // view, the tallies, and why an INTR is low. Each answer is one number: the refusal in its lowest byte, and what is given above it.
 // include/towanchor.h declares them.
 ghost use Rattle.std.specs.Prelude.{◌≡◌};
-ghost use Rattle.image.specs.Slices.{savedIn};
-ghost use Rattle.calls.specs.Calls.{packed, powerUpAnswer, powerUpImage, powerUpImageWith, powerUpAsAnswer, powerUpAsImage, convertAnswer, convertImage, stepAnswer, stepImage, pinsGiven, pinsAnswer, groupNumbered, sideNumbered, counterNumbered, tallyAnswer, reasonsGiven, explainAnswer};
+ghost use Rattle.image.specs.Slices.{saved_in};
+ghost use Rattle.calls.specs.Calls.{packed, power_up_answer, power_up_image, power_up_image_with, power_up_as_answer, power_up_as_image, convert_answer, convert_image, step_answer, step_image, pins_given, pins_answer, group_numbered, side_numbered, counter_numbered, tally_answer, reasons_given, explain_answer};
 
 use bus::ACCEPTED;
 use channel::{Side, Tally};
@@ -38,8 +38,8 @@ fn packed(number: u8, low: u8, high: u8) -> u32
 
 // A new image, whatever stood there.
 fn start(image: &mut [u8], chip: Chip) -> u32
-    ensures value { result ≡ powerUpAnswer image.old }
-    ensures image_after { image.new ≡ savedIn image.old chip }
+    ensures value { result ≡ power_up_answer image.old }
+    ensures image_after { image.new ≡ saved_in image.old chip }
 {
     if image.len() != LENGTH {
         return NO_STATE;
@@ -51,8 +51,8 @@ fn start(image: &mut [u8], chip: Chip) -> u32
 // The chip at power-up, under the default levels.
 #[unsafe(no_mangle)]
 pub extern "C" fn towanchor_power_up(image: &mut [u8]) -> u32
-    ensures value { result ≡ powerUpAnswer image.old }
-    ensures image_after { image.new ≡ powerUpImage image.old }
+    ensures value { result ≡ power_up_answer image.old }
+    ensures image_after { image.new ≡ power_up_image image.old }
 {
     let chip = chip::power_up();
     start(image, chip)
@@ -61,8 +61,8 @@ pub extern "C" fn towanchor_power_up(image: &mut [u8]) -> u32
 // The chip at power-up, under levels that the host names for ports A, B and C.
 #[unsafe(no_mangle)]
 pub extern "C" fn towanchor_power_up_with_levels(image: &mut [u8], a: u8, b: u8, c: u8) -> u32
-    ensures value { result ≡ powerUpAnswer image.old }
-    ensures image_after { image.new ≡ powerUpImageWith image.old a b c }
+    ensures value { result ≡ power_up_answer image.old }
+    ensures image_after { image.new ≡ power_up_image_with image.old a b c }
 {
     let levels = Levels { a, b, c };
     let chip = chip::power_up_with_levels(levels);
@@ -72,8 +72,8 @@ pub extern "C" fn towanchor_power_up_with_levels(image: &mut [u8], a: u8, b: u8,
 // The same of a chip of the edition that the host names, by its number in an image.
 #[unsafe(no_mangle)]
 pub extern "C" fn towanchor_power_up_as(image: &mut [u8], edition: u8, a: u8, b: u8, c: u8) -> u32
-    ensures value { result ≡ powerUpAsAnswer image.old edition }
-    ensures image_after { image.new ≡ powerUpAsImage image.old edition a b c }
+    ensures value { result ≡ power_up_as_answer image.old edition }
+    ensures image_after { image.new ≡ power_up_as_image image.old edition a b c }
 {
     if NEWER < edition {
         return NO_STATE;
@@ -85,8 +85,8 @@ pub extern "C" fn towanchor_power_up_as(image: &mut [u8], edition: u8, a: u8, b:
 // An older image made the image of the same state.
 #[unsafe(no_mangle)]
 pub extern "C" fn towanchor_convert(older: &[u8], image: &mut [u8]) -> u32
-    ensures value { result ≡ convertAnswer older.now image.old }
-    ensures image_after { image.new ≡ convertImage older.now image.old }
+    ensures value { result ≡ convert_answer older.now image.old }
+    ensures image_after { image.new ≡ convert_image older.now image.old }
 {
     if !older::good(older) {
         return NO_STATE;
@@ -102,8 +102,8 @@ pub extern "C" fn towanchor_convert(older: &[u8], image: &mut [u8]) -> u32
 // One event, with its number and the byte of an accepted read.
 #[unsafe(no_mangle)]
 pub extern "C" fn towanchor_step(image: &mut [u8], kind: u8, first: u8, second: u8) -> u32
-    ensures value { result ≡ stepAnswer image.old kind first second }
-    ensures image_after { image.new ≡ stepImage image.old kind first second }
+    ensures value { result ≡ step_answer image.old kind first second }
+    ensures image_after { image.new ≡ step_image image.old kind first second }
 {
     let good = image::check::good(image);
     if !good {
@@ -118,7 +118,7 @@ pub extern "C" fn towanchor_step(image: &mut [u8], kind: u8, first: u8, second: 
 }
 
 fn shown(pins: Pins) -> u32
-    ensures { result ≡ pinsGiven pins }
+    ensures { result ≡ pins_given pins }
 {
     packed(ACCEPTED, pins.levels, pins.driven)
 }
@@ -126,7 +126,7 @@ fn shown(pins: Pins) -> u32
 // The levels of a port's pins, and a one for each that the chip drives.
 #[unsafe(no_mangle)]
 pub extern "C" fn towanchor_pins(image: &[u8], port: u8) -> u32
-    ensures { result ≡ pinsAnswer image.now port }
+    ensures { result ≡ pins_answer image.now port }
 {
     if !image::check::good(image) {
         return NO_STATE;
@@ -138,13 +138,13 @@ pub extern "C" fn towanchor_pins(image: &[u8], port: u8) -> u32
 }
 
 fn group(channel: u8) -> Group
-    ensures { result ≡ groupNumbered channel }
+    ensures { result ≡ group_numbered channel }
 {
     if channel < 2 { Group::A } else { Group::B }
 }
 
 fn side(channel: u8) -> Side
-    ensures { result ≡ sideNumbered channel }
+    ensures { result ≡ side_numbered channel }
 {
     if channel % 2 == 0 {
         Side::Input
@@ -154,7 +154,7 @@ fn side(channel: u8) -> Side
 }
 
 fn counter(tally: Tally, number: u8) -> u16
-    ensures { result ≡ counterNumbered tally number }
+    ensures { result ≡ counter_numbered tally number }
 {
     match number {
         0 => tally.offered,
@@ -170,7 +170,7 @@ fn counter(tally: Tally, number: u8) -> u16
 // One of the seven tallies of one of the four channels.
 #[unsafe(no_mangle)]
 pub extern "C" fn towanchor_tally(image: &[u8], channel: u8, number: u8) -> u32
-    ensures { result ≡ tallyAnswer image.now channel number }
+    ensures { result ≡ tally_answer image.now channel number }
 {
     if !image::check::good(image) {
         return NO_STATE;
@@ -183,7 +183,7 @@ pub extern "C" fn towanchor_tally(image: &[u8], channel: u8, number: u8) -> u32
 }
 
 fn given(said: Numbers) -> u32
-    ensures { result ≡ reasonsGiven said }
+    ensures { result ≡ reasons_given said }
 {
     packed(said.number, said.input, said.output)
 }
@@ -191,7 +191,7 @@ fn given(said: Numbers) -> u32
 // What each half of a group's INTR is doing, and where it is low the first reason.
 #[unsafe(no_mangle)]
 pub extern "C" fn towanchor_explain(image: &[u8], group: u8) -> u32
-    ensures { result ≡ explainAnswer image.now group }
+    ensures { result ≡ explain_answer image.now group }
 {
     if !image::check::good(image) {
         return NO_STATE;

@@ -1,8 +1,8 @@
 // One strobed channel: whether a byte waits in it, its latch, and what became of the bytes offered to it or planted in it. The four
 // channels of a chip are all of this kind.
 ghost use Rattle.std.specs.Prelude.{◌≡◌, if◌then◌else◌};
-ghost use Rattle.channel.specs.Channel.{isWaiting, is_empty, flagOf, hasRoom, next};
-ghost use Rattle.channel.specs.Moves.{afterOffer, afterFollow, afterHandOver, afterEndRead, afterClear, tellsOfAByte, afterPlant, afterStrike, afterForce};
+ghost use Rattle.channel.specs.Channel.{is_waiting, is_empty, flag_of, has_room, next};
+ghost use Rattle.channel.specs.Moves.{after_offer, after_follow, after_hand_over, after_end_read, after_clear, tells_of_a_byte, after_plant, after_strike, after_force};
 
 // Which way a channel's bytes go: an input takes them in by STB, an output gives them out by ACK.
 #[derive(Drop)]
@@ -40,7 +40,7 @@ pub struct Channel {
 }
 
 fn waiting(fill: Fill) -> bool
-    ensures { result ≡ isWaiting fill }
+    ensures { result ≡ is_waiting fill }
 {
     match fill {
         Fill::Empty => false,
@@ -61,7 +61,7 @@ fn empty(fill: Fill) -> bool
 
 // The channel's buffer flag: IBF of an input, OBF of an output.
 pub fn flag(side: Side, fill: Fill) -> bool
-    ensures { result ≡ flagOf side fill }
+    ensures { result ≡ flag_of side fill }
 {
     match side {
         Side::Input => !empty(fill),
@@ -81,7 +81,7 @@ fn next_if(on: bool, count: u16) -> u16
 
 // A byte is offered, and one that waits is overwritten.
 pub fn offer(channel: Channel, byte: u8) -> Channel
-    ensures { result ≡ afterOffer channel byte }
+    ensures { result ≡ after_offer channel byte }
 {
     let fill = channel.fill;
     let mut tally = channel.tally;
@@ -96,7 +96,7 @@ pub fn offer(channel: Channel, byte: u8) -> Channel
 
 // Where levels go through, they stand in the latch. The condition and the tallies stay, whatever they are.
 pub fn follow(mut channel: Channel, through: bool, levels: u8) -> Channel
-    ensures { result ≡ (if through then afterFollow channel levels else channel) }
+    ensures { result ≡ (if through then after_follow channel levels else channel) }
 {
     if through {
         channel.latch = levels;
@@ -106,7 +106,7 @@ pub fn follow(mut channel: Channel, through: bool, levels: u8) -> Channel
 
 // A byte that waits is handed over, and the channel is left as named: fetching by a read that begins, empty by ACK.
 pub fn hand_over(channel: Channel, left: Fill) -> Channel
-    ensures { result ≡ afterHandOver channel left }
+    ensures { result ≡ after_hand_over channel left }
 {
     let fill = channel.fill;
     let mut tally = channel.tally;
@@ -130,7 +130,7 @@ fn either(on: bool, yes: Fill, no: Fill) -> Fill
 // The end of a read, where the channel takes part in it: the channel is empty, and a byte that waits is swallowed. The condition is
 // asked field by field, since a branch that gives back one of two channels makes the compiler copy both.
 pub fn end_read(channel: Channel, on: bool) -> Channel
-    ensures { result ≡ (if on then afterEndRead channel else channel) }
+    ensures { result ≡ (if on then after_end_read channel else channel) }
 {
     let fill = channel.fill;
     let mut tally = channel.tally;
@@ -144,7 +144,7 @@ pub fn end_read(channel: Channel, on: bool) -> Channel
 
 // A mode word or a reset: latch and channel are empty, and a byte that waits is cleared.
 pub fn clear(channel: Channel) -> Channel
-    ensures { result ≡ afterClear channel }
+    ensures { result ≡ after_clear channel }
 {
     let fill = channel.fill;
     let mut tally = channel.tally;
@@ -158,7 +158,7 @@ pub fn clear(channel: Channel) -> Channel
 
 // Whether the flag, at that level, tells of a byte.
 fn tells(side: Side, level: bool) -> bool
-    ensures { result ≡ tellsOfAByte side level }
+    ensures { result ≡ tells_of_a_byte side level }
 {
     match side {
         Side::Input => level,
@@ -168,13 +168,13 @@ fn tells(side: Side, level: bool) -> bool
 
 // Whether a byte can be planted: the flag tells of none.
 fn room(side: Side, fill: Fill) -> bool
-    ensures { result ≡ hasRoom side fill }
+    ensures { result ≡ has_room side fill }
 {
     !tells(side, flag(side, fill))
 }
 
 fn plant(channel: Channel, side: Side) -> Channel
-    ensures { result ≡ afterPlant side channel }
+    ensures { result ≡ after_plant side channel }
 {
     let fill = channel.fill;
     let mut tally = channel.tally;
@@ -190,7 +190,7 @@ fn plant(channel: Channel, side: Side) -> Channel
 }
 
 fn strike(channel: Channel) -> Channel
-    ensures { result ≡ afterStrike channel }
+    ensures { result ≡ after_strike channel }
 {
     let fill = channel.fill;
     let mut tally = channel.tally;
@@ -207,7 +207,7 @@ fn strike(channel: Channel) -> Channel
 
 // The channel's flag is forced to a level: a byte is planted where there is room for one, or struck where one waits.
 pub fn force(channel: Channel, side: Side, level: bool) -> Channel
-    ensures { result ≡ afterForce side level channel }
+    ensures { result ≡ after_force side level channel }
 {
     if tells(side, level) {
         plant(channel, side)

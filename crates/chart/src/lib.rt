@@ -1,6 +1,6 @@
 // The mode 0 chart of the data sheet: sixteen rows of port directions, by bits 4, 3, 1 and 0 of the mode word.
 ghost use Rattle.std.specs.Prelude.{◌≡◌};
-ghost use Rattle.control.specs.Mode.{directionsOf};
+ghost use Rattle.control.specs.Mode.{directions_of};
 
 use control::Directions;
 
@@ -30,7 +30,7 @@ const CHART: [[bool; 4]; 16] = [
 
 // The chart's row for a mode word.
 pub fn row(word: u8) -> Directions
-    ensures { result ≡ directionsOf word }
+    ensures { result ≡ directions_of word }
 {
     let at = ((word >> 1) & 12 | word & 3) as usize;
     let line = CHART[at];

@@ -1,13 +1,13 @@
 // The four channels, each named by its group and side, and their tallies.
 ghost use Rattle.std.specs.Prelude.{◌≡◌};
-ghost use Rattle.chip.specs.State.{portOf, side_of, channelOf, tally_of};
+ghost use Rattle.chip.specs.State.{port_of, side_of, channel_of, tally_of};
 
 use super::{Chip, Core, Port};
 use channel::{Channel, Side, Tally};
 use control::Group;
 
 fn port(core: Core, group: Group) -> Port
-    ensures { result ≡ portOf core group }
+    ensures { result ≡ port_of core group }
 {
     match group {
         Group::A => core.a,
@@ -26,7 +26,7 @@ fn on_side(port: Port, side: Side) -> Channel
 
 // The channel of that group and side.
 pub fn find(core: Core, group: Group, side: Side) -> Channel
-    ensures { result ≡ channelOf core group side }
+    ensures { result ≡ channel_of core group side }
 {
     on_side(port(core, group), side)
 }

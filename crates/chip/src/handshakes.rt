@@ -1,6 +1,6 @@
 // What differs between the four channels: when the mode word strobes them, the pin of their line, their enable, their own cycle.
 ghost use Rattle.std.specs.Prelude.{◌≡◌};
-ghost use Rattle.chip.specs.Handshakes.{ownAddress, strobed, linePin, enableOf, reading, writing, running};
+ghost use Rattle.chip.specs.Handshakes.{own_address, strobed, line_pin, enable_of, reading, writing, running};
 
 use super::{Enables, PORT_A, PORT_B};
 use bus::Phase;
@@ -23,7 +23,7 @@ pub const FLAG_B: u8 = 1;
 
 // Whether the bus finds the group's port at the address.
 fn own_address(address: u8, group: Group) -> bool
-    ensures { result ≡ ownAddress address group }
+    ensures { result ≡ own_address address group }
 {
     match group {
         Group::A => address == PORT_A,
@@ -43,7 +43,7 @@ pub fn strobed(word: u8, group: Group, side: Side) -> bool
 
 // The pin of the channel's STB or ACK.
 pub fn line_pin(group: Group, side: Side) -> u8
-    ensures { result ≡ linePin group side }
+    ensures { result ≡ line_pin group side }
 {
     match group {
         Group::A => match side {
@@ -56,7 +56,7 @@ pub fn line_pin(group: Group, side: Side) -> u8
 
 // Whether the channel's interrupt is enabled.
 pub fn enable(inte: Enables, group: Group, side: Side) -> bool
-    ensures { result ≡ enableOf inte group side }
+    ensures { result ≡ enable_of inte group side }
 {
     match group {
         Group::A => match side {

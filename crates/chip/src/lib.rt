@@ -1,6 +1,6 @@
 // The state of one 8255A or 82C55A, and what it is at power-up.
 ghost use Rattle.std.specs.Prelude.{◌≡◌};
-ghost use Rattle.chip.specs.State.{freshPort, powerUpAs, powerUpWith, powerUp};
+ghost use Rattle.chip.specs.State.{fresh_port, power_up_as, power_up_with, power_up};
 
 pub mod channels;
 pub mod handshakes;
@@ -76,7 +76,7 @@ pub const CONTROL: u8 = 3;
 pub const POWER_UP_WORD: u8 = 0x9b;
 
 fn fresh_port(outside: u8) -> Port
-    ensures { result ≡ freshPort outside }
+    ensures { result ≡ fresh_port outside }
 {
     let tally = Tally {
         offered: 0,
@@ -101,7 +101,7 @@ fn fresh_port(outside: u8) -> Port
 
 // The chip at power-up, of the edition and under the levels that the caller names.
 pub fn power_up_as(edition: Edition, levels: Levels) -> Chip
-    ensures { result ≡ powerUpAs edition levels }
+    ensures { result ≡ power_up_as edition levels }
 {
     let core = Core {
         word: POWER_UP_WORD,
@@ -126,14 +126,14 @@ pub fn power_up_as(edition: Edition, levels: Levels) -> Chip
 
 // The chip at power-up where levels are named, and no edition: it is the older.
 pub fn power_up_with_levels(levels: Levels) -> Chip
-    ensures { result ≡ powerUpWith levels }
+    ensures { result ≡ power_up_with levels }
 {
     power_up_as(Edition::Older, levels)
 }
 
 // The chip at power-up where nothing is named: the backplane pulls idle lines down.
 pub fn power_up() -> Chip
-    ensures { result ≡ powerUp }
+    ensures { result ≡ power_up }
 {
     power_up_with_levels(Levels { a: 0, b: 0, c: 0 })
 }

@@ -9,7 +9,7 @@ use lib.Dec.{eqb}
 use borrow.Author.Tests.{ne_eqb}
 use Rattle.bits.specs.Bit.{bit_of}
 use Rattle.control.specs.declared.Group.TheVariants.{A, B}
-use Rattle.control.specs.Mode.{mode_of, input_of, strobedInput, strobedOutput}
+use Rattle.control.specs.Mode.{mode_of, input_of, strobed_input, strobed_output}
 
 -- Group A's mode by two bits, and what is strobed in it where the direction is d.
 by-two-bits : (w low high : ℕ) → w / 32 % 4 ≡ low + 2 * high → low < 2 → high < 2 → (d : Bool)
@@ -32,18 +32,18 @@ of-b : (w : ℕ) (d : Bool) → (eqb (mode_of w B) 2 || (eqb (mode_of w B) 1 && 
 unfolding mode_of bit_of
 of-b w d = rw (ne_eqb (w / 4 % 2) 2 (λ e. omega (arith, e)))
 
-pub a-takes : (w : ℕ) → strobedInput w A ≡ (bit_of w 6 || (bit_of w 5 && bit_of w 4))
-unfolding strobedInput input_of
+pub a-takes : (w : ℕ) → strobed_input w A ≡ (bit_of w 6 || (bit_of w 5 && bit_of w 4))
+unfolding strobed_input input_of
 a-takes w = of-a w (bit_of w 4)
 
-pub a-gives : (w : ℕ) → strobedOutput w A ≡ (bit_of w 6 || (bit_of w 5 && not (bit_of w 4)))
-unfolding strobedOutput input_of
+pub a-gives : (w : ℕ) → strobed_output w A ≡ (bit_of w 6 || (bit_of w 5 && not (bit_of w 4)))
+unfolding strobed_output input_of
 a-gives w = of-a w (not (bit_of w 4))
 
-pub b-takes : (w : ℕ) → strobedInput w B ≡ (bit_of w 2 && bit_of w 1)
-unfolding strobedInput input_of
+pub b-takes : (w : ℕ) → strobed_input w B ≡ (bit_of w 2 && bit_of w 1)
+unfolding strobed_input input_of
 b-takes w = of-b w (bit_of w 1)
 
-pub b-gives : (w : ℕ) → strobedOutput w B ≡ (bit_of w 2 && not (bit_of w 1))
-unfolding strobedOutput input_of
+pub b-gives : (w : ℕ) → strobed_output w B ≡ (bit_of w 2 && not (bit_of w 1))
+unfolding strobed_output input_of
 b-gives w = of-b w (not (bit_of w 1))

@@ -4,13 +4,13 @@ use mathlib.Core.Path.{◌≡◌}
 use mathlib.Core.Bool.{true}
 use Prim.Native.Nat.{ℕ}
 use Rattle.control.specs.declared.Group.{Group}
-use Rattle.control.specs.Mode.{mode_of, strobedInput, strobedOutput, outputOf}
+use Rattle.control.specs.Mode.{mode_of, strobed_input, strobed_output, output_of}
 
 pub record BothWays (w : ℕ) (g : Group) : Type 0 where
-  pub taking : strobedInput w g ≡ true
-  pub giving : strobedOutput w g ≡ true
-  pub storing : outputOf w g ≡ true
+  pub taking : strobed_input w g ≡ true
+  pub giving : strobed_output w g ≡ true
+  pub storing : output_of w g ≡ true
 
 pub mode-2-both-ways : (w : ℕ) (g : Group) → mode_of w g ≡ 2 → BothWays w g
-unfolding strobedInput strobedOutput outputOf
+unfolding strobed_input strobed_output output_of
 mode-2-both-ways w g two = record { taking = rw two; giving = rw two; storing = rw two }

@@ -7,16 +7,16 @@ use native.Mathlib.Omega.{arith}
 use Rattle.bits.specs.Bit.{bit_of}
 use Rattle.control.specs.declared.word.Control.{Control}
 use Rattle.control.specs.declared.word.Control.TheVariants.{Mode, Bit}
-use Rattle.control.specs.Word.{controlOf}
+use Rattle.control.specs.Word.{control_of}
 
-abbrev pinOf : Control → ℕ
-pinOf (Mode w) = 0
-pinOf (Bit n v) = n
+abbrev pin_of : Control → ℕ
+pin_of (Mode w) = 0
+pin_of (Bit n v) = n
 
-below : (mode : Bool) (d : ℕ) → pinOf (cond mode (Mode d) (Bit (d / 2 % 8) (bit_of d 0))) < 8
+below : (mode : Bool) (d : ℕ) → pin_of (cond mode (Mode d) (Bit (d / 2 % 8) (bit_of d 0))) < 8
 below true d = omega arith
 below false d = omega arith
 
-pub pin-named : (d n : ℕ) (v : Bool) → controlOf d ≡ Bit n v → n < 8
-unfolding controlOf
-pin-named d n v e = subst (λ (k : ℕ). k < 8) (ap pinOf e) (below (bit_of d 7) d)
+pub pin-named : (d n : ℕ) (v : Bool) → control_of d ≡ Bit n v → n < 8
+unfolding control_of
+pin-named d n v e = subst (λ (k : ℕ). k < 8) (ap pin_of e) (below (bit_of d 7) d)

@@ -11,7 +11,7 @@ use Rattle.bits.proofs.Logic.{both}
 use Rattle.bits.proofs.Tested.{bits}
 use Rattle.control.specs.declared.Group.{Group}
 use Rattle.control.specs.declared.Group.TheVariants.{A, B}
-use Rattle.control.specs.Mode.{mode_of, input_of, strobedInput, strobedOutput, outputOf}
+use Rattle.control.specs.Mode.{mode_of, input_of, strobed_input, strobed_output, output_of}
 use Rattle.control.proofs.AsByte.{as_byte}
 
 pub mode-below-3 : (w : ℕ) (g : Group) → mode_of w g < 3
@@ -22,29 +22,29 @@ mode-below-3 w g = rw (← (as_byte w).mode g) (ltb-true _ _ (of-byte g (w % 256
     of-byte A = bits 256 (λ w. ltb (mode_of w A) 3) (λ w. true) tt
     of-byte B = bits 256 (λ w. ltb (mode_of w B) 3) (λ w. true) tt
 
-pub mode-0-takes : (w : ℕ) (g : Group) → mode_of w g ≡ 0 → strobedInput w g ≡ false
-unfolding strobedInput
+pub mode-0-takes : (w : ℕ) (g : Group) → mode_of w g ≡ 0 → strobed_input w g ≡ false
+unfolding strobed_input
 mode-0-takes w g zero = rw zero
 
-pub mode-0-gives : (w : ℕ) (g : Group) → mode_of w g ≡ 0 → strobedOutput w g ≡ false
-unfolding strobedOutput
+pub mode-0-gives : (w : ℕ) (g : Group) → mode_of w g ≡ 0 → strobed_output w g ≡ false
+unfolding strobed_output
 mode-0-gives w g zero = rw zero
 
-pub mode-1-takes : (w : ℕ) (g : Group) → mode_of w g ≡ 1 → strobedInput w g ≡ input_of w g
-unfolding strobedInput
+pub mode-1-takes : (w : ℕ) (g : Group) → mode_of w g ≡ 1 → strobed_input w g ≡ input_of w g
+unfolding strobed_input
 mode-1-takes w g one = rw one
 
-pub mode-1-gives : (w : ℕ) (g : Group) → mode_of w g ≡ 1 → strobedOutput w g ≡ not (input_of w g)
-unfolding strobedOutput
+pub mode-1-gives : (w : ℕ) (g : Group) → mode_of w g ≡ 1 → strobed_output w g ≡ not (input_of w g)
+unfolding strobed_output
 mode-1-gives w g one = rw one
 
 -- But for mode 2 a port is an output by its direction.
-pub output-by-direction : (w : ℕ) (g : Group) → ¬ (mode_of w g ≡ 2) → outputOf w g ≡ not (input_of w g)
-unfolding outputOf
+pub output-by-direction : (w : ℕ) (g : Group) → ¬ (mode_of w g ≡ 2) → output_of w g ≡ not (input_of w g)
+unfolding output_of
 output-by-direction w g other = rw (ne_eqb (mode_of w g) 2 other)
 
-pub giving-is-output : (w : ℕ) (g : Group) → strobedOutput w g ≡ true → outputOf w g ≡ true
-unfolding strobedOutput outputOf
+pub giving-is-output : (w : ℕ) (g : Group) → strobed_output w g ≡ true → output_of w g ≡ true
+unfolding strobed_output output_of
 giving-is-output w g on = go (eqb (mode_of w g) 2) (eqb (mode_of w g) 1) (input_of w g) on
   where
     go : (two one input : Bool) → (two || (one && not input)) ≡ true → (two || not input) ≡ true

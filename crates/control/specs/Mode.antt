@@ -16,25 +16,25 @@ input_of w A = bit_of w 4
 input_of w B = bit_of w 1
 
 -- The upper half of port C, where it is free, is an input by bit 3.
-unfoldable pub upperInput : ℕ → Bool
-upperInput w = bit_of w 3
+unfoldable pub upper_input : ℕ → Bool
+upper_input w = bit_of w 3
 
 -- The lower half of port C, where it is free, is an input by bit 0.
-unfoldable pub lowerInput : ℕ → Bool
-lowerInput w = bit_of w 0
+unfoldable pub lower_input : ℕ → Bool
+lower_input w = bit_of w 0
 
 -- The four directions side by side, as a row of the mode 0 chart lists them.
-abbrev pub directionsOf : ℕ → Directions
-directionsOf w = record { a = input_of w A; upper = upperInput w; b = input_of w B; lower = lowerInput w }
+abbrev pub directions_of : ℕ → Directions
+directions_of w = record { a = input_of w A; upper = upper_input w; b = input_of w B; lower = lower_input w }
 
 -- The port takes bytes in by STB: mode 1 with the port an input, and mode 2 ("Port C roles").
-unfoldable pub strobedInput : ℕ → Group → Bool
-strobedInput w g = eqb (mode_of w g) 2 || (eqb (mode_of w g) 1 && input_of w g)
+unfoldable pub strobed_input : ℕ → Group → Bool
+strobed_input w g = eqb (mode_of w g) 2 || (eqb (mode_of w g) 1 && input_of w g)
 
 -- The port gives bytes out by ACK: mode 1 with the port an output, and mode 2 ("Port C roles").
-unfoldable pub strobedOutput : ℕ → Group → Bool
-strobedOutput w g = eqb (mode_of w g) 2 || (eqb (mode_of w g) 1 && not (input_of w g))
+unfoldable pub strobed_output : ℕ → Group → Bool
+strobed_output w g = eqb (mode_of w g) 2 || (eqb (mode_of w g) 1 && not (input_of w g))
 
 -- The port is an output: mode 0 or 1 with the direction output, and mode 2 ("Writes and bit set/reset").
-unfoldable pub outputOf : ℕ → Group → Bool
-outputOf w g = eqb (mode_of w g) 2 || not (input_of w g)
+unfoldable pub output_of : ℕ → Group → Bool
+output_of w g = eqb (mode_of w g) 2 || not (input_of w g)

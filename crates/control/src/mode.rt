@@ -1,6 +1,6 @@
 // The modes and directions that a mode word sets up. Bit 7 counts as set, and is not looked at.
 ghost use Rattle.std.specs.Prelude.{◌≡◌};
-ghost use Rattle.control.specs.Mode.{mode_of, directionsOf, strobedInput, strobedOutput, outputOf};
+ghost use Rattle.control.specs.Mode.{mode_of, directions_of, strobed_input, strobed_output, output_of};
 
 use super::{Directions, Group};
 
@@ -20,7 +20,7 @@ pub fn mode(word: u8, group: Group) -> u8
 
 // Whether port A, the upper half of C, port B and the lower half of C are set to input.
 pub fn directions(word: u8) -> Directions
-    ensures { result ≡ directionsOf word }
+    ensures { result ≡ directions_of word }
 {
     Directions {
         a: bits::bit(word, 4),
@@ -32,7 +32,7 @@ pub fn directions(word: u8) -> Directions
 
 // Whether the group's port takes bytes in by STB.
 pub fn strobed_input(word: u8, group: Group) -> bool
-    ensures { result ≡ strobedInput word group }
+    ensures { result ≡ strobed_input word group }
 {
     match group {
         Group::A => (word & 0x40 == 0x40) | (word & 0x30 == 0x30),
@@ -42,7 +42,7 @@ pub fn strobed_input(word: u8, group: Group) -> bool
 
 // Whether the group's port gives bytes out by ACK.
 pub fn strobed_output(word: u8, group: Group) -> bool
-    ensures { result ≡ strobedOutput word group }
+    ensures { result ≡ strobed_output word group }
 {
     match group {
         Group::A => (word & 0x40 == 0x40) | (word & 0x30 == 0x20),
@@ -52,7 +52,7 @@ pub fn strobed_output(word: u8, group: Group) -> bool
 
 // Whether the group's port is an output, so that it stores what is written to it.
 pub fn output(word: u8, group: Group) -> bool
-    ensures { result ≡ outputOf word group }
+    ensures { result ≡ output_of word group }
 {
     match group {
         Group::A => (word & 0x40 == 0x40) | (word & 0x10 == 0),

@@ -1,6 +1,6 @@
 // A byte written to the control address: a mode word, or the setting of one pin of port C.
 ghost use Rattle.std.specs.Prelude.{◌≡◌};
-ghost use Rattle.control.specs.Word.{controlOf};
+ghost use Rattle.control.specs.Word.{control_of};
 
 // A mode word, or a pin and the value that it is put to.
 #[derive(Drop)]
@@ -11,7 +11,7 @@ pub enum Control {
 
 // What a byte written to the control address says: bit 7 chooses; the pin stands in bits 3 to 1, and its value in bit 0.
 pub fn decode(byte: u8) -> Control
-    ensures { result ≡ controlOf byte }
+    ensures { result ≡ control_of byte }
 {
     if bits::bit(byte, 7) {
         Control::Mode(byte)

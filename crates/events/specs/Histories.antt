@@ -4,14 +4,14 @@ use Rattle.events.specs.Kinds as kinds
 use Rattle.events.specs.Event.{Event, event}
 
 -- The end of a cycle, a whole write, outside levels, and the beginning of a read.
-abbrev pub cycleEnd : List Event
-cycleEnd = event kinds.endCycle 0 0 ∷ []
+abbrev pub cycle_end : List Event
+cycle_end = event kinds.end_cycle 0 0 ∷ []
 
 abbrev pub write : ℕ → ℕ → List Event
-write a d = event kinds.beginWrite a d ∷ cycleEnd
+write a d = event kinds.begin_write a d ∷ cycle_end
 
 abbrev pub levels : ℕ → ℕ → List Event
-levels p d = event kinds.outsideLevels p d ∷ []
+levels p d = event kinds.outside_levels p d ∷ []
 
-abbrev pub readFrom : ℕ → List Event
-readFrom a = event kinds.beginRead a 0 ∷ []
+abbrev pub read_from : ℕ → List Event
+read_from a = event kinds.begin_read a 0 ∷ []

@@ -5,30 +5,30 @@ use Rattle.std.specs.Prelude.{Bool, cond, not, ◌||◌, ℕ, eqb}
 abbrev pub reset : ℕ
 reset = 0
 
-abbrev pub beginRead : ℕ
-beginRead = 1
+abbrev pub begin_read : ℕ
+begin_read = 1
 
-abbrev pub endCycle : ℕ
-endCycle = 2
+abbrev pub end_cycle : ℕ
+end_cycle = 2
 
-abbrev pub beginWrite : ℕ
-beginWrite = 3
+abbrev pub begin_write : ℕ
+begin_write = 3
 
-abbrev pub outsideLevels : ℕ
-outsideLevels = 5
+abbrev pub outside_levels : ℕ
+outside_levels = 5
 
 -- There is such a kind.
-unfoldable pub isKind : ℕ → Bool
-isKind k = eqb k reset || (eqb k beginRead || (eqb k endCycle || (eqb k beginWrite || eqb k outsideLevels)))
+unfoldable pub is_kind : ℕ → Bool
+is_kind k = eqb k reset || (eqb k begin_read || (eqb k end_cycle || (eqb k begin_write || eqb k outside_levels)))
 
 -- Or there is none.
-abbrev pub noKind : ℕ → Bool
-noKind k = not (isKind k)
+abbrev pub no_kind : ℕ → Bool
+no_kind k = not (is_kind k)
 
 -- How many operands a kind has: the beginning of a read an address, that of a write an address and a byte, levels a port and these.
-unfoldable pub operandsOf : ℕ → ℕ
-operandsOf k = cond (eqb k beginRead) 1 (cond (eqb k beginWrite || eqb k outsideLevels) 2 0)
+unfoldable pub operands_of : ℕ → ℕ
+operands_of k = cond (eqb k begin_read) 1 (cond (eqb k begin_write || eqb k outside_levels) 2 0)
 
 -- The kinds that begin a cycle.
 abbrev pub begins : ℕ → Bool
-begins k = eqb k beginRead || eqb k beginWrite
+begins k = eqb k begin_read || eqb k begin_write

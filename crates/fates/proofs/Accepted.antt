@@ -7,11 +7,11 @@ use native.Mathlib.Omega.{arith}
 use lib.Dec.{eqb, ltb}
 use borrow.Author.Tests.{ltb-true, lt-ltb, eqb-true, eqb-false}
 use Rattle.bits.proofs.Logic.{contrary}
-use Rattle.events.specs.Kinds.{isKind, noKind}
+use Rattle.events.specs.Kinds.{is_kind, no_kind}
 use Rattle.events.proofs.ByKind.{by_kind, no_row}
 use Rattle.events.specs.Event.{Event, event}
-use Rattle.bus.specs.Device.{afterIn, byteIn}
-use Rattle.bus.specs.Refusals.{isBusy, number_of}
+use Rattle.bus.specs.Device.{after_in, byte_in}
+use Rattle.bus.specs.Refusals.{is_busy, number_of}
 use Rattle.bus.specs.declared.Phase.{Phase}
 use Rattle.bus.specs.declared.Phase.TheVariants.{Idle, Reading, Writing}
 use Rattle.chip.specs.declared.Edition.{Edition}
@@ -20,11 +20,11 @@ use Rattle.chip.specs.declared.Chip.{Chip}
 use Rattle.step.specs.declared.Stepped.{Stepped}
 use Rattle.step.specs.Step.{readable, limits, device, accepted, refused, stepped}
 use Rattle.step.proofs.Outcome.{step-accepts, step-refuses}
-use Rattle.fates.specs.Kinds.{unknown, kind_of, free, readableAt, accepts}
+use Rattle.fates.specs.Kinds.{unknown, kind_of, free, readable_at, accepts}
 
 -- A read, by whether it can be had there and whether there is such an address, where the first asks for the second.
 read-accepts : (ph : Phase) (can there : Bool) → (can ≡ true → there ≡ true)
-    → (can && free ph) ≡ eqb (cond (not there || false) 2 (cond (not can) 3 (cond (isBusy ph) 4 0))) 0
+    → (can && free ph) ≡ eqb (cond (not there || false) 2 (cond (not can) 3 (cond (is_busy ph) 4 0))) 0
 read-accepts ph true false among = absurd (contrary false refl (among refl))
 read-accepts Idle true true among = refl
 read-accepts (Reading p) true true among = refl
@@ -33,11 +33,11 @@ read-accepts ph false true among = refl
 read-accepts ph false false among = refl
 
 begin-accepts : (ed : Edition) (ph : Phase) (x : ℕ)
-    → (readableAt ed x && free ph) ≡ eqb (cond (not (ltb x 4) || false) 2 (cond (not (ltb x (readable ed))) 3 (cond (isBusy ph) 4 0))) 0
+    → (readable_at ed x && free ph) ≡ eqb (cond (not (ltb x 4) || false) 2 (cond (not (ltb x (readable ed))) 3 (cond (is_busy ph) 4 0))) 0
 begin-accepts Older ph x = read-accepts ph (ltb x 3) (ltb x 4) (λ can. let low = ltb-true x 3 can in lt-ltb x 4 (omega (arith, low)))
 begin-accepts Newer ph x = read-accepts ph (ltb x 4) (ltb x 4) (λ can. can)
 
-write-accepts : (ph : Phase) (there : Bool) → (there && free ph) ≡ eqb (cond (not there || false) 2 (cond (isBusy ph) 4 0)) 0
+write-accepts : (ph : Phase) (there : Bool) → (there && free ph) ≡ eqb (cond (not there || false) 2 (cond (is_busy ph) 4 0)) 0
 write-accepts ph false = refl
 write-accepts Idle true = refl
 write-accepts (Reading p) true = refl
@@ -48,17 +48,17 @@ levels-accept true = refl
 levels-accept false = refl
 
 end-accepts : (ed : Edition) (ph : Phase) → not (free ph) ≡ eqb (number_of (limits ed) ph 2 0) 0
-unfolding number_of isKind
+unfolding number_of is_kind
 end-accepts ed Idle = refl
 end-accepts ed (Reading p) = refl
 end-accepts ed (Writing a d) = refl
 
 -- What is no kind is named as such.
-pub no_name : (k x d : ℕ) → noKind k ≡ true → kind_of (event k x d) ≡ unknown
+pub no_name : (k x d : ℕ) → no_kind k ≡ true → kind_of (event k x d) ≡ unknown
 no_name k x d none = no_row _ _ _ _ unknown _ k none
 
 accepts-number : (ed : Edition) (ph : Phase) (k x d : ℕ) → accepts ed ph (kind_of (event k x d)) ≡ eqb (number_of (limits ed) ph k x) 0
-unfolding number_of isKind
+unfolding number_of is_kind
 accepts-number ed ph k x d =
     by_kind (λ k. accepts ed ph (kind_of (event k x d)) ≡ eqb (number_of (limits ed) ph k x) 0)
     refl
@@ -70,7 +70,7 @@ accepts-number ed ph k x d =
     k
 
 -- What is no kind is not accepted.
-pub no-kind-accepted : (ed : Edition) (ph : Phase) (k x d : ℕ) → noKind k ≡ true → accepts ed ph (kind_of (event k x d)) ≡ true → ⊥
+pub no-kind-accepted : (ed : Edition) (ph : Phase) (k x d : ℕ) → no_kind k ≡ true → accepts ed ph (kind_of (event k x d)) ≡ true → ⊥
 no-kind-accepted ed ph k x d none ok = contrary _ (ap (accepts ed ph) (no_name k x d none)) ok
 
 -- The number of an accepted event is 0.
@@ -79,7 +79,7 @@ accepted-number ed ph k x d ok = eqb-true _ _ (sym (accepts-number ed ph k x d) 
 
 -- What holds of the result of an accepted event, and of a refusal where the event is refused, holds of any event's.
 pub by_result : (P : Stepped → Bool → Type 0) (c : Chip) (e : Event)
-    → (accepts c.edition c.phase (kind_of e) ≡ true → P (accepted (afterIn device c e.kind e.first e.second) (byteIn device c e.kind e.first)) true)
+    → (accepts c.edition c.phase (kind_of e) ≡ true → P (accepted (after_in device c e.kind e.first e.second) (byte_in device c e.kind e.first)) true)
     → ((n : ℕ) → P (refused c n) false) → P (stepped c e) (accepts c.edition c.phase (kind_of e))
 by_result P c e taken left = go (accepts c.edition c.phase (kind_of e)) refl
   where
@@ -91,6 +91,6 @@ by_result P c e taken left = go (accepts c.edition c.phase (kind_of e)) refl
 
 -- So it is with the chip that is left.
 pub by-outcome : (P : Chip → Bool → Type 0) (c : Chip) (e : Event)
-    → (accepts c.edition c.phase (kind_of e) ≡ true → P (afterIn device c e.kind e.first e.second) true) → P c false
+    → (accepts c.edition c.phase (kind_of e) ≡ true → P (after_in device c e.kind e.first e.second) true) → P c false
     → P (stepped c e).chip (accepts c.edition c.phase (kind_of e))
 by-outcome P c e taken left = by_result (λ r ok. P r.chip ok) c e taken (λ n. left)

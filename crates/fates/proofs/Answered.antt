@@ -3,57 +3,57 @@
 -- Rests on nothing.
 use mathlib.Core.Path.{◌≡◌, refl}
 use mathlib.Core.List.{◌++◌}
-use Rattle.bits.specs.Bit.{bit_of, value_of, withBit}
-use Rattle.events.specs.Kinds.{isKind}
+use Rattle.bits.specs.Bit.{bit_of, value_of, with_bit}
+use Rattle.events.specs.Kinds.{is_kind}
 use Rattle.events.specs.Event.{event}
 use Rattle.events.specs.Histories.{write, levels}
-use Rattle.bus.specs.Device.{stepIn}
+use Rattle.bus.specs.Device.{step_in}
 use Rattle.bus.specs.Refusals.{number_of}
 use Rattle.control.specs.declared.Group.TheVariants.{A}
-use Rattle.control.specs.Mode.{mode_of, input_of, upperInput, lowerInput, strobedInput, strobedOutput, outputOf}
-use Rattle.control.specs.Word.{controlOf}
-use Rattle.roles.specs.Role.{usesOf, freeRole, roleOf}
+use Rattle.control.specs.Mode.{mode_of, input_of, upper_input, lower_input, strobed_input, strobed_output, output_of}
+use Rattle.control.specs.Word.{control_of}
+use Rattle.roles.specs.Role.{uses_of, free_role, role_of}
 use Rattle.channel.specs.declared.Side.TheVariants.{Input, Output}
-use Rattle.channel.specs.Channel.{flagOf}
-use Rattle.channel.specs.Moves.{afterOffer, afterFollow, afterHandOver, afterEndRead, afterClear}
-use Rattle.chip.specs.State.{levelsBy, allHigh, powerUpWith}
-use Rattle.status.specs.Status.{requestOf, intrOf}
-use Rattle.settings.specs.ModeWord.{clearedPort, afterModeWord}
-use Rattle.settings.specs.ControlWord.{pinSet, afterControlWord}
-use Rattle.reads.specs.Read.{afterReadBegins, afterReadEnds}
-use Rattle.writes.specs.Write.{storedBy, latchWritten, afterWriteEnds}
-use Rattle.levels.specs.Levels.{fallen, edged, afterLevelsOnC, portAfterLevels, afterLevels}
-use Rattle.ports.specs.Reads.{readPort, readLines, read_of}
-use Rattle.ports.specs.Pins.{drivesPort, pinsOfPort, pinsOfLines, pinsOf}
+use Rattle.channel.specs.Channel.{flag_of}
+use Rattle.channel.specs.Moves.{after_offer, after_follow, after_hand_over, after_end_read, after_clear}
+use Rattle.chip.specs.State.{levels_by, all_high, power_up_with}
+use Rattle.status.specs.Status.{request_of, intr_of}
+use Rattle.settings.specs.ModeWord.{cleared_port, after_mode_word}
+use Rattle.settings.specs.ControlWord.{pin_set, after_control_word}
+use Rattle.reads.specs.Read.{after_read_begins, after_read_ends}
+use Rattle.writes.specs.Write.{stored_by, latch_written, after_write_ends}
+use Rattle.levels.specs.Levels.{fallen, edged, after_levels_on_c, port_after_levels, after_levels}
+use Rattle.ports.specs.Reads.{read_port, read_lines, read_of}
+use Rattle.ports.specs.Pins.{drives_port, pins_of_port, pins_of_lines, pins_of}
 use Rattle.step.specs.Step.{step_of}
 use Rattle.fates.specs.Promise.{Shows, run, tallies}
-use Rattle.fates.specs.Examples.{lostBale, inAndWritten, tooLate, baleTally, beforeAck}
+use Rattle.fates.specs.Examples.{lost_bale, in_and_written, too_late, bale_tally, before_ack}
 
 -- The lost digit is counted as swallowed.
-pub bale-counted : tallies A Input (powerUpWith allHigh) lostBale ≡ baleTally
-unfolding bit_of value_of withBit mode_of input_of upperInput lowerInput strobedInput strobedOutput outputOf controlOf usesOf freeRole roleOf flagOf afterOffer afterFollow afterHandOver afterEndRead afterClear requestOf intrOf clearedPort afterModeWord pinSet afterControlWord afterReadBegins afterReadEnds storedBy latchWritten afterWriteEnds fallen edged afterLevelsOnC portAfterLevels afterLevels readPort readLines read_of drivesPort pinsOfPort pinsOfLines pinsOf number_of isKind step_of stepIn
+pub bale-counted : tallies A Input (power_up_with all_high) lost_bale ≡ bale_tally
+unfolding bit_of value_of with_bit mode_of input_of upper_input lower_input strobed_input strobed_output output_of control_of uses_of free_role role_of flag_of after_offer after_follow after_hand_over after_end_read after_clear request_of intr_of cleared_port after_mode_word pin_set after_control_word after_read_begins after_read_ends stored_by latch_written after_write_ends fallen edged after_levels_on_c port_after_levels after_levels read_port read_lines read_of drives_port pins_of_port pins_of_lines pins_of number_of is_kind step_of step_in
 bale-counted = refl
 
 -- The byte written in mode 2 does not show before ACK falls.
-pub not-before : pinsOf (run (powerUpWith allHigh) inAndWritten) 0 ≡ beforeAck
-unfolding bit_of value_of withBit mode_of input_of upperInput lowerInput strobedInput strobedOutput outputOf controlOf usesOf freeRole roleOf flagOf afterOffer afterFollow afterHandOver afterEndRead afterClear requestOf intrOf clearedPort afterModeWord pinSet afterControlWord afterReadBegins afterReadEnds storedBy latchWritten afterWriteEnds fallen edged afterLevelsOnC portAfterLevels afterLevels readPort readLines read_of drivesPort pinsOfPort pinsOfLines pinsOf number_of isKind step_of stepIn
+pub not-before : pins_of (run (power_up_with all_high) in_and_written) 0 ≡ before_ack
+unfolding bit_of value_of with_bit mode_of input_of upper_input lower_input strobed_input strobed_output output_of control_of uses_of free_role role_of flag_of after_offer after_follow after_hand_over after_end_read after_clear request_of intr_of cleared_port after_mode_word pin_set after_control_word after_read_begins after_read_ends stored_by latch_written after_write_ends fallen edged after_levels_on_c port_after_levels after_levels read_port read_lines read_of drives_port pins_of_port pins_of_lines pins_of number_of is_kind step_of step_in
 not-before = refl
 
 -- It shows as ACK falls.
-pub ack-shows : Shows A Output (run (powerUpWith allHigh) inAndWritten) (event 5 2 0xbf) 0x55
-unfolding bit_of value_of withBit mode_of input_of upperInput lowerInput strobedInput strobedOutput outputOf controlOf usesOf freeRole roleOf flagOf afterOffer afterFollow afterHandOver afterEndRead afterClear requestOf intrOf clearedPort afterModeWord pinSet afterControlWord afterReadBegins afterReadEnds storedBy latchWritten afterWriteEnds fallen edged afterLevelsOnC portAfterLevels afterLevels readPort readLines read_of drivesPort pinsOfPort pinsOfLines pinsOf number_of isKind step_of stepIn
+pub ack-shows : Shows A Output (run (power_up_with all_high) in_and_written) (event 5 2 0xbf) 0x55
+unfolding bit_of value_of with_bit mode_of input_of upper_input lower_input strobed_input strobed_output output_of control_of uses_of free_role role_of flag_of after_offer after_follow after_hand_over after_end_read after_clear request_of intr_of cleared_port after_mode_word pin_set after_control_word after_read_begins after_read_ends stored_by latch_written after_write_ends fallen edged after_levels_on_c port_after_levels after_levels read_port read_lines read_of drives_port pins_of_port pins_of_lines pins_of number_of is_kind step_of step_in
 ack-shows = (refl, refl)
 
 -- Levels that came too late to be a byte's are read all the same, by a read that finds none.
-pub late-levels-read : Shows A Input (run (powerUpWith allHigh) tooLate) (event 1 0 0) 0x43
-unfolding bit_of value_of withBit mode_of input_of upperInput lowerInput strobedInput strobedOutput outputOf controlOf usesOf freeRole roleOf flagOf afterOffer afterFollow afterHandOver afterEndRead afterClear requestOf intrOf clearedPort afterModeWord pinSet afterControlWord afterReadBegins afterReadEnds storedBy latchWritten afterWriteEnds fallen edged afterLevelsOnC portAfterLevels afterLevels readPort readLines read_of drivesPort pinsOfPort pinsOfLines pinsOf number_of isKind step_of stepIn
+pub late-levels-read : Shows A Input (run (power_up_with all_high) too_late) (event 1 0 0) 0x43
+unfolding bit_of value_of with_bit mode_of input_of upper_input lower_input strobed_input strobed_output output_of control_of uses_of free_role role_of flag_of after_offer after_follow after_hand_over after_end_read after_clear request_of intr_of cleared_port after_mode_word pin_set after_control_word after_read_begins after_read_ends stored_by latch_written after_write_ends fallen edged after_levels_on_c port_after_levels after_levels read_port read_lines read_of drives_port pins_of_port pins_of_lines pins_of number_of is_kind step_of step_in
 late-levels-read = (refl, refl)
 
 -- A mode word that finds STB low leaves 00 in the latch, and the levels that stood there already, put once more, go through to it.
-pub zero-at-first : Shows A Input (run (powerUpWith (levelsBy 0x41 0 0)) (write 3 0xb0)) (event 1 0 0) 0
-unfolding bit_of value_of withBit mode_of input_of upperInput lowerInput strobedInput strobedOutput outputOf controlOf usesOf freeRole roleOf flagOf afterOffer afterFollow afterHandOver afterEndRead afterClear requestOf intrOf clearedPort afterModeWord pinSet afterControlWord afterReadBegins afterReadEnds storedBy latchWritten afterWriteEnds fallen edged afterLevelsOnC portAfterLevels afterLevels readPort readLines read_of drivesPort pinsOfPort pinsOfLines pinsOf number_of isKind step_of stepIn
+pub zero-at-first : Shows A Input (run (power_up_with (levels_by 0x41 0 0)) (write 3 0xb0)) (event 1 0 0) 0
+unfolding bit_of value_of with_bit mode_of input_of upper_input lower_input strobed_input strobed_output output_of control_of uses_of free_role role_of flag_of after_offer after_follow after_hand_over after_end_read after_clear request_of intr_of cleared_port after_mode_word pin_set after_control_word after_read_begins after_read_ends stored_by latch_written after_write_ends fallen edged after_levels_on_c port_after_levels after_levels read_port read_lines read_of drives_port pins_of_port pins_of_lines pins_of number_of is_kind step_of step_in
 zero-at-first = (refl, refl)
 
-pub same-levels-go-through : Shows A Input (run (powerUpWith (levelsBy 0x41 0 0)) (write 3 0xb0 ++ levels 0 0x41)) (event 1 0 0) 0x41
-unfolding bit_of value_of withBit mode_of input_of upperInput lowerInput strobedInput strobedOutput outputOf controlOf usesOf freeRole roleOf flagOf afterOffer afterFollow afterHandOver afterEndRead afterClear requestOf intrOf clearedPort afterModeWord pinSet afterControlWord afterReadBegins afterReadEnds storedBy latchWritten afterWriteEnds fallen edged afterLevelsOnC portAfterLevels afterLevels readPort readLines read_of drivesPort pinsOfPort pinsOfLines pinsOf number_of isKind step_of stepIn
+pub same-levels-go-through : Shows A Input (run (power_up_with (levels_by 0x41 0 0)) (write 3 0xb0 ++ levels 0 0x41)) (event 1 0 0) 0x41
+unfolding bit_of value_of with_bit mode_of input_of upper_input lower_input strobed_input strobed_output output_of control_of uses_of free_role role_of flag_of after_offer after_follow after_hand_over after_end_read after_clear request_of intr_of cleared_port after_mode_word pin_set after_control_word after_read_begins after_read_ends stored_by latch_written after_write_ends fallen edged after_levels_on_c port_after_levels after_levels read_port read_lines read_of drives_port pins_of_port pins_of_lines pins_of number_of is_kind step_of step_in
 same-levels-go-through = (refl, refl)

@@ -12,14 +12,14 @@ use Rattle.channel.specs.declared.Side.{Side}
 use Rattle.channel.specs.declared.Side.TheVariants.{Input, Output}
 use Rattle.channel.specs.declared.Fill.{Fill}
 use Rattle.channel.specs.declared.Tally.{Tally}
-use Rattle.channel.specs.Channel.{isWaiting}
+use Rattle.channel.specs.Channel.{is_waiting}
 use Rattle.chip.specs.declared.Edition.{Edition}
 use Rattle.chip.specs.declared.Chip.{Chip}
 use Rattle.chip.specs.declared.Levels.{Levels}
-use Rattle.chip.specs.State.{powerUpAs, channelOf, tally_of}
+use Rattle.chip.specs.State.{power_up_as, channel_of, tally_of}
 use Rattle.fates.specs.Effects.{effects}
-use Rattle.fates.specs.Bytes.{offeredAt}
-use Rattle.fates.specs.Promise.{run, tallies, surroundingsOf, newBytes, Balanced, SixteenBits}
+use Rattle.fates.specs.Bytes.{offered_at}
+use Rattle.fates.specs.Promise.{run, tallies, surroundings_of, new_bytes, Balanced, SixteenBits}
 use Rattle.fates.proofs.Story.{with-held}
 use Rattle.fates.proofs.Demand.{none-counted, fates-from}
 
@@ -37,7 +37,7 @@ six-parts a b c d e w =
 
 -- Tallies that balance do so too when they have gone on by counts of bytes that do.
 counted-on : (t : Tally) (f f' : Fill) (offered planted handed overwritten swallowed cleared struck : ℕ) → Balanced t f
-    → num (isWaiting f) + (offered + planted) ≡ handed + overwritten + swallowed + cleared + struck + num (isWaiting f')
+    → num (is_waiting f) + (offered + planted) ≡ handed + overwritten + swallowed + cleared + struck + num (is_waiting f')
     → Balanced
     (record {
       offered = (t.offered + offered) % 65536;
@@ -55,24 +55,24 @@ counted-on t f f' offered planted handed overwritten swallowed cleared struck be
     let s = t.swallowed + swallowed in
     let c = t.cleared + cleared in
     let k = t.struck + struck in
-    let sums : (t.offered + offered + (t.planted + planted)) % 65536 ≡ (h + o + s + c + k + num (isWaiting f')) % 65536 = omega (arith, before, counts) in
-    sym (two-parts (t.offered + offered) (t.planted + planted)) ∙ sums ∙ six-parts h o s c k (num (isWaiting f'))
+    let sums : (t.offered + offered + (t.planted + planted)) % 65536 ≡ (h + o + s + c + k + num (is_waiting f')) % 65536 = omega (arith, before, counts) in
+    sym (two-parts (t.offered + offered) (t.planted + planted)) ∙ sums ∙ six-parts h o s c k (num (is_waiting f'))
 
 -- From any chip whose tallies have sixteen bits and balance: no event, and so no history, puts them out of balance.
-pub stays-balanced : (g : Group) (s : Side) (c : Chip) → SixteenBits (tally_of c g s) → Balanced (tally_of c g s) (channelOf c.core g s).fill
-    → (es : List Event) → Balanced (tallies g s c es) (channelOf (run c es).core g s).fill
+pub stays-balanced : (g : Group) (s : Side) (c : Chip) → SixteenBits (tally_of c g s) → Balanced (tally_of c g s) (channel_of c.core g s).fill
+    → (es : List Event) → Balanced (tallies g s c es) (channel_of (run c es).core g s).fill
 stays-balanced g s c small before es =
     let k = fates-from g s c small es in
-    let ch = channelOf c.core g s in
-    let held = with-held ch.fill (offeredAt 0 ch.latch) 1 (effects g s (surroundingsOf c) es) (newBytes g s c es) in
-    rw (k.tallyOffered, k.tallyHanded, k.tallyOverwritten, k.tallySwallowed, k.tallyCleared, k.tallyPlanted, k.tallyStruck)
-    (counted-on ch.tally ch.fill (channelOf (run c es).core g s).fill _ _ _ _ _ _ _ before
-    (rw (← k.waitsInTheChip, ← k.offeredOrPlanted) (sym held ∙ k.oneFateEach)))
+    let ch = channel_of c.core g s in
+    let held = with-held ch.fill (offered_at 0 ch.latch) 1 (effects g s (surroundings_of c) es) (new_bytes g s c es) in
+    rw (k.tally_offered, k.tally_handed, k.tally_overwritten, k.tally_swallowed, k.tally_cleared, k.tally_planted, k.tally_struck)
+    (counted-on ch.tally ch.fill (channel_of (run c es).core g s).fill _ _ _ _ _ _ _ before
+    (rw (← k.waits_in_the_chip, ← k.offered_or_planted) (sym held ∙ k.one_fate_each)))
 
 -- From power-up, whatever the edition and the levels.
 pub balanced : (g : Group) (s : Side) (ed : Edition) (l : Levels) (es : List Event)
-    → Balanced (tallies g s (powerUpAs ed l) es) (channelOf (run (powerUpAs ed l) es).core g s).fill
-balanced A Input ed l es = stays-balanced A Input (powerUpAs ed l) none-counted refl es
-balanced A Output ed l es = stays-balanced A Output (powerUpAs ed l) none-counted refl es
-balanced B Input ed l es = stays-balanced B Input (powerUpAs ed l) none-counted refl es
-balanced B Output ed l es = stays-balanced B Output (powerUpAs ed l) none-counted refl es
+    → Balanced (tallies g s (power_up_as ed l) es) (channel_of (run (power_up_as ed l) es).core g s).fill
+balanced A Input ed l es = stays-balanced A Input (power_up_as ed l) none-counted refl es
+balanced A Output ed l es = stays-balanced A Output (power_up_as ed l) none-counted refl es
+balanced B Input ed l es = stays-balanced B Input (power_up_as ed l) none-counted refl es
+balanced B Output ed l es = stays-balanced B Output (power_up_as ed l) none-counted refl es

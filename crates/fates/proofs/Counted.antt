@@ -13,26 +13,26 @@ use Rattle.channel.specs.declared.Side.{Side}
 use Rattle.channel.specs.declared.Fill.{Fill}
 use Rattle.channel.specs.declared.Fill.TheVariants.{Empty, Waiting, Fetching}
 use Rattle.channel.specs.declared.Tally.{Tally}
-use Rattle.channel.specs.Channel.{isWaiting, next}
+use Rattle.channel.specs.Channel.{is_waiting, next}
 use Rattle.chip.specs.declared.Chip.{Chip}
 use Rattle.chip.specs.State.{tally_of}
-use Rattle.fates.specs.Surroundings.{surroundingsNext}
+use Rattle.fates.specs.Surroundings.{surroundings_next}
 use Rattle.fates.specs.Effects.{Effect, effects}
 use Rattle.fates.specs.Left.{left}
-use Rattle.fates.specs.Bytes.{Fate, handedOver, overwritten, swallowed, cleared, struck, waiting, Offer, Byte, bytes, plantedAmong, offeredAmong, same, count}
-use Rattle.fates.specs.Promise.{run, tallies, surroundingsOf}
-use Rattle.fates.proofs.Shapes.{Shape, shape_of, fateBy, fillAfter, isOffer, isPlant, gives, heldAfter}
+use Rattle.fates.specs.Bytes.{Fate, handed_over, overwritten, swallowed, cleared, struck, waiting, Offer, Byte, bytes, planted_among, offered_among, same, count}
+use Rattle.fates.specs.Promise.{run, tallies, surroundings_of}
+use Rattle.fates.proofs.Shapes.{Shape, shape_of, fate_by, fill_after, is_offer, is_plant, gives, held_after}
 use Rattle.fates.proofs.Story.{story, fated, decided, by-decided, offers-counted, plants-counted}
-use Rattle.fates.proofs.Moved.{tallyFor}
+use Rattle.fates.proofs.Moved.{tally_for}
 use Rattle.fates.proofs.SurroundingsKept.{surroundings-next}
-use Rattle.fates.proofs.Followed.{after, fill, effectIn, shapeIn, storyOf, next-fill, next-tally, next-offered, next-planted, story-next}
+use Rattle.fates.proofs.Followed.{after, fill, effect_in, shape_in, story_of, next-fill, next-tally, next-offered, next-planted, story-next}
 
 -- The six counts share the bytes out.
 shared : (f : Fate) (a b c d e w : ℕ)
     → suc (a + b + c + d + e + w)
-    ≡ (num (same handedOver f) + a) + (num (same overwritten f) + b) + (num (same swallowed f) + c)
+    ≡ (num (same handed_over f) + a) + (num (same overwritten f) + b) + (num (same swallowed f) + c)
     + (num (same cleared f) + d) + (num (same struck f) + e) + (num (same waiting f) + w)
-shared handedOver a b c d e w = omega arith
+shared handed_over a b c d e w = omega arith
 shared overwritten a b c d e w = omega arith
 shared swallowed a b c d e w = omega arith
 shared cleared a b c d e w = omega arith
@@ -40,25 +40,25 @@ shared struck a b c d e w = omega arith
 shared waiting a b c d e w = omega arith
 
 pub one-fate-each : (bs : List Byte)
-    → length bs ≡ count handedOver bs + count overwritten bs + count swallowed bs + count cleared bs + count struck bs + count waiting bs
+    → length bs ≡ count handed_over bs + count overwritten bs + count swallowed bs + count cleared bs + count struck bs + count waiting bs
 one-fate-each [] = refl
 one-fate-each (b ∷ bs) =
     ap suc (one-fate-each bs)
-    ∙ shared b.outcome.fate (count handedOver bs) (count overwritten bs) (count swallowed bs) (count cleared bs) (count struck bs) (count waiting bs)
+    ∙ shared b.outcome.fate (count handed_over bs) (count overwritten bs) (count swallowed bs) (count cleared bs) (count struck bs) (count waiting bs)
 
 -- Each is offered or planted.
-pub offered-or-planted : (bs : List Byte) → length bs ≡ offeredAmong bs + plantedAmong bs
+pub offered-or-planted : (bs : List Byte) → length bs ≡ offered_among bs + planted_among bs
 offered-or-planted [] = refl
 offered-or-planted (b ∷ bs) = ap suc (offered-or-planted bs) ∙ go b.offer.planted
   where
-    go : (planted : Bool) → suc (offeredAmong bs + plantedAmong bs) ≡ (num (not planted) + offeredAmong bs) + (num planted + plantedAmong bs)
+    go : (planted : Bool) → suc (offered_among bs + planted_among bs) ≡ (num (not planted) + offered_among bs) + (num planted + planted_among bs)
     go true = omega arith
     go false = omega arith
 
 -- A tally goes on by one where one byte is counted.
-goes_on : (on : Bool) (t m : ℕ) → (next on t + m) % 65536 ≡ (t + (num on + m)) % 65536
-goes_on true t m = omega arith
-goes_on false t m = ap (λ k. (t + k) % 65536) (omega arith)
+goes-on : (on : Bool) (t m : ℕ) → (next on t + m) % 65536 ≡ (t + (num on + m)) % 65536
+goes-on true t m = omega arith
+goes-on false t m = ap (λ k. (t + k) % 65536) (omega arith)
 
 stays-small : (on : Bool) (t : ℕ) → t < 65536 → next on t < 65536
 stays-small true t h = omega arith
@@ -70,7 +70,7 @@ pub count-decided : (x : Fate) → same x waiting ≡ false → (f : Fill) (h : 
 unfolding fated
 count-decided x tallied f h n d bs =
     by-decided (λ f d l. count x (l ++ bs) ≡ num (gives x f d) + count x bs) h n
-    (λ f d none. rw (none x tallied) (omega arith)) (λ d decisive. rw (and-true (same x (fateBy d)))) f d
+    (λ f d none. rw (none x tallied) (omega arith)) (λ d decisive. rw (and-true (same x (fate_by d)))) f d
 
 pub none_yet : (f : Fate) → same f waiting ≡ false → (s : Side) (fill : Fill) (h : Offer) (n : ℕ) → count f (story s fill h n []) ≡ 0
 none_yet f tallied s Empty h n = refl
@@ -78,7 +78,7 @@ none_yet f tallied s Waiting h n = rw (tallied)
 none_yet f tallied s Fetching h n = refl
 
 -- A byte that waits is the one that is held, and nothing that is decided waits.
-waits-now : (s : Side) (fill : Fill) (h : Offer) (n : ℕ) → count waiting (story s fill h n []) ≡ num (isWaiting fill)
+waits-now : (s : Side) (fill : Fill) (h : Offer) (n : ℕ) → count waiting (story s fill h n []) ≡ num (is_waiting fill)
 waits-now s Empty h n = refl
 waits-now s Waiting h n = refl
 waits-now s Fetching h n = refl
@@ -90,59 +90,59 @@ none-decided-waits f h n d bs =
 
 module _ (g : Group) (s : Side) where
   -- What the channel holds after an event at place n.
-  abbrev heldNext : Chip → Event → Offer → ℕ → Offer
-  heldNext c e h n = heldAfter s (fill g s c) h n (shapeIn g s c e)
+  abbrev held_next : Chip → Event → Offer → ℕ → Offer
+  held_next c e h n = held_after s (fill g s c) h n (shape_in g s c e)
 
-  pub tally-counts : (f : Fate) → same f waiting ≡ false → (c : Chip) (h : Offer) (n : ℕ) (es : List Event) → tallyFor f (tally_of c g s) < 65536
-      → tallyFor f (tallies g s c es) ≡ (tallyFor f (tally_of c g s) + count f (storyOf g s c h n es)) % 65536
+  pub tally-counts : (f : Fate) → same f waiting ≡ false → (c : Chip) (h : Offer) (n : ℕ) (es : List Event) → tally_for f (tally_of c g s) < 65536
+      → tally_for f (tallies g s c es) ≡ (tally_for f (tally_of c g s) + count f (story_of g s c h n es)) % 65536
   tally-counts f tallied c h n [] small = rw (none_yet f tallied s (fill g s c) h n) (omega (arith, small))
   tally-counts f tallied c h n (e ∷ es) small =
-      let d = shapeIn g s c e in
+      let d = shape_in g s c e in
       let on = gives f (fill g s c) d in
-      let t = tallyFor f (tally_of c g s) in
-      let rest = storyOf g s (after c e) (heldNext c e h n) (suc n) es in
-      tally-counts f tallied (after c e) (heldNext c e h n) (suc n) es (rw (next-tally g s c e f tallied) (stays-small on t small))
-      ∙ rw (next-tally g s c e f tallied) (goes_on on t (count f rest))
+      let t = tally_for f (tally_of c g s) in
+      let rest = story_of g s (after c e) (held_next c e h n) (suc n) es in
+      tally-counts f tallied (after c e) (held_next c e h n) (suc n) es (rw (next-tally g s c e f tallied) (stays-small on t small))
+      ∙ rw (next-tally g s c e f tallied) (goes-on on t (count f rest))
       ∙ ap (λ k. (t + k) % 65536) (sym (ap (count f) (story-next g s c e h n es) ∙ count-decided f tallied (fill g s c) h n d rest))
 
   -- The bytes that come from the chip c on, where the latch has the value of h.
-  abbrev comingTo : Chip → Offer → ℕ → List Event → List Byte
-  comingTo c h n es = bytes s (left (fill g s c) h.value) n (effects g s (surroundingsOf c) es)
+  abbrev coming_to : Chip → Offer → ℕ → List Event → List Byte
+  coming_to c h n es = bytes s (left (fill g s c) h.value) n (effects g s (surroundings_of c) es)
 
   -- A tally goes on with the bytes that come in one of the two ways, if each effect that brings one moves it.
   module _ (among : List Byte → ℕ) (none : among [] ≡ 0) (brings : Fill → Shape → Bool) (tally : Tally → ℕ)
       (counted : (f : Fill) (h : Offer) (n : ℕ) (d : Effect) (later : List Effect)
       → among (bytes s (left f h.value) n (d ∷ later))
-      ≡ num (brings f (shape_of d)) + among (bytes s (left (fillAfter s f (shape_of d)) (heldAfter s f h n (shape_of d)).value) (suc n) later))
-      (moves : (c : Chip) (e : Event) → tally (tally_of (after c e) g s) ≡ next (brings (fill g s c) (shapeIn g s c e)) (tally (tally_of c g s))) where
+      ≡ num (brings f (shape_of d)) + among (bytes s (left (fill_after s f (shape_of d)) (held_after s f h n (shape_of d)).value) (suc n) later))
+      (moves : (c : Chip) (e : Event) → tally (tally_of (after c e) g s) ≡ next (brings (fill g s c) (shape_in g s c e)) (tally (tally_of c g s))) where
     among_next : (c : Chip) (e : Event) (h : Offer) (n : ℕ) (es : List Event)
-        → among (comingTo c h n (e ∷ es)) ≡ num (brings (fill g s c) (shapeIn g s c e)) + among (comingTo (after c e) (heldNext c e h n) (suc n) es)
+        → among (coming_to c h n (e ∷ es)) ≡ num (brings (fill g s c) (shape_in g s c e)) + among (coming_to (after c e) (held_next c e h n) (suc n) es)
     among_next c e h n es =
         rw (next-fill g s c e, surroundings-next c e)
-        (counted (fill g s c) h n (effectIn g s c e) (effects g s (surroundingsNext (surroundingsOf c) e) es))
+        (counted (fill g s c) h n (effect_in g s c e) (effects g s (surroundings_next (surroundings_of c) e) es))
 
     coming-counts : (c : Chip) (h : Offer) (n : ℕ) (es : List Event) → tally (tally_of c g s) < 65536
-        → tally (tallies g s c es) ≡ (tally (tally_of c g s) + among (comingTo c h n es)) % 65536
+        → tally (tallies g s c es) ≡ (tally (tally_of c g s) + among (coming_to c h n es)) % 65536
     coming-counts c h n [] small = rw (none) (omega (arith, small))
     coming-counts c h n (e ∷ es) small =
-        let on = brings (fill g s c) (shapeIn g s c e) in
+        let on = brings (fill g s c) (shape_in g s c e) in
         let t = tally (tally_of c g s) in
-        coming-counts (after c e) (heldNext c e h n) (suc n) es (rw (moves c e) (stays-small on t small))
-        ∙ rw (moves c e) (goes_on on t (among (comingTo (after c e) (heldNext c e h n) (suc n) es)))
+        coming-counts (after c e) (held_next c e h n) (suc n) es (rw (moves c e) (stays-small on t small))
+        ∙ rw (moves c e) (goes-on on t (among (coming_to (after c e) (held_next c e h n) (suc n) es)))
         ∙ ap (λ k. (t + k) % 65536) (sym (among_next c e h n es))
 
   pub offered-counts : (c : Chip) (h : Offer) (n : ℕ) (es : List Event) → (tally_of c g s).offered < 65536
-      → (tallies g s c es).offered ≡ ((tally_of c g s).offered + offeredAmong (comingTo c h n es)) % 65536
-  offered-counts = coming-counts offeredAmong refl (λ f d. isOffer d) (λ t. t.offered) (offers-counted s) (next-offered g s)
+      → (tallies g s c es).offered ≡ ((tally_of c g s).offered + offered_among (coming_to c h n es)) % 65536
+  offered-counts = coming-counts offered_among refl (λ f d. is_offer d) (λ t. t.offered) (offers-counted s) (next-offered g s)
 
   pub planted-counts : (c : Chip) (h : Offer) (n : ℕ) (es : List Event) → (tally_of c g s).planted < 65536
-      → (tallies g s c es).planted ≡ ((tally_of c g s).planted + plantedAmong (comingTo c h n es)) % 65536
-  planted-counts = coming-counts plantedAmong refl (isPlant s) (λ t. t.planted) (plants-counted s) (next-planted g s)
+      → (tallies g s c es).planted ≡ ((tally_of c g s).planted + planted_among (coming_to c h n es)) % 65536
+  planted-counts = coming-counts planted_among refl (is_plant s) (λ t. t.planted) (plants-counted s) (next-planted g s)
 
-  pub waits_there : (c : Chip) (h : Offer) (n : ℕ) (es : List Event) → count waiting (storyOf g s c h n es) ≡ num (isWaiting (fill g s (run c es)))
+  pub waits_there : (c : Chip) (h : Offer) (n : ℕ) (es : List Event) → count waiting (story_of g s c h n es) ≡ num (is_waiting (fill g s (run c es)))
   waits_there c h n [] = waits-now s (fill g s c) h n
   waits_there c h n (e ∷ es) =
-      let d = shapeIn g s c e in
+      let d = shape_in g s c e in
       ap (count waiting) (story-next g s c e h n es)
-      ∙ none-decided-waits (fill g s c) h n d (storyOf g s (after c e) (heldNext c e h n) (suc n) es)
-      ∙ waits_there (after c e) (heldNext c e h n) (suc n) es
+      ∙ none-decided-waits (fill g s c) h n d (story_of g s (after c e) (held_next c e h n) (suc n) es)
+      ∙ waits_there (after c e) (held_next c e h n) (suc n) es

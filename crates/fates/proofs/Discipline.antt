@@ -12,69 +12,69 @@ use Rattle.control.specs.declared.Group.{Group}
 use Rattle.channel.specs.declared.Side.TheVariants.{Input}
 use Rattle.channel.specs.declared.Fill.{Fill}
 use Rattle.channel.specs.declared.Fill.TheVariants.{Empty, Waiting, Fetching}
-use Rattle.channel.specs.Channel.{flagOf}
+use Rattle.channel.specs.Channel.{flag_of}
 use Rattle.chip.specs.declared.Chip.{Chip}
 use Rattle.laws.proofs.ChannelPins.{flag-pin}
-use Rattle.fates.specs.Surroundings.{surroundingsNext}
-use Rattle.fates.specs.Effects.{Effect, offered, followed, taken, ended, clearedAway, forcedFull, forcedEmpty, nothing, strobes}
-use Rattle.fates.specs.Bytes.{Fate, overwritten, swallowed, waiting, Offer, offeredAt, same, count}
-use Rattle.fates.specs.Promise.{surroundingsOf, newBytes, oldByte}
-use Rattle.fates.specs.Discipline.{ibf, strobedReadRuns, HasFound, Minds, Disciplined, NoneLost}
+use Rattle.fates.specs.Surroundings.{surroundings_next}
+use Rattle.fates.specs.Effects.{Effect, offered, followed, taken, ended, cleared_away, forced_full, forced_empty, nothing, strobes}
+use Rattle.fates.specs.Bytes.{Fate, overwritten, swallowed, waiting, Offer, offered_at, same, count}
+use Rattle.fates.specs.Promise.{surroundings_of, new_bytes, old_byte}
+use Rattle.fates.specs.Discipline.{ibf, strobed_read_runs, HasFound, Minds, Disciplined, NoneLost}
 use Rattle.fates.proofs.Tables.{strobes-same}
 use Rattle.fates.proofs.SurroundingsKept.{surroundings-next}
-use Rattle.fates.proofs.Shapes.{shape_of, fillAfter, gives, heldAfter}
-use Rattle.fates.proofs.Followed.{after, fill, latch, effectIn, shapeIn, storyOf, next-fill, story-next}
+use Rattle.fates.proofs.Shapes.{shape_of, fill_after, gives, held_after}
+use Rattle.fates.proofs.Followed.{after, fill, latch, effect_in, shape_in, story_of, next-fill, story-next}
 use Rattle.fates.proofs.Counted.{count-decided, none_yet}
 use Rattle.fates.proofs.ReadsRun.{Reads, reads-next}
 
 -- An effect that minds the flag loses no byte, and a read that runs after it has found one.
 record Safe (f : Fill) (r' : Bool) (d : Effect) : Type 0 where
-  notOverwritten : gives overwritten f (shape_of d) ≡ false
-  notSwallowed : gives swallowed f (shape_of d) ≡ false
-  found : r' ≡ true → fillAfter Input f (shape_of d) ≡ Fetching
+  not_overwritten : gives overwritten f (shape_of d) ≡ false
+  not_swallowed : gives swallowed f (shape_of d) ≡ false
+  found : r' ≡ true → fill_after Input f (shape_of d) ≡ Fetching
 
 module _ (level on r r' : Bool) where
-  minded : (f : Fill) (d : Effect) → (on ≡ true → level ≡ flagOf Input f) → (r ≡ true → f ≡ Fetching) → Reads on r r' d → Minds level d
+  minded : (f : Fill) (d : Effect) → (on ≡ true → level ≡ flag_of Input f) → (r ≡ true → f ≡ Fetching) → Reads on r r' d → Minds level d
       → Safe f r' d
-  unfolding flagOf
-  minded Empty (offered v) flag found reads minds = record { notOverwritten = refl; notSwallowed = refl; found = λ e. cc (found (sym reads.1 ∙ e)) }
+  unfolding flag_of
+  minded Empty (offered v) flag found reads minds = record { not_overwritten = refl; not_swallowed = refl; found = λ e. cc (found (sym reads.1 ∙ e)) }
   minded Waiting (offered v) flag found reads minds = absurd (contrary _ minds (flag reads.0))
   minded Fetching (offered v) flag found reads minds = absurd (contrary _ minds (flag reads.0))
-  minded f (followed v) flag found reads minds = record { notOverwritten = refl; notSwallowed = refl; found = λ e. found (sym reads ∙ e) }
+  minded f (followed v) flag found reads minds = record { not_overwritten = refl; not_swallowed = refl; found = λ e. found (sym reads ∙ e) }
   minded Empty taken flag found reads minds = absurd (contrary _ (flag reads) minds)
-  minded Waiting taken flag found reads minds = record { notOverwritten = refl; notSwallowed = refl; found = λ e. refl }
-  minded Fetching taken flag found reads minds = record { notOverwritten = refl; notSwallowed = refl; found = λ e. refl }
-  minded f ended flag found reads minds = record { notOverwritten = refl; notSwallowed = rw (found reads.0); found = λ e. cc reads.1 }
-  minded f clearedAway flag found reads minds = record { notOverwritten = refl; notSwallowed = refl; found = λ e. cc }
-  minded f forcedFull flag found reads minds = record { notOverwritten = refl; notSwallowed = refl; found = λ e. cc reads }
-  minded f forcedEmpty flag found reads minds = record { notOverwritten = refl; notSwallowed = refl; found = λ e. cc reads }
-  minded f nothing flag found reads minds = record { notOverwritten = refl; notSwallowed = refl; found = λ e. found (sym reads ∙ e) }
+  minded Waiting taken flag found reads minds = record { not_overwritten = refl; not_swallowed = refl; found = λ e. refl }
+  minded Fetching taken flag found reads minds = record { not_overwritten = refl; not_swallowed = refl; found = λ e. refl }
+  minded f ended flag found reads minds = record { not_overwritten = refl; not_swallowed = rw (found reads.0); found = λ e. cc reads.1 }
+  minded f cleared_away flag found reads minds = record { not_overwritten = refl; not_swallowed = refl; found = λ e. cc }
+  minded f forced_full flag found reads minds = record { not_overwritten = refl; not_swallowed = refl; found = λ e. cc reads }
+  minded f forced_empty flag found reads minds = record { not_overwritten = refl; not_swallowed = refl; found = λ e. cc reads }
+  minded f nothing flag found reads minds = record { not_overwritten = refl; not_swallowed = refl; found = λ e. found (sym reads ∙ e) }
 
 module _ (g : Group) where
   -- The IBF pin is the channel's flag where the channel is strobed.
-  flag-shown : (c : Chip) → strobes c.core.word g Input ≡ true → ibf c g ≡ flagOf Input (fill g Input c)
+  flag-shown : (c : Chip) → strobes c.core.word g Input ≡ true → ibf c g ≡ flag_of Input (fill g Input c)
   flag-shown c on = flag-pin c g Input (sym (strobes-same c.core.word g Input) ∙ on)
 
-  safe : (c : Chip) (e : Event) → HasFound g c → Minds (ibf c g) (effectIn g Input c e)
-      → Safe (fill g Input c) (strobedReadRuns g (surroundingsNext (surroundingsOf c) e)) (effectIn g Input c e)
+  safe : (c : Chip) (e : Event) → HasFound g c → Minds (ibf c g) (effect_in g Input c e)
+      → Safe (fill g Input c) (strobed_read_runs g (surroundings_next (surroundings_of c) e)) (effect_in g Input c e)
   safe c e found =
-      minded (ibf c g) (strobes c.core.word g Input) (strobedReadRuns g (surroundingsOf c)) (strobedReadRuns g (surroundingsNext (surroundingsOf c) e))
-      (fill g Input c) (effectIn g Input c e) (flag-shown c) found (reads-next g (surroundingsOf c) e)
+      minded (ibf c g) (strobes c.core.word g Input) (strobed_read_runs g (surroundings_of c)) (strobed_read_runs g (surroundings_next (surroundings_of c) e))
+      (fill g Input c) (effect_in g Input c e) (flag-shown c) found (reads-next g (surroundings_of c) e)
 
-  pub found-next : (c : Chip) (e : Event) → HasFound g c → Minds (ibf c g) (effectIn g Input c e) → HasFound g (after c e)
+  pub found-next : (c : Chip) (e : Event) → HasFound g c → Minds (ibf c g) (effect_in g Input c e) → HasFound g (after c e)
   found-next c e found minds runs =
-      next-fill g Input c e ∙ (safe c e found minds).found (ap (strobedReadRuns g) (sym (surroundings-next c e)) ∙ runs)
+      next-fill g Input c e ∙ (safe c e found minds).found (ap (strobed_read_runs g) (sym (surroundings-next c e)) ∙ runs)
 
   -- A fate that no event gives under the discipline is met by no byte.
   module _ (f : Fate) (tallied : same f waiting ≡ false)
-      (spares : (c : Chip) (e : Event) → HasFound g c → Minds (ibf c g) (effectIn g Input c e) → gives f (fill g Input c) (shapeIn g Input c e) ≡ false) where
-    none-lost : (c : Chip) (h : Offer) (n : ℕ) (es : List Event) → HasFound g c → Disciplined g (surroundingsOf c) c es
-        → count f (storyOf g Input c h n es) ≡ 0
+      (spares : (c : Chip) (e : Event) → HasFound g c → Minds (ibf c g) (effect_in g Input c e) → gives f (fill g Input c) (shape_in g Input c e) ≡ false) where
+    none-lost : (c : Chip) (h : Offer) (n : ℕ) (es : List Event) → HasFound g c → Disciplined g (surroundings_of c) c es
+        → count f (story_of g Input c h n es) ≡ 0
     none-lost c h n [] found kept = none_yet f tallied Input (fill g Input c) h n
     none-lost c h n (e ∷ es) found kept =
-        let d = shapeIn g Input c e in
-        let next = heldAfter Input (fill g Input c) h n d in
-        let rest = storyOf g Input (after c e) next (suc n) es in
+        let d = shape_in g Input c e in
+        let next = held_after Input (fill g Input c) h n d in
+        let rest = story_of g Input (after c e) next (suc n) es in
         ap (count f) (story-next g Input c e h n es)
         ∙ count-decided f tallied (fill g Input c) h n d rest
         ∙ rw (spares c e found kept.0)
@@ -82,11 +82,11 @@ module _ (g : Group) where
         ∙ none-lost (after c e) next (suc n) es (found-next c e found kept.0) (rw (surroundings-next c e) kept.1))
 
   -- From any chip on which a read of the strobed port, if one runs, has found a byte.
-  pub disciplined-from : (c : Chip) → HasFound g c → (es : List Event) → Disciplined g (surroundingsOf c) c es
-      → NoneLost (oldByte g Input c es ++ newBytes g Input c es)
+  pub disciplined-from : (c : Chip) → HasFound g c → (es : List Event) → Disciplined g (surroundings_of c) c es
+      → NoneLost (old_byte g Input c es ++ new_bytes g Input c es)
   disciplined-from c found es kept =
-      let h = offeredAt 0 (latch g Input c) in
+      let h = offered_at 0 (latch g Input c) in
       record {
-        noneOverwritten = none-lost overwritten refl (λ c e found minds. (safe c e found minds).notOverwritten) c h 1 es found kept;
-        noneSwallowed = none-lost swallowed refl (λ c e found minds. (safe c e found minds).notSwallowed) c h 1 es found kept;
+        none_overwritten = none-lost overwritten refl (λ c e found minds. (safe c e found minds).not_overwritten) c h 1 es found kept;
+        none_swallowed = none-lost swallowed refl (λ c e found minds. (safe c e found minds).not_swallowed) c h 1 es found kept;
       }

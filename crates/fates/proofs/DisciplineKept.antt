@@ -3,36 +3,36 @@
 -- Rests on nothing.
 use mathlib.Core.Path.{refl, subst}
 use lib.Dec.{T}
-use Rattle.bits.specs.Bit.{bit_of, value_of, withBit}
-use Rattle.events.specs.Kinds.{isKind}
-use Rattle.bus.specs.Device.{stepIn}
+use Rattle.bits.specs.Bit.{bit_of, value_of, with_bit}
+use Rattle.events.specs.Kinds.{is_kind}
+use Rattle.bus.specs.Device.{step_in}
 use Rattle.bus.specs.Refusals.{number_of}
 use Rattle.control.specs.declared.Group.TheVariants.{A}
-use Rattle.control.specs.Mode.{mode_of, input_of, upperInput, lowerInput, strobedInput, strobedOutput, outputOf}
-use Rattle.control.specs.Word.{controlOf}
-use Rattle.roles.specs.Role.{usesOf, freeRole, roleOf}
-use Rattle.channel.specs.Channel.{flagOf}
-use Rattle.channel.specs.Moves.{afterOffer, afterFollow, afterHandOver, afterEndRead, afterClear}
+use Rattle.control.specs.Mode.{mode_of, input_of, upper_input, lower_input, strobed_input, strobed_output, output_of}
+use Rattle.control.specs.Word.{control_of}
+use Rattle.roles.specs.Role.{uses_of, free_role, role_of}
+use Rattle.channel.specs.Channel.{flag_of}
+use Rattle.channel.specs.Moves.{after_offer, after_follow, after_hand_over, after_end_read, after_clear}
 use Rattle.chip.specs.declared.Edition.TheVariants.{Older}
-use Rattle.chip.specs.State.{allHigh, powerUpWith}
-use Rattle.status.specs.Status.{requestOf, intrOf}
-use Rattle.settings.specs.ModeWord.{clearedPort, afterModeWord}
-use Rattle.settings.specs.ControlWord.{pinSet, afterControlWord}
-use Rattle.reads.specs.Read.{afterReadBegins, afterReadEnds}
-use Rattle.writes.specs.Write.{storedBy, latchWritten, afterWriteEnds}
-use Rattle.levels.specs.Levels.{fallen, edged, afterLevelsOnC, portAfterLevels, afterLevels}
-use Rattle.ports.specs.Reads.{readPort, readLines, read_of}
-use Rattle.ports.specs.Pins.{drivesPort, pinsOfPort, pinsOfLines, pinsOf}
+use Rattle.chip.specs.State.{all_high, power_up_with}
+use Rattle.status.specs.Status.{request_of, intr_of}
+use Rattle.settings.specs.ModeWord.{cleared_port, after_mode_word}
+use Rattle.settings.specs.ControlWord.{pin_set, after_control_word}
+use Rattle.reads.specs.Read.{after_read_begins, after_read_ends}
+use Rattle.writes.specs.Write.{stored_by, latch_written, after_write_ends}
+use Rattle.levels.specs.Levels.{fallen, edged, after_levels_on_c, port_after_levels, after_levels}
+use Rattle.ports.specs.Reads.{read_port, read_lines, read_of}
+use Rattle.ports.specs.Pins.{drives_port, pins_of_port, pins_of_lines, pins_of}
 use Rattle.step.specs.Step.{step_of}
-use Rattle.fates.specs.Surroundings.{atPowerUp}
-use Rattle.fates.specs.Examples.{lostBale, twoDigits}
+use Rattle.fates.specs.Surroundings.{at_power_up}
+use Rattle.fates.specs.Examples.{lost_bale, two_digits}
 use Rattle.fates.specs.Discipline.{Disciplined}
 
-pub two-digits-disciplined : Disciplined A (atPowerUp Older allHigh) (powerUpWith allHigh) twoDigits
-unfolding bit_of value_of withBit mode_of input_of upperInput lowerInput strobedInput strobedOutput outputOf controlOf usesOf freeRole roleOf flagOf afterOffer afterFollow afterHandOver afterEndRead afterClear requestOf intrOf clearedPort afterModeWord pinSet afterControlWord afterReadBegins afterReadEnds storedBy latchWritten afterWriteEnds fallen edged afterLevelsOnC portAfterLevels afterLevels readPort readLines read_of drivesPort pinsOfPort pinsOfLines pinsOf number_of isKind step_of stepIn
+pub two-digits-disciplined : Disciplined A (at_power_up Older all_high) (power_up_with all_high) two_digits
+unfolding bit_of value_of with_bit mode_of input_of upper_input lower_input strobed_input strobed_output output_of control_of uses_of free_role role_of flag_of after_offer after_follow after_hand_over after_end_read after_clear request_of intr_of cleared_port after_mode_word pin_set after_control_word after_read_begins after_read_ends stored_by latch_written after_write_ends fallen edged after_levels_on_c port_after_levels after_levels read_port read_lines read_of drives_port pins_of_port pins_of_lines pins_of number_of is_kind step_of step_in
 two-digits-disciplined = (tt, (tt, (tt, (refl, (tt, (refl, (tt, (tt, (refl, (tt, (refl, (tt, tt))))))))))))
 
 -- The second digit of the lost bale comes while IBF is high.
-pub lost-bale-undisciplined : ¬ Disciplined A (atPowerUp Older allHigh) (powerUpWith allHigh) lostBale
-unfolding bit_of value_of withBit mode_of input_of upperInput lowerInput strobedInput strobedOutput outputOf controlOf usesOf freeRole roleOf flagOf afterOffer afterFollow afterHandOver afterEndRead afterClear requestOf intrOf clearedPort afterModeWord pinSet afterControlWord afterReadBegins afterReadEnds storedBy latchWritten afterWriteEnds fallen edged afterLevelsOnC portAfterLevels afterLevels readPort readLines read_of drivesPort pinsOfPort pinsOfLines pinsOf number_of isKind step_of stepIn
+pub lost-bale-undisciplined : ¬ Disciplined A (at_power_up Older all_high) (power_up_with all_high) lost_bale
+unfolding bit_of value_of with_bit mode_of input_of upper_input lower_input strobed_input strobed_output output_of control_of uses_of free_role role_of flag_of after_offer after_follow after_hand_over after_end_read after_clear request_of intr_of cleared_port after_mode_word pin_set after_control_word after_read_begins after_read_ends stored_by latch_written after_write_ends fallen edged after_levels_on_c port_after_levels after_levels read_port read_lines read_of drives_port pins_of_port pins_of_lines pins_of number_of is_kind step_of step_in
 lost-bale-undisciplined kept = subst T kept.1.1.1.1.1.1.1.0 tt

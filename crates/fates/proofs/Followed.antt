@@ -11,17 +11,17 @@ use Rattle.channel.specs.declared.Side.{Side}
 use Rattle.channel.specs.declared.Fill.{Fill}
 use Rattle.channel.specs.Channel.{next}
 use Rattle.chip.specs.declared.Chip.{Chip}
-use Rattle.chip.specs.State.{channelOf, tally_of}
+use Rattle.chip.specs.State.{channel_of, tally_of}
 use Rattle.step.specs.Step.{stepped}
-use Rattle.fates.specs.Surroundings.{surroundingsNext}
+use Rattle.fates.specs.Surroundings.{surroundings_next}
 use Rattle.fates.specs.Effects.{Effect, effect, effects}
 use Rattle.fates.specs.Bytes.{Fate, waiting, Offer, Byte, same}
-use Rattle.fates.specs.Promise.{surroundingsOf, handshakeAlone}
-use Rattle.fates.proofs.Shapes.{Shape, shape_of, fillAfter, latchAfter, isOffer, isPlant, gives, heldAfter}
+use Rattle.fates.specs.Promise.{surroundings_of, handshake_alone}
+use Rattle.fates.proofs.Shapes.{Shape, shape_of, fill_after, latch_after, is_offer, is_plant, gives, held_after}
 use Rattle.fates.proofs.Story.{story, decided, story-step}
-use Rattle.fates.proofs.Moved.{tallyAfter, moved-so, tallyFor, tally-gives}
+use Rattle.fates.proofs.Moved.{tally_after, moved-so, tally_for, tally-gives}
 use Rattle.fates.proofs.SurroundingsKept.{surroundings-next}
-use Rattle.fates.proofs.Projection.{clearsNow, follows}
+use Rattle.fates.proofs.Projection.{clears_now, follows}
 
 -- The chip that an event leaves.
 abbrev pub after : Chip → Event → Chip
@@ -30,51 +30,51 @@ after c e = (stepped c e).chip
 module _ (g : Group) (s : Side) where
   -- The channel's condition and its latch, in a chip.
   abbrev pub fill : Chip → Fill
-  fill c = (channelOf c.core g s).fill
+  fill c = (channel_of c.core g s).fill
 
   abbrev pub latch : Chip → ℕ
-  latch c = (channelOf c.core g s).latch
+  latch c = (channel_of c.core g s).latch
 
   -- What an event that meets a chip is to the channel.
-  abbrev pub effectIn : Chip → Event → Effect
-  effectIn c e = effect g s (surroundingsOf c) e
+  abbrev pub effect_in : Chip → Event → Effect
+  effect_in c e = effect g s (surroundings_of c) e
 
   -- The shape of that.
-  abbrev pub shapeIn : Chip → Event → Shape
-  shapeIn c e = shape_of (effectIn c e)
+  abbrev pub shape_in : Chip → Event → Shape
+  shape_in c e = shape_of (effect_in c e)
 
   -- The bytes of the channel from the chip c on, where the first event is at place n, and the latch has the value of h, which is the byte that
   -- the channel may hold.
-  abbrev pub storyOf : Chip → Offer → ℕ → List Event → List Byte
-  storyOf c h n es = story s (fill c) h n (effects g s (surroundingsOf c) es)
+  abbrev pub story_of : Chip → Offer → ℕ → List Event → List Byte
+  story_of c h n es = story s (fill c) h n (effects g s (surroundings_of c) es)
 
   module _ (c : Chip) (e : Event) where
-    pub next-fill : fill (after c e) ≡ fillAfter s (fill c) (shapeIn c e)
-    next-fill = (follows c g s e).fill ∙ ap (λ ch. ch.fill) (moved-so s (channelOf c.core g s) (effectIn c e))
+    pub next-fill : fill (after c e) ≡ fill_after s (fill c) (shape_in c e)
+    next-fill = (follows c g s e).fill ∙ ap (λ ch. ch.fill) (moved-so s (channel_of c.core g s) (effect_in c e))
 
-    next-tallies : tally_of (after c e) g s ≡ tallyAfter s (fill c) (shapeIn c e) (tally_of c g s)
-    next-tallies = (follows c g s e).tally ∙ ap (λ ch. ch.tally) (moved-so s (channelOf c.core g s) (effectIn c e))
+    next-tallies : tally_of (after c e) g s ≡ tally_after s (fill c) (shape_in c e) (tally_of c g s)
+    next-tallies = (follows c g s e).tally ∙ ap (λ ch. ch.tally) (moved-so s (channel_of c.core g s) (effect_in c e))
 
     pub next-tally : (f : Fate) → same f waiting ≡ false
-        → tallyFor f (tally_of (after c e) g s) ≡ next (gives f (fill c) (shapeIn c e)) (tallyFor f (tally_of c g s))
-    next-tally f tallied = ap (tallyFor f) next-tallies ∙ tally-gives f tallied s (fill c) (shapeIn c e) (tally_of c g s)
+        → tally_for f (tally_of (after c e) g s) ≡ next (gives f (fill c) (shape_in c e)) (tally_for f (tally_of c g s))
+    next-tally f tallied = ap (tally_for f) next-tallies ∙ tally-gives f tallied s (fill c) (shape_in c e) (tally_of c g s)
 
-    pub next-offered : (tally_of (after c e) g s).offered ≡ next (isOffer (shapeIn c e)) (tally_of c g s).offered
+    pub next-offered : (tally_of (after c e) g s).offered ≡ next (is_offer (shape_in c e)) (tally_of c g s).offered
     next-offered = ap (λ t. t.offered) next-tallies
 
-    pub next-planted : (tally_of (after c e) g s).planted ≡ next (isPlant s (fill c) (shapeIn c e)) (tally_of c g s).planted
+    pub next-planted : (tally_of (after c e) g s).planted ≡ next (is_plant s (fill c) (shape_in c e)) (tally_of c g s).planted
     next-planted = ap (λ t. t.planted) next-tallies
 
-    pub next-latch : (handshakeAlone c.core.word g s || clearsNow (surroundingsOf c) e) ≡ true → latch (after c e) ≡ latchAfter (latch c) (shapeIn c e)
-    next-latch sure = (follows c g s e).latch sure ∙ ap (λ ch. ch.latch) (moved-so s (channelOf c.core g s) (effectIn c e))
+    pub next-latch : (handshake_alone c.core.word g s || clears_now (surroundings_of c) e) ≡ true → latch (after c e) ≡ latch_after (latch c) (shape_in c e)
+    next-latch sure = (follows c g s e).latch sure ∙ ap (λ ch. ch.latch) (moved-so s (channel_of c.core g s) (effect_in c e))
 
     -- What the event decides, and then the bytes from the chip that it leaves, of a story that begins in any condition;
     pub story-on : (f : Fill) (h : Offer) (n : ℕ) (es : List Event)
-        → story s f h n (effects g s (surroundingsOf c) (e ∷ es))
-        ≡ decided f h n (shapeIn c e) ++ story s (fillAfter s f (shapeIn c e)) (heldAfter s f h n (shapeIn c e)) (suc n) (effects g s (surroundingsOf (after c e)) es)
-    story-on f h n es = rw (surroundings-next c e) (story-step s f h n (effectIn c e) (effects g s (surroundingsNext (surroundingsOf c) e) es))
+        → story s f h n (effects g s (surroundings_of c) (e ∷ es))
+        ≡ decided f h n (shape_in c e) ++ story s (fill_after s f (shape_in c e)) (held_after s f h n (shape_in c e)) (suc n) (effects g s (surroundings_of (after c e)) es)
+    story-on f h n es = rw (surroundings-next c e) (story-step s f h n (effect_in c e) (effects g s (surroundings_next (surroundings_of c) e) es))
 
     -- and of the one that begins in the chip's.
     pub story-next : (h : Offer) (n : ℕ) (es : List Event)
-        → storyOf c h n (e ∷ es) ≡ decided (fill c) h n (shapeIn c e) ++ storyOf (after c e) (heldAfter s (fill c) h n (shapeIn c e)) (suc n) es
+        → story_of c h n (e ∷ es) ≡ decided (fill c) h n (shape_in c e) ++ story_of (after c e) (held_after s (fill c) h n (shape_in c e)) (suc n) es
     story-next h n es = rw (next-fill) (story-on (fill c) h n es)

@@ -12,16 +12,16 @@ use Rattle.channel.specs.declared.Fill.{Fill}
 use Rattle.channel.specs.declared.Fill.TheVariants.{Empty, Waiting, Fetching}
 use Rattle.chip.specs.declared.Chip.{Chip}
 use Rattle.fates.specs.Kinds.{kind_of, accepts}
-use Rattle.fates.specs.Surroundings.{surroundingsNext}
-use Rattle.fates.specs.Effects.{Effect, clearedAway, nothing, strobes, when, ownEffect, clears, effect, effects}
+use Rattle.fates.specs.Surroundings.{surroundings_next}
+use Rattle.fates.specs.Effects.{Effect, cleared_away, nothing, strobes, when, own_effect, clears, effect, effects}
 use Rattle.fates.specs.Left.{left}
-use Rattle.fates.specs.Bytes.{waiting, Offer, offeredAt, bytes, same}
-use Rattle.fates.specs.Promise.{surroundingsOf, newBytes, oldByte, HeldInTheLatch, WaitsByHandshake}
+use Rattle.fates.specs.Bytes.{waiting, Offer, offered_at, bytes, same}
+use Rattle.fates.specs.Promise.{surroundings_of, new_bytes, old_byte, HeldInTheLatch, WaitsByHandshake}
 use Rattle.fates.proofs.SurroundingsKept.{surroundings-next}
-use Rattle.fates.proofs.Shapes.{Shape, shape_of, fillAfter, isOffer, isPlant, heldAfter, none-waits}
+use Rattle.fates.proofs.Shapes.{Shape, shape_of, fill_after, is_offer, is_plant, held_after, none-waits}
 use Rattle.fates.proofs.Story.{story, decided-each, bytes-step}
-use Rattle.fates.proofs.Projection.{clearsNow}
-use Rattle.fates.proofs.Followed.{after, fill, latch, effectIn, shapeIn, story-on}
+use Rattle.fates.proofs.Projection.{clears_now}
+use Rattle.fates.proofs.Followed.{after, fill, latch, effect_in, shape_in, story-on}
 use Rattle.fates.proofs.SameByte.{strobed-alone, alone, cleared-now, alone-kept, Holds, holds-next}
 
 module _ (g : Group) (s : Side) where
@@ -31,81 +31,81 @@ module _ (g : Group) (s : Side) where
 
   -- An effect brings a byte to a channel in the condition f.
   abbrev comes : Fill → Shape → Bool
-  comes f d = isOffer d || isPlant s f d
+  comes f d = is_offer d || is_plant s f d
 
   -- What follows of a strobed channel, and of one to which nothing happens, follows of any that is not cleared.
-  by-strobed : (P : Effect → Type 0) (c : Chip) (e : Event) → P nothing → P clearedAway
-      → (strobes c.core.word g s ≡ true → P (ownEffect g s (surroundingsOf c) (kind_of e))) → P (effect g s (surroundingsOf c) e)
+  by-strobed : (P : Effect → Type 0) (c : Chip) (e : Event) → P nothing → P cleared_away
+      → (strobes c.core.word g s ≡ true → P (own_effect g s (surroundings_of c) (kind_of e))) → P (effect g s (surroundings_of c) e)
   by-strobed P c e rests cleared own = go (accepts c.edition c.phase (kind_of e)) (clears c.phase (kind_of e)) (strobes c.core.word g s) refl
     where
       go : (accepted all on : Bool) → strobes c.core.word g s ≡ on
-          → P (when accepted (cond all clearedAway (when on (ownEffect g s (surroundingsOf c) (kind_of e)))))
+          → P (when accepted (cond all cleared_away (when on (own_effect g s (surroundings_of c) (kind_of e)))))
       go false all on is = rests
       go true true on is = cleared
       go true false true is = own is
       go true false false is = rests
 
   -- A byte that waits after an event waited before it, or the handshake has brought it; so it has where one comes.
-  fills-before : (c : Chip) (f : Fill) (e : Event) → Fills c f → fillAfter s f (shapeIn g s c e) ≡ Waiting → alone g s c ≡ true
+  fills-before : (c : Chip) (f : Fill) (e : Event) → Fills c f → fill_after s f (shape_in g s c e) ≡ Waiting → alone g s c ≡ true
   fills-before c f e was =
-      by-strobed (λ d. fillAfter s f (shape_of d) ≡ Waiting → alone g s c ≡ true) c e was (λ waits. absurd (none-waits s f Empty tt waits))
+      by-strobed (λ d. fill_after s f (shape_of d) ≡ Waiting → alone g s c ≡ true) c e was (λ waits. absurd (none-waits s f Empty tt waits))
       (λ on waits. strobed-alone c.core.word g s on)
 
-  comes-alone : (c : Chip) (f : Fill) (e : Event) → comes f (shapeIn g s c e) ≡ true → alone g s c ≡ true
+  comes-alone : (c : Chip) (f : Fill) (e : Event) → comes f (shape_in g s c e) ≡ true → alone g s c ≡ true
   comes-alone c f e =
       by-strobed (λ d. comes f (shape_of d) ≡ true → alone g s c ≡ true) c e (λ on. absurd (contrary _ refl on)) (λ on. absurd (contrary _ refl on))
       (λ on brought. strobed-alone c.core.word g s on)
 
   -- An event that clears all channels leaves none waiting; any other leaves the mode word.
-  waits-after : (c : Chip) (f : Fill) (e : Event) → fillAfter s f (shapeIn g s c e) ≡ Waiting → alone g s c ≡ true → alone g s (after c e) ≡ true
-  waits-after c f e waits was = alone-kept g s c e (go (clearsNow (surroundingsOf c) e) refl) ∙ was
+  waits-after : (c : Chip) (f : Fill) (e : Event) → fill_after s f (shape_in g s c e) ≡ Waiting → alone g s c ≡ true → alone g s (after c e) ≡ true
+  waits-after c f e waits was = alone-kept g s c e (go (clears_now (surroundings_of c) e) refl) ∙ was
     where
-      go : (all : Bool) → clearsNow (surroundingsOf c) e ≡ all → all ≡ false
+      go : (all : Bool) → clears_now (surroundings_of c) e ≡ all → all ≡ false
       go true is =
-          absurd (none-waits s f Empty tt (subst (λ (d : Effect). fillAfter s f (shape_of d) ≡ Waiting) (cleared-now g s (surroundingsOf c) e is) waits))
+          absurd (none-waits s f Empty tt (subst (λ (d : Effect). fill_after s f (shape_of d) ≡ Waiting) (cleared-now g s (surroundings_of c) e is) waits))
       go false is = refl
 
   -- Along a history, from any condition in which both that and SameByte's Holds hold.
   held-along : (c : Chip) (f : Fill) (h : Offer) (n : ℕ) (es : List Event) → Fills c f → Holds g s c h
-      → HeldInTheLatch g s c es (story s f h n (effects g s (surroundingsOf c) es))
+      → HeldInTheLatch g s c es (story s f h n (effects g s (surroundings_of c) es))
   held-along c Empty h n [] fills held = tt
   held-along c Waiting h n [] fills held = (λ still. sym (held (fills refl)), tt)
   held-along c Fetching h n [] fills held = tt
   held-along c f h n (e ∷ es) fills held =
-      let d = shapeIn g s c e in
+      let d = shape_in g s c e in
       rw (story-on g s c e f h n es)
       (decided-each _ f h n d _
       (λ waits decides still. absurd (contrary _ decides (ap (same waiting) still)))
-      (held-along (after c e) (fillAfter s f d) (heldAfter s f h n d) (suc n) es
+      (held-along (after c e) (fill_after s f d) (held_after s f h n d) (suc n) es
       (λ waits. waits-after c f e waits (fills-before c f e fills waits)) (holds-next g s c f h n e held)))
 
   -- The bytes that come since the start of a history, from any chip.
   coming-held : (c : Chip) (f : Fill) (h : Offer) (n : ℕ) (es : List Event) → Holds g s c h
-      → HeldInTheLatch g s c es (bytes s (left f h.value) n (effects g s (surroundingsOf c) es))
+      → HeldInTheLatch g s c es (bytes s (left f h.value) n (effects g s (surroundings_of c) es))
   coming-held c f h n [] held = tt
   coming-held c f h n (e ∷ es) held =
-      rw (bytes-step s f h n (effectIn g s c e) (effects g s (surroundingsNext (surroundingsOf c) e) es), ← surroundings-next c e)
-      (go (comes f (shapeIn g s c e)) refl
-      (coming-held (after c e) (fillAfter s f (shapeIn g s c e)) (heldAfter s f h n (shapeIn g s c e)) (suc n) es (holds-next g s c f h n e held)))
+      rw (bytes-step s f h n (effect_in g s c e) (effects g s (surroundings_next (surroundings_of c) e) es), ← surroundings-next c e)
+      (go (comes f (shape_in g s c e)) refl
+      (coming-held (after c e) (fill_after s f (shape_in g s c e)) (held_after s f h n (shape_in g s c e)) (suc n) es (holds-next g s c f h n e held)))
     where
       next : Offer
-      next = heldAfter s f h n (shapeIn g s c e)
+      next = held_after s f h n (shape_in g s c e)
 
       then : Fill
-      then = fillAfter s f (shapeIn g s c e)
+      then = fill_after s f (shape_in g s c e)
 
       later : List Effect
-      later = effects g s (surroundingsOf (after c e)) es
+      later = effects g s (surroundings_of (after c e)) es
 
-      go : (brought : Bool) → comes f (shapeIn g s c e) ≡ brought → HeldInTheLatch g s (after c e) es (bytes s (left then next.value) (suc n) later)
+      go : (brought : Bool) → comes f (shape_in g s c e) ≡ brought → HeldInTheLatch g s (after c e) es (bytes s (left then next.value) (suc n) later)
           → HeldInTheLatch g s (after c e) es (cond brought (story s then next (suc n) later) (bytes s (left then next.value) (suc n) later))
       go true brought rest =
           held-along (after c e) then next (suc n) es (λ waits. waits-after c f e waits (comes-alone c f e brought)) (holds-next g s c f h n e held)
       go false none rest = rest
 
-  pub new-held : (c : Chip) (es : List Event) → HeldInTheLatch g s c es (newBytes g s c es)
-  new-held c es = coming-held c (fill g s c) (offeredAt 0 (latch g s c)) 1 es (λ alone. refl)
+  pub new-held : (c : Chip) (es : List Event) → HeldInTheLatch g s c es (new_bytes g s c es)
+  new-held c es = coming-held c (fill g s c) (offered_at 0 (latch g s c)) 1 es (λ alone. refl)
 
   -- With the byte that may wait at the start.
-  pub held-from : (c : Chip) → WaitsByHandshake g s c → (es : List Event) → HeldInTheLatch g s c es (oldByte g s c es ++ newBytes g s c es)
-  held-from c fills es = held-along c (fill g s c) (offeredAt 0 (latch g s c)) 1 es fills (λ alone. refl)
+  pub held-from : (c : Chip) → WaitsByHandshake g s c → (es : List Event) → HeldInTheLatch g s c es (old_byte g s c es ++ new_bytes g s c es)
+  held-from c fills es = held-along c (fill g s c) (offered_at 0 (latch g s c)) 1 es fills (λ alone. refl)

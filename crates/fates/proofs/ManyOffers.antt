@@ -11,28 +11,28 @@ use Rattle.channel.specs.declared.Side.TheVariants.{Input}
 use Rattle.channel.specs.declared.Fill.{Fill}
 use Rattle.channel.specs.declared.Fill.TheVariants.{Empty, Waiting}
 use Rattle.chip.specs.declared.Edition.{Edition}
-use Rattle.chip.specs.State.{allHigh, powerUpAs, tally_of}
+use Rattle.chip.specs.State.{all_high, power_up_as, tally_of}
 use Rattle.laws.specs.Marked.{strobe}
 use Rattle.fates.specs.Surroundings.{Surroundings}
 use Rattle.fates.specs.Effects.{effects}
 use Rattle.fates.specs.Left.{left}
-use Rattle.fates.specs.Bytes.{bytes, offeredAmong}
+use Rattle.fates.specs.Bytes.{bytes, offered_among}
 use Rattle.fates.specs.Promise.{run}
-use Rattle.fates.specs.Examples.{times, strobedTimes}
+use Rattle.fates.specs.Examples.{times, strobed_times}
 use Rattle.fates.proofs.Demand.{fates}
 
 -- Port A in mode 1, an input, with the levels x on its lines and every line of port C high.
 abbrev strobing : Edition → ℕ → Surroundings
-strobing ed x = record { phase = Idle; edition = ed; word = 0xb0; levelsA = x; levelsB = 0xff; levelsC = 0xff }
+strobing ed x = record { phase = Idle; edition = ed; word = 0xb0; levels_a = x; levels_b = 0xff; levels_c = 0xff }
 
-offers-of : (ed : Edition) (n v k x : ℕ) (f : Fill) (l : ℕ) → offeredAmong (bytes Input (left f l) k (effects A Input (strobing ed x) (times n (strobe v)))) ≡ n
+offers-of : (ed : Edition) (n v k x : ℕ) (f : Fill) (l : ℕ) → offered_among (bytes Input (left f l) k (effects A Input (strobing ed x) (times n (strobe v)))) ≡ n
 unfolding bit_of
 offers-of ed zero v k x f l = refl
 offers-of ed (suc n) v k x f l = let rest = offers-of ed n v (suc (suc (suc k))) v Waiting v in omega (arith, rest)
 
-pub many-offers : (ed : Edition) (n v : ℕ) → (tally_of (run (powerUpAs ed allHigh) (strobedTimes n v)) A Input).offered ≡ n % 65536
+pub many-offers : (ed : Edition) (n v : ℕ) → (tally_of (run (power_up_as ed all_high) (strobed_times n v)) A Input).offered ≡ n % 65536
 unfolding bit_of
-many-offers ed n v = (fates A Input ed allHigh (strobedTimes n v)).tallyOffered ∙ ap (λ k. k % 65536) (zero-add _ ∙ offers-of ed n v 3 0xff Empty 0)
+many-offers ed n v = (fates A Input ed all_high (strobed_times n v)).tally_offered ∙ ap (λ k. k % 65536) (zero-add _ ∙ offers-of ed n v 3 0xff Empty 0)
 
-pub seventy-thousand : (ed : Edition) → (tally_of (run (powerUpAs ed allHigh) (strobedTimes 70000 0x41)) A Input).offered ≡ 4464
+pub seventy-thousand : (ed : Edition) → (tally_of (run (power_up_as ed all_high) (strobed_times 70000 0x41)) A Input).offered ≡ 4464
 seventy-thousand ed = many-offers ed 70000 0x41

@@ -7,9 +7,9 @@ use Rattle.bits.proofs.Logic.{contrary}
 use Rattle.channel.specs.declared.Side.{Side}
 use Rattle.channel.specs.declared.Side.TheVariants.{Input, Output}
 use Rattle.channel.specs.declared.Channel.{Channel}
-use Rattle.channel.specs.Moves.{afterForce}
-use Rattle.writes.specs.Write.{storedIn}
-use Rattle.fates.specs.Effects.{Effect, offered, forcedFull, forcedEmpty, nothing, saysFull, when}
+use Rattle.channel.specs.Moves.{after_force}
+use Rattle.writes.specs.Write.{stored_in}
+use Rattle.fates.specs.Effects.{Effect, offered, forced_full, forced_empty, nothing, says_full, when}
 use Rattle.fates.proofs.Moved.{moved}
 
 -- The channel ch' is as ch says, and its latch too where it is sure: a port that is a plain output has its latch written and no byte offered.
@@ -36,17 +36,17 @@ moves s ch d true own = gated s ch d own
 moves s ch d false own = refl
 
 -- So is a flag that is forced.
-forced-so : (s : Side) (ch : Channel) (v : Bool) → afterForce s v ch ≡ moved s ch (cond (saysFull s v) forcedFull forcedEmpty)
-unfolding afterForce
+forced-so : (s : Side) (ch : Channel) (v : Bool) → after_force s v ch ≡ moved s ch (cond (says_full s v) forced_full forced_empty)
+unfolding after_force
 forced-so Input ch true = refl
 forced-so Input ch false = refl
 forced-so Output ch true = refl
 forced-so Output ch false = refl
 
 pub forcing : (s : Side) (ch : Channel) (v on own : Bool)
-    → cond (on && own) (afterForce s v ch) ch ≡ moved s ch (when on (when own (cond (saysFull s v) forcedFull forcedEmpty)))
+    → cond (on && own) (after_force s v ch) ch ≡ moved s ch (when on (when own (cond (says_full s v) forced_full forced_empty)))
 forcing s ch v on own =
-    ap (λ (forced : Channel). cond (on && own) forced ch) (forced-so s ch v) ∙ moves s ch (cond (saysFull s v) forcedFull forcedEmpty) on own
+    ap (λ (forced : Channel). cond (on && own) forced ch) (forced-so s ch v) ∙ moves s ch (cond (says_full s v) forced_full forced_empty) on own
 
 -- So is the fall of a line, which port C alone has, or else levels on the port's own lines while that line is low.
 pub levelling : (s : Side) (ch : Channel) (d e : Effect) (lines on fell own low : Bool)
@@ -59,7 +59,7 @@ levelling s ch d e false true fell own low = gated s ch e (own && low)
 
 -- The end of a write moves an output that is strobed; of a plain output it writes the latch.
 pub writing : (ch : Channel) (d : ℕ) (out on own : Bool) → (on ≡ true → out ≡ true)
-    → Goes on (cond own (cond out (storedIn ch on d) ch) ch) (moved Output ch (when on (when own (offered d))))
+    → Goes on (cond own (cond out (stored_in ch on d) ch) ch) (moved Output ch (when on (when own (offered d))))
 writing ch d true true true sure = goes refl
 writing ch d true true false sure = goes refl
 writing ch d true false true sure = record { fill = refl; tally = refl; latch = λ on. absurd (contrary false refl on) }

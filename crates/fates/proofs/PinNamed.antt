@@ -6,7 +6,7 @@ use native.Mathlib.Omega.{arith}
 use lib.Dec.{eqb}
 use Rattle.bits.specs.Bit.{bit_of, num}
 use Rattle.bits.proofs.Tested.{numbers}
-use Rattle.fates.specs.Effects.{pinNamed}
+use Rattle.fates.specs.Effects.{pin_named}
 
 -- The pin that a control word names, by its bits.
 bit-number : (k : ℕ) → k < 2 → num (eqb k 1) ≡ k
@@ -24,7 +24,7 @@ third-of-eight k = omega arith
 of-quotient : (k : ℕ) → k % 2 + 2 * (k / 2 % 2) + 4 * (k / 4 % 2) ≡ k % 8
 of-quotient k = let e : k % 2 ≡ k % 8 % 2 = omega arith in rw (e, second-of-eight k, third-of-eight k) (three-bits (k % 8) (omega arith))
 
-pub pin-same : (d : ℕ) → pinNamed d ≡ d / 2 % 8
+pub pin-same : (d : ℕ) → pin_named d ≡ d / 2 % 8
 unfolding bit_of
 pin-same d =
     let f : d / 4 ≡ d / 2 / 2 = omega arith in

@@ -9,12 +9,12 @@ use lib.Dec.{eqb}
 use Rattle.bits.specs.Bit.{bit_of}
 use Rattle.events.proofs.ByKind.{by_kind}
 use Rattle.events.specs.Event.{Event, event}
-use Rattle.bus.specs.Device.{afterIn}
+use Rattle.bus.specs.Device.{after_in}
 use Rattle.bus.specs.declared.Phase.{Phase}
 use Rattle.bus.specs.declared.Phase.TheVariants.{Idle, Reading, Writing}
 use Rattle.control.specs.declared.Group.{Group}
 use Rattle.control.specs.declared.Group.TheVariants.{A, B}
-use Rattle.control.specs.Mode.{strobedInput, strobedOutput, outputOf}
+use Rattle.control.specs.Mode.{strobed_input, strobed_output, output_of}
 use Rattle.control.proofs.Strobed.{giving-is-output}
 use Rattle.channel.specs.declared.Side.{Side}
 use Rattle.channel.specs.declared.Side.TheVariants.{Input, Output}
@@ -22,21 +22,21 @@ use Rattle.channel.specs.declared.Channel.{Channel}
 use Rattle.chip.specs.declared.Edition.{Edition}
 use Rattle.chip.specs.declared.Core.{Core}
 use Rattle.chip.specs.declared.Chip.{Chip}
-use Rattle.chip.specs.State.{portOf, channelOf}
-use Rattle.chip.specs.Handshakes.{ownAddress, strobed, linePin, flagPin}
+use Rattle.chip.specs.State.{port_of, channel_of}
+use Rattle.chip.specs.Handshakes.{own_address, strobed, line_pin, flag_pin}
 use Rattle.chip.proofs.OnPort.{lines-not-own, control-not-own}
 use Rattle.chip.proofs.Surrounded.{Spared, spared-port}
 use Rattle.settings.proofs.PortsAfter.{PinPut, mode-word-channel}
-use Rattle.reads.specs.Read.{afterReadBegins}
+use Rattle.reads.specs.Read.{after_read_begins}
 use Rattle.reads.proofs.PortsAfter.{begun-input, begun-output, ended-input, ended-output}
 use Rattle.writes.proofs.PortsAfter.{Stored, by_address}
-use Rattle.levels.specs.Levels.{fallen, afterLevels}
+use Rattle.levels.specs.Levels.{fallen, after_levels}
 use Rattle.levels.proofs.PortsAfter.{levels-input, levels-output}
-use Rattle.step.specs.Step.{device, onBus, after_end, stepped}
-use Rattle.fates.specs.Kinds.{Kind, readBegun, cycleEnded, newLevels, kind_of, accepts}
+use Rattle.step.specs.Step.{device, on_bus, after_end, stepped}
+use Rattle.fates.specs.Kinds.{Kind, read_begun, cycle_ended, new_levels, kind_of, accepts}
 use Rattle.fates.specs.Surroundings.{Surroundings}
-use Rattle.fates.specs.Effects.{offered, followed, taken, ended, nothing, levelsOn, strobes, when, ownEffect, clears, effect_of, effect}
-use Rattle.fates.specs.Promise.{surroundingsOf, handshakeAlone}
+use Rattle.fates.specs.Effects.{offered, followed, taken, ended, nothing, levels_on, strobes, when, own_effect, clears, effect_of, effect}
+use Rattle.fates.specs.Promise.{surroundings_of, handshake_alone}
 use Rattle.fates.proofs.PinNamed.{pin-same}
 use Rattle.fates.proofs.Tables.{own_same, line_same, full-same, strobes-same}
 use Rattle.fates.proofs.Accepted.{no-kind-accepted, by-outcome}
@@ -49,33 +49,33 @@ module _ (ed : Edition) (c : Core) (g : Group) where
 
   -- The handshake alone fills the latch, or the event clears it.
   abbrev known : Phase → Side → Kind → Bool
-  known ph s e = handshakeAlone c.word g s || clears ph e
+  known ph s e = handshake_alone c.word g s || clears ph e
 
   -- The channel after an accepted event is what the event, in the history's words, makes of it.
   abbrev After : Phase → Side → Kind → Core → Type 0
-  After ph s e c' = Goes (known ph s e) (channelOf c' g s) (moved s (channelOf c g s) (effect_of g s (surroundingsOf (onBus ph ed c)) e))
+  After ph s e c' = Goes (known ph s e) (channel_of c' g s) (moved s (channel_of c g s) (effect_of g s (surroundings_of (on_bus ph ed c)) e))
 
   -- Nothing happens to the channel.
-  rests : (s : Side) {sure : Bool} → Goes sure (channelOf c g s) (moved s (channelOf c g s) (when (on s) nothing))
-  rests s = goes (at_rest s (channelOf c g s) (on s))
+  rests : (s : Side) {sure : Bool} → Goes sure (channel_of c g s) (moved s (channel_of c g s) (when (on s) nothing))
+  rests s = goes (at_rest s (channel_of c g s) (on s))
 
-  begun : (ph : Phase) (s : Side) (x : ℕ) → After ph s (readBegun x) (afterReadBegins c x)
+  begun : (ph : Phase) (s : Side) (x : ℕ) → After ph s (read_begun x) (after_read_begins c x)
   begun ph Input x =
       rw (begun-input c x g, strobes-same c.word g Input, own_same x g)
-      (goes (moves Input (channelOf c g Input) taken (strobedInput c.word g) (ownAddress x g)))
+      (goes (moves Input (channel_of c g Input) taken (strobed_input c.word g) (own_address x g)))
   begun ph Output x = rw (begun-output c x g) (rests Output)
 
   -- The channel after the end of a write of d at the address x that is no mode word.
   abbrev AfterWrite : Side → ℕ → ℕ → Core → Type 0
   AfterWrite s x d c' =
-      Goes (handshakeAlone c.word g s || false) (channelOf c' g s)
-      (moved s (channelOf c g s) (when (on s) (ownEffect g s (surroundingsOf (onBus (Writing x d) ed c)) cycleEnded)))
+      Goes (handshake_alone c.word g s || false) (channel_of c' g s)
+      (moved s (channel_of c g s) (when (on s) (own_effect g s (surroundings_of (on_bus (Writing x d) ed c)) cycle_ended)))
 
   stored : (s : Side) (x d : ℕ) → eqb x 3 ≡ false → (c' : Core) → Stored c' c x d → AfterWrite s x d c'
   stored Input x d elsewhere c' k = rw (k.input g, elsewhere) (rests Input)
   stored Output x d elsewhere c' k =
-      rw (k.output g, elsewhere, strobes-same c.word g Output, own_same x g, or-false (strobedOutput c.word g))
-      (writing (channelOf c g Output) d (outputOf c.word g) (strobedOutput c.word g) (ownAddress x g) (giving-is-output c.word g))
+      rw (k.output g, elsewhere, strobes-same c.word g Output, own_same x g, or-false (strobed_output c.word g))
+      (writing (channel_of c g Output) d (output_of c.word g) (strobed_output c.word g) (own_address x g) (giving-is-output c.word g))
 
   -- A write to port C is for no channel.
   spared : (s : Side) (x d : ℕ) → x ≡ 2 → (c' : Core) → Spared c' c → AfterWrite s x d c'
@@ -85,21 +85,21 @@ module _ (ed : Edition) (c : Core) (g : Group) where
   -- Bit set/reset forces the flag that it names.
   put : (s : Side) (x d : ℕ) → x ≡ 3 → bit_of d 7 ≡ false → (c' : Core) → PinPut c' c (d / 2 % 8) (bit_of d 0) → AfterWrite s x d c'
   put Input x d three seven c' k =
-      rw (k.channel g Input, three, seven, strobes-same c.word g Input, pin-same d, full-same g Input) (goes (forcing Input (channelOf c g Input) (bit_of d 0) (strobed c.word g Input) (eqb (d / 2 % 8) (flagPin g Input))))
+      rw (k.channel g Input, three, seven, strobes-same c.word g Input, pin-same d, full-same g Input) (goes (forcing Input (channel_of c g Input) (bit_of d 0) (strobed c.word g Input) (eqb (d / 2 % 8) (flag_pin g Input))))
   put Output x d three seven c' k =
       rw (k.channel g Output, three, seven, own_same 3 g, control-not-own 3 refl g, strobes-same c.word g Output, pin-same d, full-same g Output)
-      (goes (forcing Output (channelOf c g Output) (bit_of d 0) (strobed c.word g Output) (eqb (d / 2 % 8) (flagPin g Output))))
+      (goes (forcing Output (channel_of c g Output) (bit_of d 0) (strobed c.word g Output) (eqb (d / 2 % 8) (flag_pin g Output))))
 
   -- The end of a cycle, in each phase.
-  cycle-ended : (ph : Phase) (s : Side) → After ph s cycleEnded (after_end c ph)
+  cycle-ended : (ph : Phase) (s : Side) → After ph s cycle_ended (after_end c ph)
   cycle-ended Idle Input = rests Input
   cycle-ended Idle Output = rests Output
   cycle-ended (Reading p) Input =
       rw (ended-input c p g, strobes-same c.word g Input, own_same p g)
-      (goes (moves Input (channelOf c g Input) ended (strobedInput c.word g) (ownAddress p g)))
+      (goes (moves Input (channel_of c g Input) ended (strobed_input c.word g) (own_address p g)))
   cycle-ended (Reading p) Output = rw (ended-output c p g) (rests Output)
   cycle-ended (Writing x d) s =
-      by_address (After (Writing x d) s cycleEnded) c x d
+      by_address (After (Writing x d) s cycle_ended) c x d
       (λ mode. rw (mode) (goes (mode-word-channel c d g s)))
       (λ mode three c' k. rw (mode) (put s x d three (seven mode three) c' k))
       (λ mode two c' k. rw (mode) (spared s x d two c' k))
@@ -109,34 +109,34 @@ module _ (ed : Edition) (c : Core) (g : Group) where
       seven mode three = sym (ap (λ (x : ℕ). eqb x 3 && bit_of d 7) three) ∙ mode
 
   -- The port's levels, in the chip and in the history.
-  levels-same : (ph : Phase) → (portOf c g).outside ≡ levelsOn g (surroundingsOf (onBus ph ed c))
+  levels-same : (ph : Phase) → (port_of c g).outside ≡ levels_on g (surroundings_of (on_bus ph ed c))
   levels-same ph = go g
     where
-      go : (g : Group) → (portOf c g).outside ≡ levelsOn g (surroundingsOf (onBus ph ed c))
+      go : (g : Group) → (port_of c g).outside ≡ levels_on g (surroundings_of (on_bus ph ed c))
       go A = refl
       go B = refl
 
   -- No levels go through to an output.
-  levels-set : (ph : Phase) (s : Side) (x d : ℕ) → After ph s (newLevels x d) (afterLevels c x d)
+  levels-set : (ph : Phase) (s : Side) (x d : ℕ) → After ph s (new_levels x d) (after_levels c x d)
   unfolding fallen
   levels-set ph Input x d =
       rw (levels-input c x d g, strobes-same c.word g Input, line_same g Input, own_same x g, ← levels-same ph)
       (goes
-      (levelling Input (channelOf c g Input) (offered (portOf c g).outside) (followed d) (eqb x 2) (strobedInput c.word g)
-      (fallen c.c.outside d (linePin g Input)) (ownAddress x g) (not (bit_of c.c.outside (linePin g Input)))))
+      (levelling Input (channel_of c g Input) (offered (port_of c g).outside) (followed d) (eqb x 2) (strobed_input c.word g)
+      (fallen c.c.outside d (line_pin g Input)) (own_address x g) (not (bit_of c.c.outside (line_pin g Input)))))
   levels-set ph Output x d =
       rw (levels-output c x d g, strobes-same c.word g Output, line_same g Output)
       (goes
-      (levelling Output (channelOf c g Output) taken nothing (eqb x 2) (strobedOutput c.word g) (fallen c.c.outside d (linePin g Output))
+      (levelling Output (channel_of c g Output) taken nothing (eqb x 2) (strobed_output c.word g) (fallen c.c.outside d (line_pin g Output))
       false false))
 
 -- An event is accepted and clears every channel.
-abbrev pub clearsNow : Surroundings → Event → Bool
-clearsNow a e = accepts a.edition a.phase (kind_of e) && clears a.phase (kind_of e)
+abbrev pub clears_now : Surroundings → Event → Bool
+clears_now a e = accepts a.edition a.phase (kind_of e) && clears a.phase (kind_of e)
 
 module _ (c : Chip) (g : Group) (s : Side) where
   abbrev Follows : Event → Type 0
-  Follows e = accepts c.edition c.phase (kind_of e) ≡ true → After c.edition c.core g c.phase s (kind_of e) (afterIn device c e.kind e.first e.second).core
+  Follows e = accepts c.edition c.phase (kind_of e) ≡ true → After c.edition c.core g c.phase s (kind_of e) (after_in device c e.kind e.first e.second).core
 
   follows-accepted : (k x d : ℕ) → Follows (event k x d)
   follows-accepted k x d =
@@ -150,14 +150,14 @@ module _ (c : Chip) (g : Group) (s : Side) where
       k
 
   abbrev channel : Channel
-  channel = channelOf c.core g s
+  channel = channel_of c.core g s
 
   -- The same of every event, accepted or refused.
   pub follows : (e : Event)
-      → Goes (handshakeAlone c.core.word g s || clearsNow (surroundingsOf c) e) (channelOf (stepped c e).chip.core g s)
-      (moved s channel (effect g s (surroundingsOf c) e))
+      → Goes (handshake_alone c.core.word g s || clears_now (surroundings_of c) e) (channel_of (stepped c e).chip.core g s)
+      (moved s channel (effect g s (surroundings_of c) e))
   follows e =
       by-outcome
-      (λ c' ok. Goes (handshakeAlone c.core.word g s || (ok && clears c.phase (kind_of e))) (channelOf c'.core g s)
-      (moved s channel (when ok (effect_of g s (surroundingsOf c) (kind_of e)))))
+      (λ c' ok. Goes (handshake_alone c.core.word g s || (ok && clears c.phase (kind_of e))) (channel_of c'.core g s)
+      (moved s channel (when ok (effect_of g s (surroundings_of c) (kind_of e)))))
       c e (follows-accepted e.kind e.first e.second) (goes refl)

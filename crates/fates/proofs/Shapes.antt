@@ -9,10 +9,10 @@ use Rattle.channel.specs.declared.Side.{Side}
 use Rattle.channel.specs.declared.Side.TheVariants.{Input, Output}
 use Rattle.channel.specs.declared.Fill.{Fill}
 use Rattle.channel.specs.declared.Fill.TheVariants.{Empty, Waiting, Fetching}
-use Rattle.channel.specs.Channel.{isWaiting}
-use Rattle.fates.specs.Effects.{Effect, offered, followed, taken, ended, clearedAway, forcedFull, forcedEmpty, nothing}
-use Rattle.fates.specs.Left.{roomIn, afterTaken, afterForcedFull, afterForcedEmpty}
-use Rattle.fates.specs.Bytes.{Fate, handedOver, overwritten, swallowed, cleared, struck, waiting, Offer, offeredAt, plantedAt, same}
+use Rattle.channel.specs.Channel.{is_waiting}
+use Rattle.fates.specs.Effects.{Effect, offered, followed, taken, ended, cleared_away, forced_full, forced_empty, nothing}
+use Rattle.fates.specs.Left.{room_in, after_taken, after_forced_full, after_forced_empty}
+use Rattle.fates.specs.Bytes.{Fate, handed_over, overwritten, swallowed, cleared, struck, waiting, Offer, offered_at, planted_at, same}
 
 -- What may be left of a channel in the condition f once its byte is gone: none waits, and no output is fetched from that was not.
 abbrev pub Gone : Side → Fill → Fill → Type 0
@@ -38,14 +38,14 @@ pub data Shape : Type 0 where
   decides : Decision → Shape
 
 -- What is left where a byte is taken or struck.
-pub taken-gone : (s : Side) (f : Fill) → Gone s f (afterTaken s f)
+pub taken-gone : (s : Side) (f : Fill) → Gone s f (after_taken s f)
 taken-gone s Empty = tt
 taken-gone Input Waiting = tt
 taken-gone Output Waiting = tt
 taken-gone Input Fetching = tt
 taken-gone Output Fetching = refl
 
-pub struck-gone : (s : Side) (f : Fill) → Gone s f (afterForcedEmpty f)
+pub struck-gone : (s : Side) (f : Fill) → Gone s f (after_forced_empty f)
 struck-gone s Empty = tt
 struck-gone s Waiting = tt
 struck-gone Input Fetching = tt
@@ -55,64 +55,64 @@ struck-gone Output Fetching = refl
 abbrev pub shape_of : Effect → Shape
 shape_of (offered v) = offers v
 shape_of (followed v) = passes (λ l. v)
-shape_of taken = decides (record { fate = handedOver; decisive = refl; left = afterTaken; gone = taken-gone; latch = λ l. l })
+shape_of taken = decides (record { fate = handed_over; decisive = refl; left = after_taken; gone = taken-gone; latch = λ l. l })
 shape_of ended = decides (record { fate = swallowed; decisive = refl; left = λ s f. Empty; gone = λ s f. tt; latch = λ l. l })
-shape_of clearedAway = decides (record { fate = cleared; decisive = refl; left = λ s f. Empty; gone = λ s f. tt; latch = λ l. 0 })
-shape_of forcedFull = plants
-shape_of forcedEmpty = decides (record { fate = struck; decisive = refl; left = λ s f. afterForcedEmpty f; gone = struck-gone; latch = λ l. l })
+shape_of cleared_away = decides (record { fate = cleared; decisive = refl; left = λ s f. Empty; gone = λ s f. tt; latch = λ l. 0 })
+shape_of forced_full = plants
+shape_of forced_empty = decides (record { fate = struck; decisive = refl; left = λ s f. after_forced_empty f; gone = struck-gone; latch = λ l. l })
 shape_of nothing = passes (λ l. l)
 
 -- The columns, by shape: the fate of a byte that waits,
-abbrev pub fateBy : Shape → Fate
-fateBy (passes to) = waiting
-fateBy (offers v) = overwritten
-fateBy plants = waiting
-fateBy (decides x) = x.fate
+abbrev pub fate_by : Shape → Fate
+fate_by (passes to) = waiting
+fate_by (offers v) = overwritten
+fate_by plants = waiting
+fate_by (decides x) = x.fate
 
 -- the channel's condition,
-abbrev pub fillAfter : Side → Fill → Shape → Fill
-fillAfter s f (passes to) = f
-fillAfter s f (offers v) = Waiting
-fillAfter s f plants = afterForcedFull s f
-fillAfter s f (decides x) = x.left s f
+abbrev pub fill_after : Side → Fill → Shape → Fill
+fill_after s f (passes to) = f
+fill_after s f (offers v) = Waiting
+fill_after s f plants = after_forced_full s f
+fill_after s f (decides x) = x.left s f
 
 -- its latch,
-abbrev pub latchAfter : ℕ → Shape → ℕ
-latchAfter l (passes to) = to l
-latchAfter l (offers v) = v
-latchAfter l plants = l
-latchAfter l (decides x) = x.latch l
+abbrev pub latch_after : ℕ → Shape → ℕ
+latch_after l (passes to) = to l
+latch_after l (offers v) = v
+latch_after l plants = l
+latch_after l (decides x) = x.latch l
 
 -- whether a byte is offered,
-abbrev pub isOffer : Shape → Bool
-isOffer (passes to) = false
-isOffer (offers v) = true
-isOffer plants = false
-isOffer (decides x) = false
+abbrev pub is_offer : Shape → Bool
+is_offer (passes to) = false
+is_offer (offers v) = true
+is_offer plants = false
+is_offer (decides x) = false
 
 -- and whether one is planted in a channel of that condition.
-abbrev pub isPlant : Side → Fill → Shape → Bool
-isPlant s f (passes to) = false
-isPlant s f (offers v) = false
-isPlant s f plants = roomIn s f
-isPlant s f (decides x) = false
+abbrev pub is_plant : Side → Fill → Shape → Bool
+is_plant s f (passes to) = false
+is_plant s f (offers v) = false
+is_plant s f plants = room_in s f
+is_plant s f (decides x) = false
 
 -- A byte that waits is given the fate f.
 abbrev pub gives : Fate → Fill → Shape → Bool
-gives f fill d = same f (fateBy d) && isWaiting fill
+gives f fill d = same f (fate_by d) && is_waiting fill
 
 -- The byte that the channel holds after an effect at place n, where it waits: the one that it held, if that goes on, with the latch's value, or
 -- the one that has come. Its value is the latch's where none waits too.
-abbrev pub heldAfter : Side → Fill → Offer → ℕ → Shape → Offer
-heldAfter s f h n (passes to) = record { place = h.place; planted = h.planted; value = to h.value }
-heldAfter s f h n (offers v) = offeredAt n v
-heldAfter s f h n plants = cond (roomIn s f) (plantedAt n h.value) h
-heldAfter s f h n (decides x) = offeredAt n (x.latch h.value)
+abbrev pub held_after : Side → Fill → Offer → ℕ → Shape → Offer
+held_after s f h n (passes to) = record { place = h.place; planted = h.planted; value = to h.value }
+held_after s f h n (offers v) = offered_at n v
+held_after s f h n plants = cond (room_in s f) (planted_at n h.value) h
+held_after s f h n (decides x) = offered_at n (x.latch h.value)
 
-pub held-latch : (s : Side) (f : Fill) (h : Offer) (n : ℕ) (d : Shape) → (heldAfter s f h n d).value ≡ latchAfter h.value d
+pub held-latch : (s : Side) (f : Fill) (h : Offer) (n : ℕ) (d : Shape) → (held_after s f h n d).value ≡ latch_after h.value d
 held-latch s f h n (passes to) = refl
 held-latch s f h n (offers v) = refl
-held-latch s f h n plants = either_way (λ (o : Offer). o.value) h.value (roomIn s f) _ _ refl refl
+held-latch s f h n plants = either_way (λ (o : Offer). o.value) h.value (room_in s f) _ _ refl refl
 held-latch s f h n (decides x) = refl
 
 -- Where the byte is gone none waits.

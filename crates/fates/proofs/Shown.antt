@@ -12,15 +12,15 @@ use Rattle.bits.proofs.Logic.{both}
 use Rattle.events.proofs.ByKind.{by_kind}
 use Rattle.events.specs.Event.{Event, event}
 use Rattle.control.specs.declared.Group.{Group}
-use Rattle.control.specs.Mode.{strobedOutput}
+use Rattle.control.specs.Mode.{strobed_output}
 use Rattle.channel.specs.declared.Side.{Side}
 use Rattle.channel.specs.declared.Side.TheVariants.{Input, Output}
 use Rattle.chip.specs.declared.Chip.{Chip}
-use Rattle.chip.specs.State.{portOf}
-use Rattle.levels.specs.Levels.{afterLevels}
+use Rattle.chip.specs.State.{port_of}
+use Rattle.levels.specs.Levels.{after_levels}
 use Rattle.levels.proofs.PortsAfter.{levels-word, levels-lines}
 use Rattle.ports.specs.Reads.{read_of}
-use Rattle.ports.specs.Pins.{drivesPort}
+use Rattle.ports.specs.Pins.{drives_port}
 use Rattle.ports.proofs.Strobed.{strobed-reads, acknowledge-drives, driven-shows}
 use Rattle.step.specs.declared.Stepped.{Stepped}
 use Rattle.step.proofs.Outcome.{step-accepts}
@@ -28,17 +28,17 @@ use Rattle.laws.proofs.OwnPort.{own-pins, own_read}
 use Rattle.laws.proofs.Falls.{output-latch-stays}
 use Rattle.fates.specs.Kinds.{kind_of, accepts}
 use Rattle.fates.specs.Surroundings.{brought}
-use Rattle.fates.specs.Effects.{Effect, offered, followed, taken, ended, clearedAway, forcedFull, forcedEmpty, portNumber, levelsOn, strobePin, fullPin, strobes, readRuns, writeRuns, ofPin, saysFull, falls, underLow, when, ownEffect, clears, effect}
-use Rattle.fates.specs.Bytes.{handedOver, same}
-use Rattle.fates.specs.Promise.{surroundingsOf, Shows}
+use Rattle.fates.specs.Effects.{Effect, offered, followed, taken, ended, cleared_away, forced_full, forced_empty, port_number, levels_on, strobe_pin, full_pin, strobes, read_runs, write_runs, of_pin, says_full, falls, under_low, when, own_effect, clears, effect}
+use Rattle.fates.specs.Bytes.{handed_over, same}
+use Rattle.fates.specs.Promise.{surroundings_of, Shows}
 use Rattle.fates.proofs.Tables.{own_same, own-port, line_same, strobes-same}
 use Rattle.fates.proofs.Accepted.{no-kind-accepted, accepted-number}
-use Rattle.fates.proofs.Shapes.{shape_of, fateBy}
+use Rattle.fates.proofs.Shapes.{shape_of, fate_by}
 use Rattle.fates.proofs.Followed.{after, latch}
 
 -- An effect takes a byte, where one waits.
 abbrev pub takes : Effect → Bool
-takes d = same handedOver (fateBy (shape_of d))
+takes d = same handed_over (fate_by (shape_of d))
 
 -- What holds where a byte is taken.
 abbrev WhereTaken : Type 0 → Effect → Type 0
@@ -49,12 +49,12 @@ under-condition : (P : Type 0) (b : Bool) (d : Effect) → (b ≡ true → Where
 under-condition P true d h = h refl
 under-condition P false d h = λ t. absurd t
 
-unless-cleared : (P : Type 0) (b : Bool) (d : Effect) → WhereTaken P d → WhereTaken P (cond b clearedAway d)
+unless-cleared : (P : Type 0) (b : Bool) (d : Effect) → WhereTaken P d → WhereTaken P (cond b cleared_away d)
 unless-cleared P true d h = λ t. absurd t
 unless-cleared P false d h = h
 
 -- The end of a cycle takes none, nor does a flag that is forced.
-ends-take-none : (P : Type 0) (runs own says : Bool) (d : Effect) → takes d ≡ false → WhereTaken P (cond runs d (when own (cond says forcedFull forcedEmpty)))
+ends-take-none : (P : Type 0) (runs own says : Bool) (d : Effect) → takes d ≡ false → WhereTaken P (cond runs d (when own (cond says forced_full forced_empty)))
 ends-take-none P true own says d none = λ t. absurd (subst T none t)
 ends-take-none P false true true d none = λ t. absurd t
 ends-take-none P false true false d none = λ t. absurd t
@@ -75,14 +75,14 @@ module _ (c : Chip) (g : Group) where
 
   -- So it is wherever an accepted event takes a byte from a strobed channel.
   abbrev Shown : Side → Event → Type 0
-  Shown s e = accepts c.edition c.phase (kind_of e) ≡ true → strobes word g s ≡ true → WhereTaken (Takes s e) (ownEffect g s (surroundingsOf c) (kind_of e))
+  Shown s e = accepts c.edition c.phase (kind_of e) ≡ true → strobes word g s ≡ true → WhereTaken (Takes s e) (own_effect g s (surroundings_of c) (kind_of e))
 
   -- A strobed input reads as its latch.
-  input-reads : strobes word g Input ≡ true → (x : ℕ) → eqb x (portNumber g) ≡ true → read_of c x ≡ latch g Input c
+  input-reads : strobes word g Input ≡ true → (x : ℕ) → eqb x (port_number g) ≡ true → read_of c x ≡ latch g Input c
   input-reads on x own =
-      own_read c x g (sym (own_same x g) ∙ own) ∙ strobed-reads word g (portOf c.core g) (sym (strobes-same word g Input) ∙ on)
+      own_read c x g (sym (own_same x g) ∙ own) ∙ strobed-reads word g (port_of c.core g) (sym (strobes-same word g Input) ∙ on)
 
-  begun-shows : (x d : ℕ) → accepts c.edition c.phase (kind_of (event 1 x d)) ≡ true → strobes word g Input ≡ true → eqb x (portNumber g) ≡ true
+  begun-shows : (x d : ℕ) → accepts c.edition c.phase (kind_of (event 1 x d)) ≡ true → strobes word g Input ≡ true → eqb x (port_number g) ≡ true
       → Takes Input (event 1 x d)
   begun-shows x d ok on own = (on, rw (step-accepts c 1 x d (accepted-number c.edition c.phase 1 x d ok)) (refl, input-reads on x own))
 
@@ -90,27 +90,27 @@ module _ (c : Chip) (g : Group) where
   shown-input k x d =
       by_kind (λ k. Shown Input (event k x d))
       (λ ok on t. absurd t)
-      (λ ok on. under-condition _ (eqb x (portNumber g)) taken (λ own t. begun-shows x d ok on own))
-      (λ ok on. ends-take-none _ (readRuns g c.phase) (ofPin c.phase (fullPin g Input)) (saysFull Input (bit_of (brought c.phase) 0)) ended refl)
+      (λ ok on. under-condition _ (eqb x (port_number g)) taken (λ own t. begun-shows x d ok on own))
+      (λ ok on. ends-take-none _ (read_runs g c.phase) (of_pin c.phase (full_pin g Input)) (says_full Input (bit_of (brought c.phase) 0)) ended refl)
       (λ ok on t. absurd t)
-      (λ ok on. levels-take-none _ (falls g Input (surroundingsOf c) x d) (underLow g (surroundingsOf c) x) (levelsOn g (surroundingsOf c)) d)
+      (λ ok on. levels-take-none _ (falls g Input (surroundings_of c) x d) (under_low g (surroundings_of c) x) (levels_on g (surroundings_of c)) d)
       (λ k none ok on. absurd (no-kind-accepted c.edition c.phase k x d none ok))
       k
 
   -- The fall of ACK.
   module _ (x d : ℕ) (ok : accepts c.edition c.phase (kind_of (event 5 x d)) ≡ true) (on : strobes word g Output ≡ true)
-      (fell : falls g Output (surroundingsOf c) x d ≡ true) where
+      (fell : falls g Output (surroundings_of c) x d ≡ true) where
     abbrev left : Chip
     left = after c (event 5 x d)
 
     -- ACK is low in the chip that is left.
-    driven-left : drivesPort left.core g ≡ true
+    driven-left : drives_port left.core g ≡ true
     driven-left =
         let lines = both (eqb x 2) _ fell in
-        let low = not-true (bit_of d (strobePin g Output)) (both (bit_of c.core.c.outside (strobePin g Output)) _ lines.1).1 in
-        ap (λ (r : Stepped). drivesPort r.chip.core g) (step-accepts c 5 x d (accepted-number c.edition c.phase 5 x d ok))
-        ∙ acknowledge-drives (afterLevels c.core x d) g
-        (ap (λ w. strobedOutput w g) (levels-word c.core x d) ∙ sym (strobes-same word g Output) ∙ on)
+        let low = not-true (bit_of d (strobe_pin g Output)) (both (bit_of c.core.c.outside (strobe_pin g Output)) _ lines.1).1 in
+        ap (λ (r : Stepped). drives_port r.chip.core g) (step-accepts c 5 x d (accepted-number c.edition c.phase 5 x d ok))
+        ∙ acknowledge-drives (after_levels c.core x d) g
+        (ap (λ w. strobed_output w g) (levels-word c.core x d) ∙ sym (strobes-same word g Output) ∙ on)
         (rw (levels-lines c.core x d, lines.0, ← line_same g Output) (low))
 
     fall-shows : Takes Output (event 5 x d)
@@ -118,7 +118,7 @@ module _ (c : Chip) (g : Group) where
       on,
       (
         rw (step-accepts c 5 x d (accepted-number c.edition c.phase 5 x d ok)),
-        own-pins left (portNumber g) g (own-port g) ∙ rw (driven-left, driven-shows (portOf left.core g), output-latch-stays c g x d),
+        own-pins left (port_number g) g (own-port g) ∙ rw (driven-left, driven-shows (port_of left.core g), output-latch-stays c g x d),
       ),
     )
 
@@ -127,10 +127,10 @@ module _ (c : Chip) (g : Group) where
       by_kind (λ k. Shown Output (event k x d))
       (λ ok on t. absurd t)
       (λ ok on t. absurd t)
-      (λ ok on. ends-take-none _ (writeRuns g c.phase) (ofPin c.phase (fullPin g Output)) (saysFull Output (bit_of (brought c.phase) 0))
+      (λ ok on. ends-take-none _ (write_runs g c.phase) (of_pin c.phase (full_pin g Output)) (says_full Output (bit_of (brought c.phase) 0))
       (offered (brought c.phase)) refl)
       (λ ok on t. absurd t)
-      (λ ok on. under-condition _ (falls g Output (surroundingsOf c) x d) taken (λ fell t. fall-shows x d ok on fell))
+      (λ ok on. under-condition _ (falls g Output (surroundings_of c) x d) taken (λ fell t. fall-shows x d ok on fell))
       (λ k none ok on. absurd (no-kind-accepted c.edition c.phase k x d none ok))
       k
 
@@ -139,7 +139,7 @@ module _ (c : Chip) (g : Group) where
   shown-own Output e = shown-output e.kind e.first e.second
 
   -- Where any event takes a byte from the channel, it shows the channel's latch.
-  pub taken-shows : (s : Side) (e : Event) → WhereTaken (Takes s e) (effect g s (surroundingsOf c) e)
+  pub taken-shows : (s : Side) (e : Event) → WhereTaken (Takes s e) (effect g s (surroundings_of c) e)
   taken-shows s e =
       under-condition _ (accepts c.edition c.phase (kind_of e)) _
       (λ ok. unless-cleared _ (clears c.phase (kind_of e)) _

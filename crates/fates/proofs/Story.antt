@@ -11,20 +11,20 @@ use Rattle.channel.specs.declared.Side.{Side}
 use Rattle.channel.specs.declared.Side.TheVariants.{Input, Output}
 use Rattle.channel.specs.declared.Fill.{Fill}
 use Rattle.channel.specs.declared.Fill.TheVariants.{Empty, Waiting, Fetching}
-use Rattle.channel.specs.Channel.{isWaiting}
-use Rattle.fates.specs.Effects.{Effect, offered, followed, taken, ended, clearedAway, forcedFull, forcedEmpty, nothing}
+use Rattle.channel.specs.Channel.{is_waiting}
+use Rattle.fates.specs.Effects.{Effect, offered, followed, taken, ended, cleared_away, forced_full, forced_empty, nothing}
 use Rattle.fates.specs.Left.{left}
-use Rattle.fates.specs.Bytes.{Fate, overwritten, waiting, Offer, Byte, decidedAt, bytes, plantedAmong, offeredAmong, same}
-use Rattle.fates.specs.Promise.{heldByte, Each}
-use Rattle.fates.proofs.Shapes.{Shape, passes, offers, plants, decides, shape_of, fateBy, fillAfter, heldAfter, isOffer, isPlant, gives}
+use Rattle.fates.specs.Bytes.{Fate, overwritten, waiting, Offer, Byte, decided_at, bytes, planted_among, offered_among, same}
+use Rattle.fates.specs.Promise.{held_byte, Each}
+use Rattle.fates.proofs.Shapes.{Shape, passes, offers, plants, decides, shape_of, fate_by, fill_after, held_after, is_offer, is_plant, gives}
 
 -- The bytes of a channel in the condition f, whose latch has the value of h; where it waits, h is the byte that it holds.
 abbrev pub story : Side → Fill → Offer → ℕ → List Effect → List Byte
-story s f h n later = heldByte f h n later ++ bytes s (left f h.value) n later
+story s f h n later = held_byte f h n later ++ bytes s (left f h.value) n later
 
 -- One byte, with its fate.
 unfoldable pub fated : Offer → ℕ → Fate → List Byte
-fated h n f = record { offer = h; outcome = decidedAt n f } ∷ []
+fated h n f = record { offer = h; outcome = decided_at n f } ∷ []
 
 -- The byte, if any, that an effect at place n decides.
 unfoldable pub decided : Fill → Offer → ℕ → Shape → List Byte
@@ -38,86 +38,86 @@ decided Fetching h n d = []
 -- The step on which all theorems go: what an effect decides stands first, and the rest is the story from there. Here alone the words of
 -- Bytes, which look ahead, are held to the table.
 pub story-step : (s : Side) (f : Fill) (h : Offer) (n : ℕ) (d : Effect) (later : List Effect)
-    → story s f h n (d ∷ later) ≡ decided f h n (shape_of d) ++ story s (fillAfter s f (shape_of d)) (heldAfter s f h n (shape_of d)) (suc n) later
+    → story s f h n (d ∷ later) ≡ decided f h n (shape_of d) ++ story s (fill_after s f (shape_of d)) (held_after s f h n (shape_of d)) (suc n) later
 unfolding decided fated
 story-step s f h n (offered v) later = elim f [ Empty ↦ refl | Waiting ↦ refl | Fetching ↦ refl ]
 story-step s f h n (followed v) later = elim f [ Empty ↦ refl | Waiting ↦ refl | Fetching ↦ refl ]
 story-step Input f h n taken later = elim f [ Empty ↦ refl | Waiting ↦ refl | Fetching ↦ refl ]
 story-step Output f h n taken later = elim f [ Empty ↦ refl | Waiting ↦ refl | Fetching ↦ refl ]
 story-step s f h n ended later = elim f [ Empty ↦ refl | Waiting ↦ refl | Fetching ↦ refl ]
-story-step s f h n clearedAway later = elim f [ Empty ↦ refl | Waiting ↦ refl | Fetching ↦ refl ]
-story-step Input f h n forcedFull later = elim f [ Empty ↦ refl | Waiting ↦ refl | Fetching ↦ refl ]
-story-step Output f h n forcedFull later = elim f [ Empty ↦ refl | Waiting ↦ refl | Fetching ↦ refl ]
-story-step s f h n forcedEmpty later = elim f [ Empty ↦ refl | Waiting ↦ refl | Fetching ↦ refl ]
+story-step s f h n cleared_away later = elim f [ Empty ↦ refl | Waiting ↦ refl | Fetching ↦ refl ]
+story-step Input f h n forced_full later = elim f [ Empty ↦ refl | Waiting ↦ refl | Fetching ↦ refl ]
+story-step Output f h n forced_full later = elim f [ Empty ↦ refl | Waiting ↦ refl | Fetching ↦ refl ]
+story-step s f h n forced_empty later = elim f [ Empty ↦ refl | Waiting ↦ refl | Fetching ↦ refl ]
 story-step s f h n nothing later = elim f [ Empty ↦ refl | Waiting ↦ refl | Fetching ↦ refl ]
 
 -- The same of the bytes that come from place n on, without the one that is held: where one comes, the story goes on with it.
 pub bytes-step : (s : Side) (f : Fill) (h : Offer) (n : ℕ) (d : Effect) (later : List Effect)
     → bytes s (left f h.value) n (d ∷ later)
-    ≡ cond (isOffer (shape_of d) || isPlant s f (shape_of d))
-    (story s (fillAfter s f (shape_of d)) (heldAfter s f h n (shape_of d)) (suc n) later)
-    (bytes s (left (fillAfter s f (shape_of d)) (heldAfter s f h n (shape_of d)).value) (suc n) later)
+    ≡ cond (is_offer (shape_of d) || is_plant s f (shape_of d))
+    (story s (fill_after s f (shape_of d)) (held_after s f h n (shape_of d)) (suc n) later)
+    (bytes s (left (fill_after s f (shape_of d)) (held_after s f h n (shape_of d)).value) (suc n) later)
 bytes-step s f h n (offered v) later = refl
 bytes-step s f h n (followed v) later = refl
 bytes-step s f h n taken later = refl
 bytes-step s f h n ended later = refl
-bytes-step s f h n clearedAway later = refl
-bytes-step Input f h n forcedFull later = elim f [ Empty ↦ refl | Waiting ↦ refl | Fetching ↦ refl ]
-bytes-step Output f h n forcedFull later = elim f [ Empty ↦ refl | Waiting ↦ refl | Fetching ↦ refl ]
-bytes-step s f h n forcedEmpty later = refl
+bytes-step s f h n cleared_away later = refl
+bytes-step Input f h n forced_full later = elim f [ Empty ↦ refl | Waiting ↦ refl | Fetching ↦ refl ]
+bytes-step Output f h n forced_full later = elim f [ Empty ↦ refl | Waiting ↦ refl | Fetching ↦ refl ]
+bytes-step s f h n forced_empty later = refl
 bytes-step s f h n nothing later = refl
 
 -- An effect decides no byte, and then it gives none of the fates that have a tally; or it decides the one that waits.
 pub by-decided : (P : Fill → Shape → List Byte → Type 0) (h : Offer) (n : ℕ)
     → ((f : Fill) (d : Shape) → ((x : Fate) → same x waiting ≡ false → gives x f d ≡ false) → P f d [])
-    → ((d : Shape) → same waiting (fateBy d) ≡ false → P Waiting d (fated h n (fateBy d)))
+    → ((d : Shape) → same waiting (fate_by d) ≡ false → P Waiting d (fated h n (fate_by d)))
     → (f : Fill) (d : Shape) → P f d (decided f h n d)
 unfolding decided
-by-decided P h n none one Empty d = none Empty d (λ x tallied. and-false (same x (fateBy d)))
+by-decided P h n none one Empty d = none Empty d (λ x tallied. and-false (same x (fate_by d)))
 by-decided P h n none one Waiting (passes to) = none Waiting (passes to) (λ x tallied. rw (tallied))
 by-decided P h n none one Waiting (offers v) = one (offers v) refl
 by-decided P h n none one Waiting plants = none Waiting plants (λ x tallied. rw (tallied))
 by-decided P h n none one Waiting (decides x) = one (decides x) x.decisive
-by-decided P h n none one Fetching d = none Fetching d (λ x tallied. and-false (same x (fateBy d)))
+by-decided P h n none one Fetching d = none Fetching d (λ x tallied. and-false (same x (fate_by d)))
 
 -- What holds of the byte, if any, that an effect decides, and of each that comes after it, holds of them all.
 pub decided-each : (P : Byte → Type 0) (f : Fill) (h : Offer) (n : ℕ) (d : Shape) (bs : List Byte)
-    → (f ≡ Waiting → same waiting (fateBy d) ≡ false → P (record { offer = h; outcome = decidedAt n (fateBy d) })) → Each P bs
+    → (f ≡ Waiting → same waiting (fate_by d) ≡ false → P (record { offer = h; outcome = decided_at n (fate_by d) })) → Each P bs
     → Each P (decided f h n d ++ bs)
 unfolding fated
 decided-each P f h n d bs here rest =
-    by-decided (λ f d l. (f ≡ Waiting → same waiting (fateBy d) ≡ false → P (record { offer = h; outcome = decidedAt n (fateBy d) })) → Each P (l ++ bs)) h n
+    by-decided (λ f d l. (f ≡ Waiting → same waiting (fate_by d) ≡ false → P (record { offer = h; outcome = decided_at n (fate_by d) })) → Each P (l ++ bs)) h n
     (λ f d none here. rest) (λ d decisive here. (here refl decisive, rest)) f d here
 
 -- The bytes of a channel are those that come from here on, and the one that may wait.
-pub with-held : (f : Fill) (h : Offer) (n : ℕ) (later : List Effect) (new : List Byte) → length (heldByte f h n later ++ new) ≡ num (isWaiting f) + length new
+pub with-held : (f : Fill) (h : Offer) (n : ℕ) (later : List Effect) (new : List Byte) → length (held_byte f h n later ++ new) ≡ num (is_waiting f) + length new
 with-held Empty h n later new = omega arith
 with-held Waiting h n later new = omega arith
 with-held Fetching h n later new = omega arith
 
 -- Those that come are counted as offered and as planted, by what each effect brings.
 pub offers-counted : (s : Side) (f : Fill) (h : Offer) (n : ℕ) (d : Effect) (later : List Effect)
-    → offeredAmong (bytes s (left f h.value) n (d ∷ later))
-    ≡ num (isOffer (shape_of d)) + offeredAmong (bytes s (left (fillAfter s f (shape_of d)) (heldAfter s f h n (shape_of d)).value) (suc n) later)
+    → offered_among (bytes s (left f h.value) n (d ∷ later))
+    ≡ num (is_offer (shape_of d)) + offered_among (bytes s (left (fill_after s f (shape_of d)) (held_after s f h n (shape_of d)).value) (suc n) later)
 offers-counted s f h n (offered v) later = refl
 offers-counted s f h n (followed v) later = omega arith
 offers-counted s f h n taken later = omega arith
 offers-counted s f h n ended later = omega arith
-offers-counted s f h n clearedAway later = omega arith
-offers-counted Input f h n forcedFull later = elim f [ Empty ↦ refl | Waiting ↦ omega arith | Fetching ↦ omega arith ]
-offers-counted Output f h n forcedFull later = elim f [ Empty ↦ refl | Waiting ↦ omega arith | Fetching ↦ refl ]
-offers-counted s f h n forcedEmpty later = omega arith
+offers-counted s f h n cleared_away later = omega arith
+offers-counted Input f h n forced_full later = elim f [ Empty ↦ refl | Waiting ↦ omega arith | Fetching ↦ omega arith ]
+offers-counted Output f h n forced_full later = elim f [ Empty ↦ refl | Waiting ↦ omega arith | Fetching ↦ refl ]
+offers-counted s f h n forced_empty later = omega arith
 offers-counted s f h n nothing later = omega arith
 
 pub plants-counted : (s : Side) (f : Fill) (h : Offer) (n : ℕ) (d : Effect) (later : List Effect)
-    → plantedAmong (bytes s (left f h.value) n (d ∷ later))
-    ≡ num (isPlant s f (shape_of d)) + plantedAmong (bytes s (left (fillAfter s f (shape_of d)) (heldAfter s f h n (shape_of d)).value) (suc n) later)
+    → planted_among (bytes s (left f h.value) n (d ∷ later))
+    ≡ num (is_plant s f (shape_of d)) + planted_among (bytes s (left (fill_after s f (shape_of d)) (held_after s f h n (shape_of d)).value) (suc n) later)
 plants-counted s f h n (offered v) later = refl
 plants-counted s f h n (followed v) later = omega arith
 plants-counted s f h n taken later = omega arith
 plants-counted s f h n ended later = omega arith
-plants-counted s f h n clearedAway later = omega arith
-plants-counted Input f h n forcedFull later = elim f [ Empty ↦ refl | Waiting ↦ omega arith | Fetching ↦ omega arith ]
-plants-counted Output f h n forcedFull later = elim f [ Empty ↦ refl | Waiting ↦ omega arith | Fetching ↦ refl ]
-plants-counted s f h n forcedEmpty later = omega arith
+plants-counted s f h n cleared_away later = omega arith
+plants-counted Input f h n forced_full later = elim f [ Empty ↦ refl | Waiting ↦ omega arith | Fetching ↦ omega arith ]
+plants-counted Output f h n forced_full later = elim f [ Empty ↦ refl | Waiting ↦ omega arith | Fetching ↦ refl ]
+plants-counted s f h n forced_empty later = omega arith
 plants-counted s f h n nothing later = omega arith

@@ -6,7 +6,7 @@ use mathlib.Core.Bool.{true, cond}
 use Prim.Native.Nat.{ℕ}
 use Rattle.events.proofs.ByKind.{by_kind}
 use Rattle.events.specs.Event.{Event, event}
-use Rattle.bus.specs.Device.{afterIn}
+use Rattle.bus.specs.Device.{after_in}
 use Rattle.bus.specs.declared.Phase.{Phase}
 use Rattle.bus.specs.declared.Phase.TheVariants.{Idle, Reading, Writing}
 use Rattle.control.specs.declared.Group.TheVariants.{A, B}
@@ -14,52 +14,52 @@ use Rattle.chip.specs.declared.Edition.{Edition}
 use Rattle.chip.specs.declared.Core.{Core}
 use Rattle.chip.specs.declared.Chip.{Chip}
 use Rattle.chip.proofs.Surrounded.{Surrounded, spared-surrounded}
-use Rattle.settings.specs.ModeWord.{afterModeWord}
+use Rattle.settings.specs.ModeWord.{after_mode_word}
 use Rattle.settings.proofs.PortsAfter.{mode-word-word, mode-word-ports, mode-word-lines}
-use Rattle.reads.specs.Read.{afterReadBegins, afterReadEnds}
+use Rattle.reads.specs.Read.{after_read_begins, after_read_ends}
 use Rattle.reads.proofs.PortsAfter.{begun-surrounded, ended-surrounded}
 use Rattle.writes.proofs.PortsAfter.{by_address}
-use Rattle.levels.specs.Levels.{afterLevels}
+use Rattle.levels.specs.Levels.{after_levels}
 use Rattle.levels.proofs.PortsAfter.{levels-word, levels-ports, levels-lines}
-use Rattle.step.specs.Step.{device, onBus, after_end, stepped}
-use Rattle.fates.specs.Kinds.{cycleEnded, newLevels, kind_of, accepts}
-use Rattle.fates.specs.Surroundings.{surroundingsAfter, surroundingsNext}
-use Rattle.fates.specs.Promise.{surroundingsOf}
+use Rattle.step.specs.Step.{device, on_bus, after_end, stepped}
+use Rattle.fates.specs.Kinds.{cycle_ended, new_levels, kind_of, accepts}
+use Rattle.fates.specs.Surroundings.{surroundings_after, surroundings_next}
+use Rattle.fates.specs.Promise.{surroundings_of}
 use Rattle.fates.proofs.Accepted.{no-kind-accepted, by-outcome}
 
 -- The surroundings of a core like c, in the phase ph.
-surroundings-like : (ph : Phase) (ed : Edition) (c' c : Core) → Surrounded c' c → surroundingsOf (onBus ph ed c') ≡ surroundingsOf (onBus ph ed c)
+surroundings-like : (ph : Phase) (ed : Edition) (c' c : Core) → Surrounded c' c → surroundings_of (on_bus ph ed c') ≡ surroundings_of (on_bus ph ed c)
 surroundings-like ph ed c' c k = rw (k.word, k.ports A, k.ports B, k.lines)
 
 -- Those of a core made anew.
 surroundings-mode-word : (ph : Phase) (ed : Edition) (c : Core) (w : ℕ)
-    → surroundingsOf (onBus ph ed (afterModeWord c w))
-    ≡ record { phase = ph; edition = ed; word = w; levelsA = c.a.outside; levelsB = c.b.outside; levelsC = c.c.outside }
+    → surroundings_of (on_bus ph ed (after_mode_word c w))
+    ≡ record { phase = ph; edition = ed; word = w; levels_a = c.a.outside; levels_b = c.b.outside; levels_c = c.c.outside }
 surroundings-mode-word ph ed c w = rw (mode-word-word c w, mode-word-ports c w A, mode-word-ports c w B, mode-word-lines c w)
 
 module _ (ed : Edition) (c : Core) where
-  cycle-ended : (ph : Phase) → surroundingsOf (onBus Idle ed (after_end c ph)) ≡ surroundingsAfter (surroundingsOf (onBus ph ed c)) cycleEnded
+  cycle-ended : (ph : Phase) → surroundings_of (on_bus Idle ed (after_end c ph)) ≡ surroundings_after (surroundings_of (on_bus ph ed c)) cycle_ended
   cycle-ended Idle = refl
-  cycle-ended (Reading p) = surroundings-like Idle ed (afterReadEnds c p) c (ended-surrounded c p)
+  cycle-ended (Reading p) = surroundings-like Idle ed (after_read_ends c p) c (ended-surrounded c p)
   cycle-ended (Writing x d) =
-      by_address (λ c'. surroundingsOf (onBus Idle ed c') ≡ surroundingsAfter (surroundingsOf (onBus (Writing x d) ed c)) cycleEnded) c x d
+      by_address (λ c'. surroundings_of (on_bus Idle ed c') ≡ surroundings_after (surroundings_of (on_bus (Writing x d) ed c)) cycle_ended) c x d
       (λ mode. rw (mode) (surroundings-mode-word Idle ed c d))
       (λ mode three c' k. rw (mode) (surroundings-like Idle ed c' c k.surroundings))
       (λ mode two c' k. rw (mode) (surroundings-like Idle ed c' c (spared-surrounded k)))
       (λ mode elsewhere c' k. rw (mode) (surroundings-like Idle ed c' c k.surroundings))
 
-  levels-set : (ph : Phase) (x d : ℕ) → surroundingsOf (onBus ph ed (afterLevels c x d)) ≡ surroundingsAfter (surroundingsOf (onBus ph ed c)) (newLevels x d)
+  levels-set : (ph : Phase) (x d : ℕ) → surroundings_of (on_bus ph ed (after_levels c x d)) ≡ surroundings_after (surroundings_of (on_bus ph ed c)) (new_levels x d)
   levels-set ph x d = rw (levels-word c x d, levels-ports c x d A, levels-ports c x d B, levels-lines c x d)
 
 module _ (c : Chip) where
   abbrev Surrounds : Event → Type 0
-  Surrounds e = accepts c.edition c.phase (kind_of e) ≡ true → surroundingsOf (afterIn device c e.kind e.first e.second) ≡ surroundingsAfter (surroundingsOf c) (kind_of e)
+  Surrounds e = accepts c.edition c.phase (kind_of e) ≡ true → surroundings_of (after_in device c e.kind e.first e.second) ≡ surroundings_after (surroundings_of c) (kind_of e)
 
   surroundings-accepted : (k x d : ℕ) → Surrounds (event k x d)
   surroundings-accepted k x d =
       by_kind (λ k. Surrounds (event k x d))
       (λ ok. surroundings-mode-word Idle c.edition c.core 0x9b)
-      (λ ok. surroundings-like (Reading x) c.edition (afterReadBegins c.core x) c.core (begun-surrounded c.core x))
+      (λ ok. surroundings-like (Reading x) c.edition (after_read_begins c.core x) c.core (begun-surrounded c.core x))
       (λ ok. cycle-ended c.edition c.core c.phase)
       (λ ok. refl)
       (λ ok. levels-set c.edition c.core c.phase x d)
@@ -67,7 +67,7 @@ module _ (c : Chip) where
       k
 
   -- After any event, accepted or refused.
-  pub surroundings-next : (e : Event) → surroundingsOf (stepped c e).chip ≡ surroundingsNext (surroundingsOf c) e
+  pub surroundings-next : (e : Event) → surroundings_of (stepped c e).chip ≡ surroundings_next (surroundings_of c) e
   surroundings-next e =
-      by-outcome (λ c' ok. surroundingsOf c' ≡ cond ok (surroundingsAfter (surroundingsOf c) (kind_of e)) (surroundingsOf c)) c e
+      by-outcome (λ c' ok. surroundings_of c' ≡ cond ok (surroundings_after (surroundings_of c) (kind_of e)) (surroundings_of c)) c e
       (surroundings-accepted e.kind e.first e.second) refl

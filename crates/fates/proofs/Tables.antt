@@ -9,24 +9,24 @@ use Rattle.control.specs.declared.Group.TheVariants.{A, B}
 use Rattle.control.proofs.ByBits.{a-takes, a-gives, b-takes, b-gives}
 use Rattle.channel.specs.declared.Side.{Side}
 use Rattle.channel.specs.declared.Side.TheVariants.{Input, Output}
-use Rattle.chip.specs.Handshakes.{ownAddress, strobed, linePin, flagPin}
-use Rattle.fates.specs.Effects.{portNumber, strobePin, fullPin, strobes}
+use Rattle.chip.specs.Handshakes.{own_address, strobed, line_pin, flag_pin}
+use Rattle.fates.specs.Effects.{port_number, strobe_pin, full_pin, strobes}
 
-pub own_same : (x : ℕ) (g : Group) → eqb x (portNumber g) ≡ ownAddress x g
+pub own_same : (x : ℕ) (g : Group) → eqb x (port_number g) ≡ own_address x g
 own_same x A = refl
 own_same x B = refl
 
-pub own-port : (g : Group) → ownAddress (portNumber g) g ≡ true
+pub own-port : (g : Group) → own_address (port_number g) g ≡ true
 own-port A = refl
 own-port B = refl
 
-pub line_same : (g : Group) (s : Side) → strobePin g s ≡ linePin g s
+pub line_same : (g : Group) (s : Side) → strobe_pin g s ≡ line_pin g s
 line_same A Input = refl
 line_same A Output = refl
 line_same B Input = refl
 line_same B Output = refl
 
-pub full-same : (g : Group) (s : Side) → fullPin g s ≡ flagPin g s
+pub full-same : (g : Group) (s : Side) → full_pin g s ≡ flag_pin g s
 full-same A Input = refl
 full-same A Output = refl
 full-same B Input = refl

@@ -8,13 +8,13 @@ use Rattle.channel.specs.declared.Side.{Side}
 use Rattle.channel.specs.declared.Fill.TheVariants.{Empty}
 use Rattle.chip.specs.declared.Edition.{Edition}
 use Rattle.chip.specs.declared.Levels.{Levels}
-use Rattle.fates.specs.Surroundings.{atPowerUp}
-use Rattle.fates.specs.Effects.{Effect, offered, followed, taken, ended, clearedAway, forcedFull, forcedEmpty, nothing, effects}
-use Rattle.fates.specs.Left.{Left, left, roomIn, leftAfter}
+use Rattle.fates.specs.Surroundings.{at_power_up}
+use Rattle.fates.specs.Effects.{Effect, offered, followed, taken, ended, cleared_away, forced_full, forced_empty, nothing, effects}
+use Rattle.fates.specs.Left.{Left, left, room_in, left_after}
 
 -- What becomes of a byte.
 pub data Fate : Type 0 where
-  handedOver overwritten swallowed cleared struck waiting : Fate
+  handed_over overwritten swallowed cleared struck waiting : Fate
 
 -- A byte by itself: the place in the history of the event that offers or plants it, which of the two that event does, and its value.
 pub record Offer : Type 0 where
@@ -33,29 +33,29 @@ pub record Byte : Type 0 where
   pub outcome : Outcome
 
 -- A byte of value v, offered or planted at place n.
-abbrev pub offeredAt : ℕ → ℕ → Offer
-offeredAt n v = record { place = n; planted = false; value = v }
+abbrev pub offered_at : ℕ → ℕ → Offer
+offered_at n v = record { place = n; planted = false; value = v }
 
-abbrev pub plantedAt : ℕ → ℕ → Offer
-plantedAt n v = record { place = n; planted = true; value = v }
+abbrev pub planted_at : ℕ → ℕ → Offer
+planted_at n v = record { place = n; planted = true; value = v }
 
 -- The fate f decided at place n.
-abbrev pub decidedAt : ℕ → Fate → Outcome
-decidedAt n f = record { fate = f; place = n }
+abbrev pub decided_at : ℕ → Fate → Outcome
+decided_at n f = record { fate = f; place = n }
 
 -- What becomes of a byte that waits before these effects, the first of which is at place n: the first decides that is neither `nothing` nor
--- `followed` nor `forcedFull`, for which there is no room. Where there is none the byte goes on waiting, and the place is the one after the last
+-- `followed` nor `forced_full`, for which there is no room. Where there is none the byte goes on waiting, and the place is the one after the last
 -- event.
-abbrev pub outcomeOf : ℕ → List Effect → Outcome
-outcomeOf n [] = decidedAt n waiting
-outcomeOf n (offered v ∷ later) = decidedAt n overwritten
-outcomeOf n (followed v ∷ later) = outcomeOf (suc n) later
-outcomeOf n (taken ∷ later) = decidedAt n handedOver
-outcomeOf n (ended ∷ later) = decidedAt n swallowed
-outcomeOf n (clearedAway ∷ later) = decidedAt n cleared
-outcomeOf n (forcedFull ∷ later) = outcomeOf (suc n) later
-outcomeOf n (forcedEmpty ∷ later) = decidedAt n struck
-outcomeOf n (nothing ∷ later) = outcomeOf (suc n) later
+abbrev pub outcome_of : ℕ → List Effect → Outcome
+outcome_of n [] = decided_at n waiting
+outcome_of n (offered v ∷ later) = decided_at n overwritten
+outcome_of n (followed v ∷ later) = outcome_of (suc n) later
+outcome_of n (taken ∷ later) = decided_at n handed_over
+outcome_of n (ended ∷ later) = decided_at n swallowed
+outcome_of n (cleared_away ∷ later) = decided_at n cleared
+outcome_of n (forced_full ∷ later) = outcome_of (suc n) later
+outcome_of n (forced_empty ∷ later) = decided_at n struck
+outcome_of n (nothing ∷ later) = outcome_of (suc n) later
 
 -- The value that a byte of value v has in the end: the levels that last came while it waited and STB was low, where any did. Levels that
 -- come once its fate is decided are not its own.
@@ -65,48 +65,48 @@ settled v (offered u ∷ later) = v
 settled v (followed u ∷ later) = settled u later
 settled v (taken ∷ later) = v
 settled v (ended ∷ later) = v
-settled v (clearedAway ∷ later) = v
-settled v (forcedFull ∷ later) = settled v later
-settled v (forcedEmpty ∷ later) = v
+settled v (cleared_away ∷ later) = v
+settled v (forced_full ∷ later) = settled v later
+settled v (forced_empty ∷ later) = v
 settled v (nothing ∷ later) = settled v later
 
 -- A byte that waits before the effects that begin at place n.
-abbrev pub withFate : Offer → ℕ → List Effect → Byte
-withFate o n later = record { offer = record { place = o.place; planted = o.planted; value = settled o.value later }; outcome = outcomeOf n later }
+abbrev pub with_fate : Offer → ℕ → List Effect → Byte
+with_fate o n later = record { offer = record { place = o.place; planted = o.planted; value = settled o.value later }; outcome = outcome_of n later }
 
 -- The byte, if any, that an effect at place n brings to a channel in which h was left: one that is offered, or one that is planted, where there
 -- is room, with the latch's value. The later effects decide its fate.
-abbrev pub newByte : Side → Left → ℕ → Effect → List Effect → List Byte
-newByte s h n (offered v) later = withFate (offeredAt n v) (suc n) later ∷ []
-newByte s h n (followed v) later = []
-newByte s h n taken later = []
-newByte s h n ended later = []
-newByte s h n clearedAway later = []
-newByte s h n forcedFull later = cond (roomIn s h.fill) (withFate (plantedAt n h.latch) (suc n) later ∷ []) []
-newByte s h n forcedEmpty later = []
-newByte s h n nothing later = []
+abbrev pub new_byte : Side → Left → ℕ → Effect → List Effect → List Byte
+new_byte s h n (offered v) later = with_fate (offered_at n v) (suc n) later ∷ []
+new_byte s h n (followed v) later = []
+new_byte s h n taken later = []
+new_byte s h n ended later = []
+new_byte s h n cleared_away later = []
+new_byte s h n forced_full later = cond (room_in s h.fill) (with_fate (planted_at n h.latch) (suc n) later ∷ []) []
+new_byte s h n forced_empty later = []
+new_byte s h n nothing later = []
 
 -- The bytes that the effects from place n on bring, in their order.
 abbrev pub bytes : Side → Left → ℕ → List Effect → List Byte
 bytes s h n [] = []
-bytes s h n (d ∷ later) = newByte s h n d later ++ bytes s (leftAfter s h d) (suc n) later
+bytes s h n (d ∷ later) = new_byte s h n d later ++ bytes s (left_after s h d) (suc n) later
 
 -- The bytes of a channel in a history from a power-up of this edition under these levels: there is nothing in it then.
 abbrev pub bytes_of : Group → Side → Edition → Levels → List Event → List Byte
-bytes_of g s ed l es = bytes s (left Empty 0) 1 (effects g s (atPowerUp ed l) es)
+bytes_of g s ed l es = bytes s (left Empty 0) 1 (effects g s (at_power_up ed l) es)
 
 -- How many of the bytes were planted, and how many offered.
-abbrev pub plantedAmong : List Byte → ℕ
-plantedAmong [] = 0
-plantedAmong (b ∷ bs) = num b.offer.planted + plantedAmong bs
+abbrev pub planted_among : List Byte → ℕ
+planted_among [] = 0
+planted_among (b ∷ bs) = num b.offer.planted + planted_among bs
 
-abbrev pub offeredAmong : List Byte → ℕ
-offeredAmong [] = 0
-offeredAmong (b ∷ bs) = num (not b.offer.planted) + offeredAmong bs
+abbrev pub offered_among : List Byte → ℕ
+offered_among [] = 0
+offered_among (b ∷ bs) = num (not b.offer.planted) + offered_among bs
 
 -- Fates are told apart by numbers.
 abbrev pub rank : Fate → ℕ
-rank handedOver = 0
+rank handed_over = 0
 rank overwritten = 1
 rank swallowed = 2
 rank cleared = 3
@@ -128,10 +128,10 @@ pub record ValueAndFate : Type 0 where
   pub value : ℕ
   pub fate : Fate
 
-abbrev pub valueAndFate : Byte → ValueAndFate
-valueAndFate b = record { planted = b.offer.planted; value = b.offer.value; fate = b.outcome.fate }
+abbrev pub value_and_fate : Byte → ValueAndFate
+value_and_fate b = record { planted = b.offer.planted; value = b.offer.value; fate = b.outcome.fate }
 
 -- So of all the bytes of a channel, in their order.
-abbrev pub valuesAndFates : List Byte → List ValueAndFate
-valuesAndFates [] = []
-valuesAndFates (b ∷ bs) = valueAndFate b ∷ valuesAndFates bs
+abbrev pub values_and_fates : List Byte → List ValueAndFate
+values_and_fates [] = []
+values_and_fates (b ∷ bs) = value_and_fate b ∷ values_and_fates bs

@@ -14,19 +14,19 @@ use Rattle.channel.specs.declared.Side.TheVariants.{Input, Output}
 use Rattle.chip.specs.declared.Port.{Port}
 use Rattle.chip.specs.declared.Core.{Core}
 use Rattle.chip.specs.declared.Chip.{Chip}
-use Rattle.chip.specs.State.{portOf}
-use Rattle.chip.specs.Handshakes.{linePin, groupAt, enableOf, running}
-use Rattle.groups.specs.Belongings.{itsPin}
+use Rattle.chip.specs.State.{port_of}
+use Rattle.chip.specs.Handshakes.{line_pin, group_at, enable_of, running}
+use Rattle.groups.specs.Belongings.{its_pin}
 
 -- Two bytes have the same bits at the group's pins.
 abbrev pub SameAt : Group → ℕ → ℕ → Type 0
-SameAt g x y = (n : ℕ) → n < 8 → itsPin g n ≡ true → bit_of x n ≡ bit_of y n
+SameAt g x y = (n : ℕ) → n < 8 → its_pin g n ≡ true → bit_of x n ≡ bit_of y n
 
 -- The same mode word, port, enables, and bits of the group's pins.
 pub record Alike (g : Group) (c' c : Core) : Type 0 where
   pub word : c'.word ≡ c.word
-  pub port : portOf c' g ≡ portOf c g
-  pub enables : (s : Side) → enableOf c'.inte g s ≡ enableOf c.inte g s
+  pub port : port_of c' g ≡ port_of c g
+  pub enables : (s : Side) → enable_of c'.inte g s ≡ enable_of c.inte g s
   pub latch : SameAt g c'.c.latch c.c.latch
   pub lines : SameAt g c'.c.outside c.c.outside
 
@@ -64,17 +64,17 @@ port-by-parts p q i o l =
     ∙ ap (λ x. record { input = q.input; output = q.output; outside = x }) l
 
 -- Where both ports are the same, each group's is.
-pub port-same : (c' c : Core) → c'.a ≡ c.a → c'.b ≡ c.b → (g : Group) → portOf c' g ≡ portOf c g
+pub port-same : (c' c : Core) → c'.a ≡ c.a → c'.b ≡ c.b → (g : Group) → port_of c' g ≡ port_of c g
 port-same c' c a b A = a
 port-same c' c a b B = b
 
 -- STB and ACK of a group come in at its own pins.
-pub line_same : (g : Group) (x y : ℕ) → SameAt g x y → (s : Side) → bit_of x (linePin g s) ≡ bit_of y (linePin g s)
+pub line_same : (g : Group) (x y : ℕ) → SameAt g x y → (s : Side) → bit_of x (line_pin g s) ≡ bit_of y (line_pin g s)
 line_same A x y same Input = same 4 (lit< tt) refl
 line_same A x y same Output = same 6 (lit< tt) refl
 line_same B x y same s = same 2 (lit< tt) refl
 
 -- The signals at a group's pin are the group's.
-pub at-its-pin : (g : Group) (n : ℕ) → itsPin g n ≡ true → groupAt n ≡ g
+pub at-its-pin : (g : Group) (n : ℕ) → its_pin g n ≡ true → group_at n ≡ g
 at-its-pin A n its = let above = ltb-true _ n its in rw (le-ltb n 3 (omega (arith, above)))
 at-its-pin B n its = let below = ltb-true n _ its in rw (lt-ltb n 3 (omega (arith, below)))

@@ -13,16 +13,16 @@ use Rattle.channel.specs.declared.Side.TheVariants.{Input, Output}
 use Rattle.chip.specs.declared.Edition.{Edition}
 use Rattle.chip.specs.declared.Chip.{Chip}
 use Rattle.chip.specs.declared.Levels.{Levels}
-use Rattle.chip.specs.State.{powerUpAs, portOf, channelOf}
+use Rattle.chip.specs.State.{power_up_as, port_of, channel_of}
 use Rattle.step.specs.Step.{stepped}
-use Rattle.fates.specs.Surroundings.{atPowerUp}
-use Rattle.fates.specs.Effects.{Effect, levelsOn, effect, effects}
-use Rattle.fates.specs.Bytes.{offeredAt, bytes_of, valuesAndFates}
-use Rattle.fates.specs.Promise.{run, surroundingsOf}
+use Rattle.fates.specs.Surroundings.{at_power_up}
+use Rattle.fates.specs.Effects.{Effect, levels_on, effect, effects}
+use Rattle.fates.specs.Bytes.{offered_at, bytes_of, values_and_fates}
+use Rattle.fates.specs.Promise.{run, surroundings_of}
 use Rattle.fates.proofs.SurroundingsKept.{surroundings-next}
-use Rattle.groups.specs.Belongings.{belongingsOf}
-use Rattle.groups.specs.Doings.{other, itsCycle}
-use Rattle.groups.specs.Alone.{without, everInTheWay, outOfTheWay}
+use Rattle.groups.specs.Belongings.{belongings_of}
+use Rattle.groups.specs.Doings.{other, its_cycle}
+use Rattle.groups.specs.Alone.{without, ever_in_the_way, out_of_the_way}
 use Rattle.groups.specs.Apart.{SameTo}
 use Rattle.groups.proofs.Alike.{alike_same}
 use Rattle.groups.proofs.Seen.{same-belongings}
@@ -33,7 +33,7 @@ use Rattle.groups.proofs.Heard.{hearing, heard, same-heard}
 use Rattle.groups.proofs.Effects.{Around, quiet, same_effect}
 
 -- The same is left of the group.
-left-through : (g : Group) → Through g (λ c' es' c es. belongingsOf g (run c es) ≡ belongingsOf g (run c' es'))
+left-through : (g : Group) → Through g (λ c' es' c es. belongings_of g (run c es) ≡ belongings_of g (run c' es'))
 left-through g = record {
   none = λ c' c k. sym (same-belongings g c' c (beside-on-bus g c' c k));
   dropped = λ c' c e es' es its so. so;
@@ -41,7 +41,7 @@ left-through g = record {
 }
 
 -- What a channel of the group can tell of its surroundings is the same beside.
-around : (g : Group) (c' c : Chip) → Beside g c' c → Around g (surroundingsOf c') (surroundingsOf c)
+around : (g : Group) (c' c : Chip) → Beside g c' c → Around g (surroundings_of c') (surroundings_of c)
 around g c' c k = record {
   edition = k.edition;
   phase = k.bus;
@@ -50,53 +50,53 @@ around g c' c k = record {
   lines = k.core.lines;
 }
   where
-    levels-are : (c : Chip) (g : Group) → levelsOn g (surroundingsOf c) ≡ (portOf c.core g).outside
+    levels-are : (c : Chip) (g : Group) → levels_on g (surroundings_of c) ≡ (port_of c.core g).outside
     levels-are c A = refl
     levels-are c B = refl
 
 -- The effects that are heard of a history from a chip.
-abbrev heardFrom : Group → Side → Chip → List Event → List Effect
-heardFrom g s c es = heard (effects g s (surroundingsOf c) es)
+abbrev heard_from : Group → Side → Chip → List Event → List Effect
+heard_from g s c es = heard (effects g s (surroundings_of c) es)
 
 -- Of its first event, and of the others from the chip that it leaves.
 heard-on : (g : Group) (s : Side) (c : Chip) (e : Event) (es : List Event)
-    → hearing (effect g s (surroundingsOf c) e) (heardFrom g s (stepped c e).chip es) ≡ heardFrom g s c (e ∷ es)
-heard-on g s c e es = ap (λ a. hearing (effect g s (surroundingsOf c) e) (heard (effects g s a es))) (surroundings-next c e)
+    → hearing (effect g s (surroundings_of c) e) (heard_from g s (stepped c e).chip es) ≡ heard_from g s c (e ∷ es)
+heard-on g s c e es = ap (λ a. hearing (effect g s (surroundings_of c) e) (heard (effects g s a es))) (surroundings-next c e)
 
-heard-through : (g : Group) (s : Side) → Through g (λ c' es' c es. heardFrom g s c es ≡ heardFrom g s c' es')
+heard-through : (g : Group) (s : Side) → Through g (λ c' es' c es. heard_from g s c es ≡ heard_from g s c' es')
 heard-through g s = record {
   none = λ c' c k. refl;
   dropped = λ c' c e es' es its so.
-      sym (heard-on g s c e es) ∙ ap (λ d. hearing d (heardFrom g s (stepped c e).chip es)) (quiet g (surroundingsOf c) s e its) ∙ so;
+      sym (heard-on g s c e es) ∙ ap (λ d. hearing d (heard_from g s (stepped c e).chip es)) (quiet g (surroundings_of c) s e its) ∙ so;
   kept = λ c' c e es' es k others clear so.
       sym (heard-on g s c e es)
-      ∙ ap (hearing (effect g s (surroundingsOf c) e)) so
-      ∙ ap (λ d. hearing d (heardFrom g s (stepped c' e).chip es')) (sym (same_effect g _ _ (around g c' c k) s e others clear))
+      ∙ ap (hearing (effect g s (surroundings_of c) e)) so
+      ∙ ap (λ d. hearing d (heard_from g s (stepped c' e).chip es')) (sym (same_effect g _ _ (around g c' c k) s e others clear))
       ∙ heard-on g s c' e es';
 }
 
 -- A chip on whose bus no cycle of the other group runs is beside itself.
-beside-itself : (g : Group) (c : Chip) → itsCycle (other g) c.phase ≡ false → Beside g c c
+beside-itself : (g : Group) (c : Chip) → its_cycle (other g) c.phase ≡ false → Beside g c c
 beside-itself g c none = record { core = alike_same g c.core; edition = refl; bus = sym (not-its (other g) c.phase none) }
 
 -- So from every chip.
-pub as-if-alone : (g : Group) (c : Chip) (es : List Event) → outOfTheWay (other g) (surroundingsOf c) es ≡ true
-    → SameTo g c es (without (other g) (surroundingsOf c) es)
+pub as-if-alone : (g : Group) (c : Chip) (es : List Event) → out_of_the_way (other g) (surroundings_of c) es ≡ true
+    → SameTo g c es (without (other g) (surroundings_of c) es)
 as-if-alone g c es out =
-    let is = both (not (itsCycle (other g) c.phase)) (not (everInTheWay (other g) (surroundingsOf c) es)) out in
-    let itself = beside-itself g c (not-true (itsCycle (other g) c.phase) is.0) in
-    let clear = not-true (everInTheWay (other g) (surroundingsOf c) es) is.1 in
+    let is = both (not (its_cycle (other g) c.phase)) (not (ever_in_the_way (other g) (surroundings_of c) es)) out in
+    let itself = beside-itself g c (not-true (its_cycle (other g) c.phase) is.0) in
+    let clear = not-true (ever_in_the_way (other g) (surroundings_of c) es) is.1 in
     record {
       belongings = by-history g _ (left-through g) es c c itself clear;
       bytes = λ s.
-          let ch = channelOf c.core g s in
-          same-heard s ch.fill (offeredAt 0 ch.latch) _ _ (by-history g _ (heard-through g s) es c c itself clear);
+          let ch = channel_of c.core g s in
+          same-heard s ch.fill (offered_at 0 ch.latch) _ _ (by-history g _ (heard-through g s) es c c itself clear);
     }
 
 -- From power-up, of either edition and under any levels, where no byte waits.
-pub bytes-as-if-alone : (g : Group) (s : Side) (ed : Edition) (l : Levels) (es : List Event) → outOfTheWay (other g) (atPowerUp ed l) es ≡ true
-    → valuesAndFates (bytes_of g s ed l es) ≡ valuesAndFates (bytes_of g s ed l (without (other g) (atPowerUp ed l) es))
-bytes-as-if-alone A Input ed l es out = (as-if-alone A (powerUpAs ed l) es out).bytes Input
-bytes-as-if-alone A Output ed l es out = (as-if-alone A (powerUpAs ed l) es out).bytes Output
-bytes-as-if-alone B Input ed l es out = (as-if-alone B (powerUpAs ed l) es out).bytes Input
-bytes-as-if-alone B Output ed l es out = (as-if-alone B (powerUpAs ed l) es out).bytes Output
+pub bytes-as-if-alone : (g : Group) (s : Side) (ed : Edition) (l : Levels) (es : List Event) → out_of_the_way (other g) (at_power_up ed l) es ≡ true
+    → values_and_fates (bytes_of g s ed l es) ≡ values_and_fates (bytes_of g s ed l (without (other g) (at_power_up ed l) es))
+bytes-as-if-alone A Input ed l es out = (as-if-alone A (power_up_as ed l) es out).bytes Input
+bytes-as-if-alone A Output ed l es out = (as-if-alone A (power_up_as ed l) es out).bytes Output
+bytes-as-if-alone B Input ed l es out = (as-if-alone B (power_up_as ed l) es out).bytes Input
+bytes-as-if-alone B Output ed l es out = (as-if-alone B (power_up_as ed l) es out).bytes Output

@@ -6,23 +6,23 @@ use Prim.Native.Nat.{ℕ}
 use Rattle.bits.proofs.Logic.{contrary}
 use Rattle.events.specs.Event.{Event, event}
 use Rattle.events.proofs.ByKind.{by_kind}
-use Rattle.bus.specs.Device.{afterIn}
+use Rattle.bus.specs.Device.{after_in}
 use Rattle.bus.specs.declared.Phase.TheVariants.{Idle}
 use Rattle.control.specs.declared.Group.{Group}
 use Rattle.channel.specs.declared.Side.{Side}
 use Rattle.chip.specs.declared.Chip.{Chip}
-use Rattle.chip.specs.State.{powerUpWord}
+use Rattle.chip.specs.State.{power_up_word}
 use Rattle.chip.specs.Handshakes.{running}
 use Rattle.laws.proofs.Editions.{edition-stays}
 use Rattle.laws.proofs.Interrupts.{none_runs}
 use Rattle.step.specs.Step.{device, after_end, stepped}
 use Rattle.fates.specs.Kinds.{kind_of, accepts}
 use Rattle.fates.specs.Surroundings.{Surroundings}
-use Rattle.fates.specs.Promise.{surroundingsOf}
+use Rattle.fates.specs.Promise.{surroundings_of}
 use Rattle.fates.proofs.Accepted.{no-kind-accepted, by-outcome}
 use Rattle.fates.proofs.SurroundingsKept.{surroundings-next}
-use Rattle.groups.specs.Doings.{other, itsCycle, is_of}
-use Rattle.groups.specs.Alone.{inTheWay}
+use Rattle.groups.specs.Doings.{other, its_cycle, is_of}
+use Rattle.groups.specs.Alone.{in_the_way}
 use Rattle.groups.proofs.Alike.{Alike, AlikeOnBus, alike_then, alike-back}
 use Rattle.groups.proofs.OneEvent.{not-running, left-by-event}
 use Rattle.groups.proofs.Together.{begun-both, anew-both, ended-both, levels-both}
@@ -38,23 +38,23 @@ pub record Beside (g : Group) (c' c : Chip) : Type 0 where
 pub beside-on-bus : (g : Group) (c' c : Chip) → Beside g c' c → AlikeOnBus g c' c
 beside-on-bus g c' c k = record {
   core = k.core;
-  cycle = λ s. ap (λ ph. running ph g s) k.bus ∙ go s (itsCycle (other g) c.phase) refl;
+  cycle = λ s. ap (λ ph. running ph g s) k.bus ∙ go s (its_cycle (other g) c.phase) refl;
 }
   where
-    go : (s : Side) (its : Bool) → itsCycle (other g) c.phase ≡ its → running (cond its Idle c.phase) g s ≡ running c.phase g s
+    go : (s : Side) (its : Bool) → its_cycle (other g) c.phase ≡ its → running (cond its Idle c.phase) g s ≡ running c.phase g s
     go s true runs = none_runs g s ∙ sym (not-running g c.phase runs s)
     go s false none = refl
 
 module _ (g : Group) (c' c : Chip) (k : Beside g c' c) where
   -- An event that is not the other group's, accepted by both.
   abbrev BothTake : Event → Type 0
-  BothTake e = accepts c.edition c.phase (kind_of e) ≡ true → is_of (other g) (surroundingsOf c) (kind_of e) ≡ false
-      → Alike g (afterIn device c' e.kind e.first e.second).core (afterIn device c e.kind e.first e.second).core
+  BothTake e = accepts c.edition c.phase (kind_of e) ≡ true → is_of (other g) (surroundings_of c) (kind_of e) ≡ false
+      → Alike g (after_in device c' e.kind e.first e.second).core (after_in device c e.kind e.first e.second).core
 
   both-take : (n x d : ℕ) → BothTake (event n x d)
   both-take n x d =
       by_kind (λ n. BothTake (event n x d))
-      (λ ok others. anew-both g c'.core c.core k.core powerUpWord)
+      (λ ok others. anew-both g c'.core c.core k.core power_up_word)
       (λ ok others. begun-both g c'.core c.core k.core x)
       (λ ok none.
       subst (λ ph. Alike g (after_end c'.core ph) (after_end c.core c.phase)) (sym (k.bus ∙ not-its (other g) c.phase none))
@@ -66,28 +66,28 @@ module _ (g : Group) (c' c : Chip) (k : Beside g c' c) where
 
   module _ (e : Event) where
     abbrev a : Surroundings
-    a = surroundingsOf c
+    a = surroundings_of c
 
     -- An event that is not the other group's comes to both chips, which stay beside each other.
     kept-core : is_of (other g) a (kind_of e) ≡ false → accepts c'.edition c'.phase (kind_of e) ≡ accepts c.edition c.phase (kind_of e)
         → Alike g (stepped c' e).chip.core (stepped c e).chip.core
     kept-core others =
         by-outcome (λ d ok. accepts c'.edition c'.phase (kind_of e) ≡ ok → Alike g (stepped c' e).chip.core d.core) c e
-        (λ ok. by-outcome (λ d' ok'. ok' ≡ true → Alike g d'.core (afterIn device c e.kind e.first e.second).core) c' e
+        (λ ok. by-outcome (λ d' ok'. ok' ≡ true → Alike g d'.core (after_in device c e.kind e.first e.second).core) c' e
         (λ ok' same. both-take e.kind e.first e.second ok others)
         (λ same. absurd (contrary false refl same)))
         (by-outcome (λ d' ok'. ok' ≡ false → Alike g d'.core c.core) c' e
         (λ ok' same. absurd (contrary true same refl))
         (λ same. k.core))
 
-    pub kept-beside : is_of (other g) a (kind_of e) ≡ false → inTheWay (other g) a (kind_of e) ≡ false
+    pub kept-beside : is_of (other g) a (kind_of e) ≡ false → in_the_way (other g) a (kind_of e) ≡ false
         → Beside g (stepped c' e).chip (stepped c e).chip
     kept-beside others clear = record {
       core = kept-core others (rw (k.edition, k.bus) (accepted-beside (other g) a (kind_of e) others clear));
       edition = edition-stays c' _ _ _ ∙ k.edition ∙ sym (edition-stays c _ _ _);
       bus =
           ap (λ a. a.phase) (surroundings-next c' e)
-          ∙ kept_next (other g) a (surroundingsOf c') e k.edition k.bus others clear
+          ∙ kept_next (other g) a (surroundings_of c') e k.edition k.bus others clear
           ∙ ap (λ a. freed (other g) a.phase) (sym (surroundings-next c e));
     }
 

@@ -8,19 +8,19 @@ use Rattle.events.specs.Event.{Event}
 use Rattle.bus.specs.declared.Phase.{Phase}
 use Rattle.bus.specs.declared.Phase.TheVariants.{Idle, Reading, Writing}
 use Rattle.control.specs.declared.Group.{Group}
-use Rattle.fates.specs.Kinds.{Kind, reset, cycleEnded, unknown, readBegun, writeBegun, newLevels, kind_of, free, readableAt, accepts}
-use Rattle.fates.specs.Surroundings.{Surroundings, phaseAfter, surroundingsAfter, surroundingsNext}
-use Rattle.groups.specs.Doings.{itsCycle, is_of}
-use Rattle.groups.specs.Alone.{inTheWay}
+use Rattle.fates.specs.Kinds.{Kind, reset, cycle_ended, unknown, read_begun, write_begun, new_levels, kind_of, free, readable_at, accepts}
+use Rattle.fates.specs.Surroundings.{Surroundings, phase_after, surroundings_after, surroundings_next}
+use Rattle.groups.specs.Doings.{its_cycle, is_of}
+use Rattle.groups.specs.Alone.{in_the_way}
 
 -- Without the group's events the bus is idle while its cycle runs, and otherwise what it is.
 abbrev pub freed : Group → Phase → Phase
-freed h ph = cond (itsCycle h ph) Idle ph
+freed h ph = cond (its_cycle h ph) Idle ph
 
-pub not-its : (h : Group) (ph : Phase) → itsCycle h ph ≡ false → freed h ph ≡ ph
+pub not-its : (h : Group) (ph : Phase) → its_cycle h ph ≡ false → freed h ph ≡ ph
 not-its h ph other = rw (other)
 
-its-busy : (h : Group) (ph : Phase) → itsCycle h ph ≡ true → free ph ≡ false
+its-busy : (h : Group) (ph : Phase) → its_cycle h ph ≡ true → free ph ≡ false
 its-busy h Idle its = absurd (contrary false refl its)
 its-busy h (Reading x) its = refl
 its-busy h (Writing x d) its = refl
@@ -41,61 +41,61 @@ idle-where-free h (Writing x d) is = absurd (contrary false refl is)
 
 module _ (h : Group) (a : Surroundings) where
   -- What is not the group's, and in whose way its cycle is not, is accepted as on an idle bus;
-  while-its : (k : Kind) → itsCycle h a.phase ≡ true → is_of h a k ≡ false → inTheWay h a k ≡ false
+  while-its : (k : Kind) → its_cycle h a.phase ≡ true → is_of h a k ≡ false → in_the_way h a k ≡ false
       → accepts a.edition Idle k ≡ accepts a.edition a.phase k
   while-its reset runs other clear = refl
-  while-its (readBegun x) runs other clear =
-      no-such-place (itsCycle h a.phase) (is_of h a (readBegun x)) (readableAt a.edition x) (free a.phase) runs other (its-busy h a.phase runs) clear
-  while-its cycleEnded runs other clear = absurd (contrary _ other runs)
-  while-its (writeBegun x d) runs other clear =
-      no-such-place (itsCycle h a.phase) (is_of h a (writeBegun x d)) (ltb x 4) (free a.phase) runs other (its-busy h a.phase runs) clear
-  while-its (newLevels x d) runs other clear = refl
+  while-its (read_begun x) runs other clear =
+      no-such-place (its_cycle h a.phase) (is_of h a (read_begun x)) (readable_at a.edition x) (free a.phase) runs other (its-busy h a.phase runs) clear
+  while-its cycle_ended runs other clear = absurd (contrary _ other runs)
+  while-its (write_begun x d) runs other clear =
+      no-such-place (its_cycle h a.phase) (is_of h a (write_begun x d)) (ltb x 4) (free a.phase) runs other (its-busy h a.phase runs) clear
+  while-its (new_levels x d) runs other clear = refl
   while-its unknown runs other clear = refl
 
   -- and so it is accepted on both buses, or on neither.
-  pub accepted-beside : (k : Kind) → is_of h a k ≡ false → inTheWay h a k ≡ false → accepts a.edition (freed h a.phase) k ≡ accepts a.edition a.phase k
-  accepted-beside k other clear = go (itsCycle h a.phase) refl
+  pub accepted-beside : (k : Kind) → is_of h a k ≡ false → in_the_way h a k ≡ false → accepts a.edition (freed h a.phase) k ≡ accepts a.edition a.phase k
+  accepted-beside k other clear = go (its_cycle h a.phase) refl
     where
-      go : (its : Bool) → itsCycle h a.phase ≡ its → accepts a.edition (cond its Idle a.phase) k ≡ accepts a.edition a.phase k
+      go : (its : Bool) → its_cycle h a.phase ≡ its → accepts a.edition (cond its Idle a.phase) k ≡ accepts a.edition a.phase k
       go true runs = while-its k runs other clear
       go false none = refl
 
   -- After an accepted event that is not the group's, each bus is what the event makes of it;
-  kept-phase : (k : Kind) → is_of h a k ≡ false → phaseAfter (freed h a.phase) k ≡ freed h (phaseAfter a.phase k)
+  kept-phase : (k : Kind) → is_of h a k ≡ false → phase_after (freed h a.phase) k ≡ freed h (phase_after a.phase k)
   kept-phase reset other = refl
-  kept-phase (readBegun x) other = rw (other)
-  kept-phase cycleEnded other = refl
-  kept-phase (writeBegun x d) other = rw (other)
-  kept-phase (newLevels x d) other = refl
+  kept-phase (read_begun x) other = rw (other)
+  kept-phase cycle_ended other = refl
+  kept-phase (write_begun x d) other = rw (other)
+  kept-phase (new_levels x d) other = refl
   kept-phase unknown other = refl
 
   -- and after one that is, the other bus is still what it was.
-  dropped-phase : (k : Kind) → accepts a.edition a.phase k ≡ true → is_of h a k ≡ true → freed h a.phase ≡ freed h (phaseAfter a.phase k)
+  dropped-phase : (k : Kind) → accepts a.edition a.phase k ≡ true → is_of h a k ≡ true → freed h a.phase ≡ freed h (phase_after a.phase k)
   dropped-phase reset ok its = absurd (contrary false refl its)
-  dropped-phase (readBegun x) ok its = idle-where-free h a.phase (both (readableAt a.edition x) _ ok).1 ∙ rw (its)
-  dropped-phase cycleEnded ok its = rw (its)
-  dropped-phase (writeBegun x d) ok its = idle-where-free h a.phase (both (ltb x 4) _ ok).1 ∙ rw (its)
-  dropped-phase (newLevels x d) ok its = refl
+  dropped-phase (read_begun x) ok its = idle-where-free h a.phase (both (readable_at a.edition x) _ ok).1 ∙ rw (its)
+  dropped-phase cycle_ended ok its = rw (its)
+  dropped-phase (write_begun x d) ok its = idle-where-free h a.phase (both (ltb x 4) _ ok).1 ∙ rw (its)
+  dropped-phase (new_levels x d) ok its = refl
   dropped-phase unknown ok its = refl
 
   -- The same of any event.
   pub kept_next : (a' : Surroundings) (e : Event) → a'.edition ≡ a.edition → a'.phase ≡ freed h a.phase
-      → is_of h a (kind_of e) ≡ false → inTheWay h a (kind_of e) ≡ false
-      → (surroundingsNext a' e).phase ≡ freed h (surroundingsNext a e).phase
+      → is_of h a (kind_of e) ≡ false → in_the_way h a (kind_of e) ≡ false
+      → (surroundings_next a' e).phase ≡ freed h (surroundings_next a e).phase
   kept_next a' e same-part beside other clear =
       go (accepts a'.edition a'.phase (kind_of e)) (accepts a.edition a.phase (kind_of e)) (rw (same-part, beside) (accepted-beside (kind_of e) other clear))
     where
       go : (ok' ok : Bool) → ok' ≡ ok
-          → (cond ok' (surroundingsAfter a' (kind_of e)) a').phase ≡ freed h (cond ok (surroundingsAfter a (kind_of e)) a).phase
+          → (cond ok' (surroundings_after a' (kind_of e)) a').phase ≡ freed h (cond ok (surroundings_after a (kind_of e)) a).phase
       go true true same = rw (beside) (kept-phase (kind_of e) other)
       go true false same = absurd (contrary true same refl)
       go false true same = absurd (contrary false refl same)
       go false false same = beside
 
   pub dropped-next : (ph : Phase) (e : Event) → ph ≡ freed h a.phase → is_of h a (kind_of e) ≡ true
-      → ph ≡ freed h (surroundingsNext a e).phase
+      → ph ≡ freed h (surroundings_next a e).phase
   dropped-next ph e beside its = go (accepts a.edition a.phase (kind_of e)) refl
     where
-      go : (ok : Bool) → accepts a.edition a.phase (kind_of e) ≡ ok → ph ≡ freed h (cond ok (surroundingsAfter a (kind_of e)) a).phase
+      go : (ok : Bool) → accepts a.edition a.phase (kind_of e) ≡ ok → ph ≡ freed h (cond ok (surroundings_after a (kind_of e)) a).phase
       go true ok = beside ∙ dropped-phase (kind_of e) ok its
       go false ok = beside

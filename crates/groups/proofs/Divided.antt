@@ -11,31 +11,31 @@ use Rattle.bits.proofs.BitLaws.{bit-of-assembled, assembled-same, assembled-bits
 use Rattle.control.specs.declared.Group.{Group}
 use Rattle.control.specs.declared.Group.TheVariants.{A, B}
 use Rattle.chip.specs.declared.Chip.{Chip}
-use Rattle.chip.specs.State.{portOf}
-use Rattle.groups.specs.Belongings.{itsPin, atItsPins}
-use Rattle.groups.specs.Doings.{actsOn}
+use Rattle.chip.specs.State.{port_of}
+use Rattle.groups.specs.Belongings.{its_pin, at_its_pins}
+use Rattle.groups.specs.Doings.{acts_on}
 use Rattle.groups.specs.Divided.{PinDivided, LinesOfBytes, SameInAll}
 use Rattle.groups.proofs.Alike.{port-by-parts}
 
 pub pin-divided : (n : ℕ) → n < 8 → PinDivided n
-pin-divided n small = record { belongs = bits 8 (itsPin A) (λ n. not (itsPin B n)) tt n small; acted = acted }
+pin-divided n small = record { belongs = bits 8 (its_pin A) (λ n. not (its_pin B n)) tt n small; acted = acted }
   where
-    acted : (g : Group) → actsOn g n ≡ (itsPin g n && not (eqb n 3))
-    acted A = bits 8 (actsOn A) (λ n. itsPin A n && not (eqb n 3)) tt n small
-    acted B = bits 8 (actsOn B) (λ n. itsPin B n && not (eqb n 3)) tt n small
+    acted : (g : Group) → acts_on g n ≡ (its_pin g n && not (eqb n 3))
+    acted A = bits 8 (acts_on A) (λ n. its_pin A n && not (eqb n 3)) tt n small
+    acted B = bits 8 (acts_on B) (λ n. its_pin B n && not (eqb n 3)) tt n small
 
 -- Bytes that have the same bits at the pins of both groups.
-bit_at : (g : Group) (x n : ℕ) → n < 8 → itsPin g n ≡ true → bit_of (atItsPins g x) n ≡ bit_of x n
-bit_at g x n small its = bit-of-assembled (λ n. itsPin g n && bit_of x n) n small ∙ rw (its)
+bit_at : (g : Group) (x n : ℕ) → n < 8 → its_pin g n ≡ true → bit_of (at_its_pins g x) n ≡ bit_of x n
+bit_at g x n small its = bit-of-assembled (λ n. its_pin g n && bit_of x n) n small ∙ rw (its)
 
-same_byte : (x y : ℕ) → x < 256 → y < 256 → ((g : Group) → atItsPins g x ≡ atItsPins g y) → x ≡ y
+same_byte : (x y : ℕ) → x < 256 → y < 256 → ((g : Group) → at_its_pins g x ≡ at_its_pins g y) → x ≡ y
 same_byte x y hx hy same =
-    sym (assembled-bits x hx) ∙ assembled-same (bit_of x) (bit_of y) (λ n small. go n small (itsPin B n) refl) ∙ assembled-bits y hy
+    sym (assembled-bits x hx) ∙ assembled-same (bit_of x) (bit_of y) (λ n small. go n small (its_pin B n) refl) ∙ assembled-bits y hy
   where
-    at : (g : Group) (n : ℕ) → n < 8 → itsPin g n ≡ true → bit_of x n ≡ bit_of y n
+    at : (g : Group) (n : ℕ) → n < 8 → its_pin g n ≡ true → bit_of x n ≡ bit_of y n
     at g n small its = sym (bit_at g x n small its) ∙ ap (λ b. bit_of b n) (same g) ∙ bit_at g y n small its
 
-    go : (n : ℕ) → n < 8 → (ofB : Bool) → itsPin B n ≡ ofB → bit_of x n ≡ bit_of y n
+    go : (n : ℕ) → n < 8 → (of_b : Bool) → its_pin B n ≡ of_b → bit_of x n ≡ bit_of y n
     go n small true is = at B n small is
     go n small false is = at A n small ((pin-divided n small).belongs ∙ rw (is))
 
@@ -61,13 +61,13 @@ same-in-all c' c small' small k =
     let b : c'.core.b ≡ c.core.b = port B in
     let latch = same_byte _ _ small'.latch small.latch (λ g. ap (λ x. x.latch) (k.belongings g)) in
     let outside = same_byte _ _ small'.outside small.outside (λ g. ap (λ x. x.outside) (k.belongings g)) in
-    let input : c'.core.inte.input ≡ c.core.inte.input = ap (λ x. x.inputEnabled) (k.belongings A) in
-    let output : c'.core.inte.output ≡ c.core.inte.output = ap (λ x. x.outputEnabled) (k.belongings A) in
-    let enableB : c'.core.inte.b ≡ c.core.inte.b = ap (λ x. x.inputEnabled) (k.belongings B) in
-    let all : together c' ≡ together c = cc (k.phase, k.edition, k.word, a, b, latch, outside, input, output, enableB) in
+    let input : c'.core.inte.input ≡ c.core.inte.input = ap (λ x. x.input_enabled) (k.belongings A) in
+    let output : c'.core.inte.output ≡ c.core.inte.output = ap (λ x. x.output_enabled) (k.belongings A) in
+    let enable_b : c'.core.inte.b ≡ c.core.inte.b = ap (λ x. x.input_enabled) (k.belongings B) in
+    let all : together c' ≡ together c = cc (k.phase, k.edition, k.word, a, b, latch, outside, input, output, enable_b) in
     all
   where
-    port : (g : Group) → portOf c'.core g ≡ portOf c.core g
+    port : (g : Group) → port_of c'.core g ≡ port_of c.core g
     port g =
-        port-by-parts (portOf c'.core g) (portOf c.core g)
-        (ap (λ x. x.input) (k.belongings g)) (ap (λ x. x.output) (k.belongings g)) (ap (λ x. x.portOutside) (k.belongings g))
+        port-by-parts (port_of c'.core g) (port_of c.core g)
+        (ap (λ x. x.input) (k.belongings g)) (ap (λ x. x.output) (k.belongings g)) (ap (λ x. x.port_outside) (k.belongings g))

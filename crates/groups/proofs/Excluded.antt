@@ -13,35 +13,35 @@ use Rattle.control.specs.declared.Group.{Group}
 use Rattle.control.specs.declared.Group.TheVariants.{A, B}
 use Rattle.chip.specs.declared.Edition.TheVariants.{Older}
 use Rattle.chip.specs.declared.Chip.{Chip}
-use Rattle.chip.specs.State.{allHigh, powerUpWith}
+use Rattle.chip.specs.State.{all_high, power_up_with}
 use Rattle.step.specs.Step.{stepped}
 use Rattle.fates.specs.Promise.{run}
 use Rattle.account.specs.Account.{opened}
-use Rattle.account.specs.Views.{levelsShown}
+use Rattle.account.specs.Views.{levels_shown}
 use Rattle.account.specs.Promise.{over}
 use Rattle.account.proofs.Account.{account}
-use Rattle.groups.specs.Belongings.{atItsPins}
+use Rattle.groups.specs.Belongings.{at_its_pins}
 use Rattle.groups.specs.Excluded.{Example, shown, Changes, EachChanges, examples, excluded, NoneIsOf}
 
 -- The levels of a group's pins after a history, by the account.
-abbrev byAccount : Group → List Event → ℕ
-byAccount g es = atItsPins g (levelsShown (over (opened Older allHigh) es) 2)
+abbrev by_account : Group → List Event → ℕ
+by_account g es = at_its_pins g (levels_shown (over (opened Older all_high) es) 2)
 
-shown-by-account : (g : Group) (es : List Event) → shown g (run (powerUpWith allHigh) es) ≡ byAccount g es
-shown-by-account g es = ap (atItsPins g) ((account Older allHigh es).levels 2)
+shown-by-account : (g : Group) (es : List Event) → shown g (run (power_up_with all_high) es) ≡ by_account g es
+shown-by-account g es = ap (at_its_pins g) ((account Older all_high es).levels 2)
 
 -- One history after another.
 run_on : (c : Chip) (es later : List Event) → run (run c es) later ≡ run c (es ++ later)
 run_on c [] later = refl
 run_on c (e ∷ es) later = run_on (stepped c e).chip es later
 
-changes-by-account : (x : Example) → byAccount x.group x.before ≡ x.was → byAccount x.group (x.before ++ x.done) ≡ x.becomes
+changes-by-account : (x : Example) → by_account x.group x.before ≡ x.was → by_account x.group (x.before ++ x.done) ≡ x.becomes
     → eqb x.becomes x.was ≡ false → Changes x
 changes-by-account x was becomes differ =
     let first = shown-by-account x.group x.before ∙ was in
-    let on = run_on (powerUpWith allHigh) x.before x.done in
+    let on = run_on (power_up_with all_high) x.before x.done in
     let last = ap (shown x.group) on ∙ shown-by-account x.group (x.before ++ x.done) ∙ becomes in
-    record { first = first; last = last; notLeft = λ left. eqb-false _ _ differ (sym last ∙ ap (λ b. b.levels) left ∙ first) }
+    record { first = first; last = last; not_left = λ left. eqb-false _ _ differ (sym last ∙ ap (λ b. b.levels) left ∙ first) }
 
 pub each-changes : EachChanges examples
 unfolding bit_of value_of

@@ -7,10 +7,10 @@ use Prim.Native.Nat.{ℕ, suc}
 use Rattle.channel.specs.declared.Side.{Side}
 use Rattle.channel.specs.declared.Fill.{Fill}
 use Rattle.channel.specs.declared.Fill.TheVariants.{Empty, Waiting, Fetching}
-use Rattle.fates.specs.Effects.{Effect, offered, followed, taken, ended, clearedAway, forcedFull, forcedEmpty, nothing}
-use Rattle.fates.specs.Left.{Left, left, roomIn, leftAfter}
-use Rattle.fates.specs.Bytes.{Offer, Byte, plantedAt, outcomeOf, settled, withFate, bytes, valuesAndFates}
-use Rattle.fates.specs.Promise.{heldByte}
+use Rattle.fates.specs.Effects.{Effect, offered, followed, taken, ended, cleared_away, forced_full, forced_empty, nothing}
+use Rattle.fates.specs.Left.{Left, left, room_in, left_after}
+use Rattle.fates.specs.Bytes.{Offer, Byte, planted_at, outcome_of, settled, with_fate, bytes, values_and_fates}
+use Rattle.fates.specs.Promise.{held_byte}
 
 -- An effect before others, unless it is `nothing`.
 abbrev pub hearing : Effect → List Effect → List Effect
@@ -18,9 +18,9 @@ hearing (offered v) later = offered v ∷ later
 hearing (followed v) later = followed v ∷ later
 hearing taken later = taken ∷ later
 hearing ended later = ended ∷ later
-hearing clearedAway later = clearedAway ∷ later
-hearing forcedFull later = forcedFull ∷ later
-hearing forcedEmpty later = forcedEmpty ∷ later
+hearing cleared_away later = cleared_away ∷ later
+hearing forced_full later = forced_full ∷ later
+hearing forced_empty later = forced_empty ∷ later
 hearing nothing later = later
 
 -- The effects but `nothing`.
@@ -28,15 +28,15 @@ abbrev pub heard : List Effect → List Effect
 heard [] = []
 heard (d ∷ later) = hearing d (heard later)
 
-fate-heard : (n m : ℕ) (later : List Effect) → (outcomeOf n later).fate ≡ (outcomeOf m (heard later)).fate
+fate-heard : (n m : ℕ) (later : List Effect) → (outcome_of n later).fate ≡ (outcome_of m (heard later)).fate
 fate-heard n m [] = refl
 fate-heard n m (offered v ∷ later) = refl
 fate-heard n m (followed v ∷ later) = fate-heard (suc n) (suc m) later
 fate-heard n m (taken ∷ later) = refl
 fate-heard n m (ended ∷ later) = refl
-fate-heard n m (clearedAway ∷ later) = refl
-fate-heard n m (forcedFull ∷ later) = fate-heard (suc n) (suc m) later
-fate-heard n m (forcedEmpty ∷ later) = refl
+fate-heard n m (cleared_away ∷ later) = refl
+fate-heard n m (forced_full ∷ later) = fate-heard (suc n) (suc m) later
+fate-heard n m (forced_empty ∷ later) = refl
 fate-heard n m (nothing ∷ later) = fate-heard (suc n) m later
 
 value-heard : (v : ℕ) (later : List Effect) → settled v later ≡ settled v (heard later)
@@ -45,41 +45,41 @@ value-heard v (offered u ∷ later) = refl
 value-heard v (followed u ∷ later) = value-heard u later
 value-heard v (taken ∷ later) = refl
 value-heard v (ended ∷ later) = refl
-value-heard v (clearedAway ∷ later) = refl
-value-heard v (forcedFull ∷ later) = value-heard v later
-value-heard v (forcedEmpty ∷ later) = refl
+value-heard v (cleared_away ∷ later) = refl
+value-heard v (forced_full ∷ later) = value-heard v later
+value-heard v (forced_empty ∷ later) = refl
 value-heard v (nothing ∷ later) = value-heard v later
 
 -- A byte that is planted where there is room, before others.
-planted-heard : (room : Bool) (n m l : ℕ) (later : List Effect) (rest rest' : List Byte) → valuesAndFates rest ≡ valuesAndFates rest'
-    → valuesAndFates (cond room (withFate (plantedAt n l) (suc n) later ∷ []) [] ++ rest)
-    ≡ valuesAndFates (cond room (withFate (plantedAt m l) (suc m) (heard later) ∷ []) [] ++ rest')
+planted-heard : (room : Bool) (n m l : ℕ) (later : List Effect) (rest rest' : List Byte) → values_and_fates rest ≡ values_and_fates rest'
+    → values_and_fates (cond room (with_fate (planted_at n l) (suc n) later ∷ []) [] ++ rest)
+    ≡ values_and_fates (cond room (with_fate (planted_at m l) (suc m) (heard later) ∷ []) [] ++ rest')
 planted-heard true n m l later rest rest' same = cc (value-heard l later, fate-heard (suc n) (suc m) later, same)
 planted-heard false n m l later rest rest' same = same
 
-bytes-heard : (s : Side) (h : Left) (n m : ℕ) (later : List Effect) → valuesAndFates (bytes s h n later) ≡ valuesAndFates (bytes s h m (heard later))
+bytes-heard : (s : Side) (h : Left) (n m : ℕ) (later : List Effect) → values_and_fates (bytes s h n later) ≡ values_and_fates (bytes s h m (heard later))
 bytes-heard s h n m [] = refl
 bytes-heard s h n m (offered v ∷ later) =
     cc (value-heard v later, fate-heard (suc n) (suc m) later, bytes-heard s (left Waiting v) (suc n) (suc m) later)
-bytes-heard s h n m (followed v ∷ later) = bytes-heard s (leftAfter s h (followed v)) (suc n) (suc m) later
-bytes-heard s h n m (taken ∷ later) = bytes-heard s (leftAfter s h taken) (suc n) (suc m) later
-bytes-heard s h n m (ended ∷ later) = bytes-heard s (leftAfter s h ended) (suc n) (suc m) later
-bytes-heard s h n m (clearedAway ∷ later) = bytes-heard s (leftAfter s h clearedAway) (suc n) (suc m) later
-bytes-heard s h n m (forcedFull ∷ later) =
-    planted-heard (roomIn s h.fill) n m h.latch later _ _ (bytes-heard s (leftAfter s h forcedFull) (suc n) (suc m) later)
-bytes-heard s h n m (forcedEmpty ∷ later) = bytes-heard s (leftAfter s h forcedEmpty) (suc n) (suc m) later
+bytes-heard s h n m (followed v ∷ later) = bytes-heard s (left_after s h (followed v)) (suc n) (suc m) later
+bytes-heard s h n m (taken ∷ later) = bytes-heard s (left_after s h taken) (suc n) (suc m) later
+bytes-heard s h n m (ended ∷ later) = bytes-heard s (left_after s h ended) (suc n) (suc m) later
+bytes-heard s h n m (cleared_away ∷ later) = bytes-heard s (left_after s h cleared_away) (suc n) (suc m) later
+bytes-heard s h n m (forced_full ∷ later) =
+    planted-heard (room_in s h.fill) n m h.latch later _ _ (bytes-heard s (left_after s h forced_full) (suc n) (suc m) later)
+bytes-heard s h n m (forced_empty ∷ later) = bytes-heard s (left_after s h forced_empty) (suc n) (suc m) later
 bytes-heard s h n m (nothing ∷ later) = bytes-heard s h (suc n) m later
 
 -- The same with the byte that may wait where the effects begin.
 abbrev story : Side → Fill → Offer → List Effect → List Byte
-story s f o later = heldByte f o 1 later ++ bytes s (left f o.value) 1 later
+story s f o later = held_byte f o 1 later ++ bytes s (left f o.value) 1 later
 
-story-heard : (s : Side) (f : Fill) (o : Offer) (later : List Effect) → valuesAndFates (story s f o later) ≡ valuesAndFates (story s f o (heard later))
+story-heard : (s : Side) (f : Fill) (o : Offer) (later : List Effect) → values_and_fates (story s f o later) ≡ values_and_fates (story s f o (heard later))
 story-heard s Empty o later = bytes-heard s (left Empty o.value) 1 1 later
 story-heard s Waiting o later = cc (value-heard o.value later, fate-heard 1 1 later, bytes-heard s (left Waiting o.value) 1 1 later)
 story-heard s Fetching o later = bytes-heard s (left Fetching o.value) 1 1 later
 
 -- Effects of which the same are heard make the same bytes.
 pub same-heard : (s : Side) (f : Fill) (o : Offer) (later' later : List Effect) → heard later' ≡ heard later
-    → valuesAndFates (story s f o later') ≡ valuesAndFates (story s f o later)
+    → values_and_fates (story s f o later') ≡ values_and_fates (story s f o later)
 same-heard s f o later' later same = story-heard s f o later' ∙ rw (same) (sym (story-heard s f o later))

@@ -1,32 +1,32 @@
 -- The numbers of specs/InNumbers.antt are the chip's, computed by the checker.
 -- Rests on nothing.
 use mathlib.Core.Path.{◌≡◌, refl}
-use Rattle.bits.specs.Bit.{bit_of, value_of, withBit}
-use Rattle.events.specs.Kinds.{isKind}
-use Rattle.bus.specs.Device.{stepIn}
+use Rattle.bits.specs.Bit.{bit_of, value_of, with_bit}
+use Rattle.events.specs.Kinds.{is_kind}
+use Rattle.bus.specs.Device.{step_in}
 use Rattle.bus.specs.Refusals.{number_of}
 use Rattle.control.specs.declared.Group.TheVariants.{A, B}
-use Rattle.control.specs.Mode.{mode_of, input_of, upperInput, lowerInput, strobedInput, strobedOutput, outputOf}
-use Rattle.control.specs.Word.{controlOf}
-use Rattle.roles.specs.Role.{usesOf, freeRole, roleOf}
-use Rattle.channel.specs.Channel.{flagOf}
-use Rattle.channel.specs.Moves.{afterOffer, afterFollow, afterHandOver, afterEndRead, afterClear}
-use Rattle.chip.specs.State.{allHigh, powerUpWith}
-use Rattle.status.specs.Status.{requestOf, intrOf}
-use Rattle.status.specs.Reasons.{reasonOf, explainedIn}
-use Rattle.settings.specs.ModeWord.{clearedPort, afterModeWord}
-use Rattle.settings.specs.ControlWord.{pinSet, afterControlWord}
-use Rattle.reads.specs.Read.{afterReadBegins, afterReadEnds}
-use Rattle.writes.specs.Write.{storedBy, latchWritten, afterWriteEnds}
-use Rattle.levels.specs.Levels.{fallen, edged, afterLevelsOnC, portAfterLevels, afterLevels}
-use Rattle.ports.specs.Reads.{readPort, readLines, read_of}
-use Rattle.ports.specs.Pins.{drivesPort, pinsOfPort, pinsOfLines, pinsOf}
+use Rattle.control.specs.Mode.{mode_of, input_of, upper_input, lower_input, strobed_input, strobed_output, output_of}
+use Rattle.control.specs.Word.{control_of}
+use Rattle.roles.specs.Role.{uses_of, free_role, role_of}
+use Rattle.channel.specs.Channel.{flag_of}
+use Rattle.channel.specs.Moves.{after_offer, after_follow, after_hand_over, after_end_read, after_clear}
+use Rattle.chip.specs.State.{all_high, power_up_with}
+use Rattle.status.specs.Status.{request_of, intr_of}
+use Rattle.status.specs.Reasons.{reason_of, explained_in}
+use Rattle.settings.specs.ModeWord.{cleared_port, after_mode_word}
+use Rattle.settings.specs.ControlWord.{pin_set, after_control_word}
+use Rattle.reads.specs.Read.{after_read_begins, after_read_ends}
+use Rattle.writes.specs.Write.{stored_by, latch_written, after_write_ends}
+use Rattle.levels.specs.Levels.{fallen, edged, after_levels_on_c, port_after_levels, after_levels}
+use Rattle.ports.specs.Reads.{read_port, read_lines, read_of}
+use Rattle.ports.specs.Pins.{drives_port, pins_of_port, pins_of_lines, pins_of}
 use Rattle.step.specs.Step.{step_of}
 use Rattle.fates.specs.Promise.{run}
-use Rattle.groups.specs.Belongings.{belongingsOf}
-use Rattle.groups.specs.InNumbers.{moment, scaleHas, printerHas}
+use Rattle.groups.specs.Belongings.{belongings_of}
+use Rattle.groups.specs.InNumbers.{moment, scale_has, printer_has}
 
 pub in-numbers :
-    (belongingsOf A (run (powerUpWith allHigh) moment) ≡ scaleHas) × (belongingsOf B (run (powerUpWith allHigh) moment) ≡ printerHas)
-unfolding bit_of value_of withBit mode_of input_of upperInput lowerInput strobedInput strobedOutput outputOf controlOf usesOf freeRole roleOf flagOf afterOffer afterFollow afterHandOver afterEndRead afterClear requestOf intrOf reasonOf explainedIn clearedPort afterModeWord pinSet afterControlWord afterReadBegins afterReadEnds storedBy latchWritten afterWriteEnds fallen edged afterLevelsOnC portAfterLevels afterLevels readPort readLines read_of drivesPort pinsOfPort pinsOfLines pinsOf number_of isKind step_of stepIn
+    (belongings_of A (run (power_up_with all_high) moment) ≡ scale_has) × (belongings_of B (run (power_up_with all_high) moment) ≡ printer_has)
+unfolding bit_of value_of with_bit mode_of input_of upper_input lower_input strobed_input strobed_output output_of control_of uses_of free_role role_of flag_of after_offer after_follow after_hand_over after_end_read after_clear request_of intr_of reason_of explained_in cleared_port after_mode_word pin_set after_control_word after_read_begins after_read_ends stored_by latch_written after_write_ends fallen edged after_levels_on_c port_after_levels after_levels read_port read_lines read_of drives_port pins_of_port pins_of_lines pins_of number_of is_kind step_of step_in
 in-numbers = (refl, refl)

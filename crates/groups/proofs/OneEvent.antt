@@ -9,7 +9,7 @@ use Rattle.bits.specs.Bit.{bit_of}
 use Rattle.bits.proofs.Logic.{contrary, both, one_of}
 use Rattle.events.specs.Event.{Event, event}
 use Rattle.events.proofs.ByKind.{by_kind}
-use Rattle.bus.specs.Device.{afterIn}
+use Rattle.bus.specs.Device.{after_in}
 use Rattle.bus.specs.declared.Phase.{Phase}
 use Rattle.bus.specs.declared.Phase.TheVariants.{Idle, Reading, Writing}
 use Rattle.control.specs.declared.Group.{Group}
@@ -19,25 +19,25 @@ use Rattle.chip.specs.declared.Edition.{Edition}
 use Rattle.chip.specs.declared.Core.{Core}
 use Rattle.chip.specs.declared.Chip.{Chip}
 use Rattle.chip.specs.Handshakes.{running}
-use Rattle.reads.specs.Read.{afterReadBegins, afterReadEnds}
-use Rattle.writes.specs.Write.{afterWriteEnds}
+use Rattle.reads.specs.Read.{after_read_begins, after_read_ends}
+use Rattle.writes.specs.Write.{after_write_ends}
 use Rattle.writes.proofs.PortsAfter.{by-write}
-use Rattle.levels.specs.Levels.{afterLevels}
+use Rattle.levels.specs.Levels.{after_levels}
 use Rattle.laws.proofs.Interrupts.{none_runs}
-use Rattle.step.specs.Step.{device, after_end, onBus, stepped}
-use Rattle.fates.specs.Kinds.{readBegun, newLevels, kind_of, free, readableAt, accepts}
-use Rattle.fates.specs.Effects.{portNumber}
-use Rattle.fates.specs.Promise.{surroundingsOf}
+use Rattle.step.specs.Step.{device, after_end, on_bus, stepped}
+use Rattle.fates.specs.Kinds.{read_begun, new_levels, kind_of, free, readable_at, accepts}
+use Rattle.fates.specs.Effects.{port_number}
+use Rattle.fates.specs.Promise.{surroundings_of}
 use Rattle.fates.proofs.Tables.{own_same}
 use Rattle.fates.proofs.Accepted.{no-kind-accepted, by-outcome}
-use Rattle.groups.specs.Doings.{other, itsCycle, is_of, readsForBoth, isForBoth, harmless}
+use Rattle.groups.specs.Doings.{other, its_cycle, is_of, reads_for_both, is_for_both, harmless}
 use Rattle.groups.proofs.Alike.{Alike, AlikeOnBus, alike_same}
 use Rattle.groups.proofs.Places.{read-away, for-both-away, write-away, sets-bit, writes-no-lines, levels-away, levels-either}
 use Rattle.groups.proofs.Rules.{beginning, ending, levelling}
 use Rattle.groups.proofs.Spared.{on-elsewhere, stored-elsewhere, bit-set-elsewhere, lines-elsewhere}
 
 -- A cycle of the other group is none of the group's port.
-pub not-running : (g : Group) (ph : Phase) → itsCycle (other g) ph ≡ true → (s : Side) → running ph g s ≡ false
+pub not-running : (g : Group) (ph : Phase) → its_cycle (other g) ph ≡ true → (s : Side) → running ph g s ≡ false
 not-running g Idle its s = absurd (contrary false refl its)
 not-running g (Reading x) its Input = sym (own_same x g) ∙ read-away g x its
 not-running g (Reading x) its Output = refl
@@ -45,7 +45,7 @@ not-running g (Writing x d) its Input = refl
 not-running g (Writing x d) its Output = sym (own_same x g) ∙ write-away g x d its
 
 -- Nor is a read of port C or of control.
-for-both-not-running : (g : Group) (ph : Phase) → readsForBoth ph ≡ true → (s : Side) → running ph g s ≡ false
+for-both-not-running : (g : Group) (ph : Phase) → reads_for_both ph ≡ true → (s : Side) → running ph g s ≡ false
 for-both-not-running g Idle status s = absurd (contrary false refl status)
 for-both-not-running g (Reading x) status Input = sym (own_same x g) ∙ for-both-away g x status
 for-both-not-running g (Reading x) status Output = refl
@@ -59,50 +59,50 @@ free-running g (Writing x d) is s = absurd (contrary false refl is)
 
 module _ (g : Group) (c : Core) where
   -- The end of the other group's write: a byte for its port, or bit set/reset of a pin on which it acts.
-  write-ended : (x d : ℕ) → itsCycle (other g) (Writing x d) ≡ true → Alike g (afterWriteEnds c x d) c
+  write-ended : (x d : ℕ) → its_cycle (other g) (Writing x d) ≡ true → Alike g (after_write_ends c x d) c
   write-ended x d its = by-write (λ c'. Alike g c' c) c x d (record {
-    modeWord = λ three seven. absurd (contrary (bit_of d 7) (sets-bit (other g) x d its three).0 seven);
-    bitWord = λ three seven. bit-set-elsewhere g c d seven (sets-bit (other g) x d its three).1;
+    mode_word = λ three seven. absurd (contrary (bit_of d 7) (sets-bit (other g) x d its three).0 seven);
+    bit_word = λ three seven. bit-set-elsewhere g c d seven (sets-bit (other g) x d its three).1;
     lines = λ two. absurd (writes-no-lines (other g) x d its two);
     port = λ elsewhere c' k. stored-elsewhere g c' c x d k (sym (own_same x g) ∙ write-away g x d its);
   })
 
   -- A read elsewhere, which begins and ends.
-  begun : (x : ℕ) → eqb x (portNumber g) ≡ false → Alike g (afterReadBegins c x) c
-  unfolding afterReadBegins
+  begun : (x : ℕ) → eqb x (port_number g) ≡ false → Alike g (after_read_begins c x) c
+  unfolding after_read_begins
   begun x away = on-elsewhere g c x (beginning c) (sym (own_same x g) ∙ away)
 
-  read-ended : (x : ℕ) → eqb x (portNumber g) ≡ false → Alike g (afterReadEnds c x) c
-  unfolding afterReadEnds
+  read-ended : (x : ℕ) → eqb x (port_number g) ≡ false → Alike g (after_read_ends c x) c
+  unfolding after_read_ends
   read-ended x away = on-elsewhere g c x (ending c) (sym (own_same x g) ∙ away)
 
-  ended : (ph : Phase) → itsCycle (other g) ph ≡ true → Alike g (after_end c ph) c
+  ended : (ph : Phase) → its_cycle (other g) ph ≡ true → Alike g (after_end c ph) c
   ended Idle its = alike_same g c
   ended (Reading x) its = read-ended x (read-away g x its)
   ended (Writing x d) its = write-ended x d its
 
-  for-both-ended : (ph : Phase) → readsForBoth ph ≡ true → Alike g (after_end c ph) c
+  for-both-ended : (ph : Phase) → reads_for_both ph ≡ true → Alike g (after_end c ph) c
   for-both-ended Idle status = alike_same g c
   for-both-ended (Reading x) status = read-ended x (for-both-away g x status)
   for-both-ended (Writing x d) status = absurd (contrary false refl status)
 
-  levels-come : (ed : Edition) (ph : Phase) (x d : ℕ) → is_of (other g) (surroundingsOf (onBus ph ed c)) (newLevels x d) ≡ true → Alike g (afterLevels c x d) c
-  unfolding afterLevels
+  levels-come : (ed : Edition) (ph : Phase) (x d : ℕ) → is_of (other g) (surroundings_of (on_bus ph ed c)) (new_levels x d) ≡ true → Alike g (after_levels c x d) c
+  unfolding after_levels
   levels-come ed ph x d its =
-      levels-either g (surroundingsOf (onBus ph ed c)) x d its
-      (λ lines. rw (lines) (on-elsewhere g c x (levelling c d) (sym (own_same x g) ∙ levels-away g (surroundingsOf (onBus ph ed c)) x d its)))
+      levels-either g (surroundings_of (on_bus ph ed c)) x d its
+      (λ lines. rw (lines) (on-elsewhere g c x (levelling c d) (sym (own_same x g) ∙ levels-away g (surroundings_of (on_bus ph ed c)) x d its)))
       (λ lines same. rw (lines) (lines-elsewhere g c d same))
 
 module _ (g : Group) (c : Chip) where
   -- An accepted event leaves the chip alike in what belongs to the group.
   abbrev LeavesAlike : Event → Type 0
-  LeavesAlike e = AlikeOnBus g (afterIn device c e.kind e.first e.second) c
+  LeavesAlike e = AlikeOnBus g (after_in device c e.kind e.first e.second) c
 
   -- A read begins elsewhere, on a bus that is free.
-  read-begins : (x : ℕ) → accepts c.edition c.phase (readBegun x) ≡ true → eqb x (portNumber g) ≡ false → LeavesAlike (event 1 x 0)
+  read-begins : (x : ℕ) → accepts c.edition c.phase (read_begun x) ≡ true → eqb x (port_number g) ≡ false → LeavesAlike (event 1 x 0)
   read-begins x ok away = record {
     core = begun g c.core x away;
-    cycle = λ s. go s ∙ sym (free-running g c.phase (both (readableAt c.edition x) _ ok).1 s);
+    cycle = λ s. go s ∙ sym (free-running g c.phase (both (readable_at c.edition x) _ ok).1 s);
   }
     where
       go : (s : Side) → running (Reading x) g s ≡ false
@@ -111,7 +111,7 @@ module _ (g : Group) (c : Chip) where
 
   -- The other group's.
   abbrev ItsLeaves : Event → Type 0
-  ItsLeaves e = accepts c.edition c.phase (kind_of e) ≡ true → is_of (other g) (surroundingsOf c) (kind_of e) ≡ true → LeavesAlike e
+  ItsLeaves e = accepts c.edition c.phase (kind_of e) ≡ true → is_of (other g) (surroundings_of c) (kind_of e) ≡ true → LeavesAlike e
 
   its-leaves : (k x d : ℕ) → ItsLeaves (event k x d)
   its-leaves k x d =
@@ -132,7 +132,7 @@ module _ (g : Group) (c : Chip) where
 
   -- That of a read of port C or of control.
   abbrev ForBothLeaves : Event → Type 0
-  ForBothLeaves e = accepts c.edition c.phase (kind_of e) ≡ true → isForBoth (surroundingsOf c) (kind_of e) ≡ true → LeavesAlike e
+  ForBothLeaves e = accepts c.edition c.phase (kind_of e) ≡ true → is_for_both (surroundings_of c) (kind_of e) ≡ true → LeavesAlike e
 
   for-both-leaves : (k x d : ℕ) → ForBothLeaves (event k x d)
   for-both-leaves k x d =
@@ -150,8 +150,8 @@ module _ (g : Group) (c : Chip) where
 
   -- An event that is refused, or harmless.
   pub left-by-event : (e : Event)
-      → (accepts c.edition c.phase (kind_of e) ≡ true → harmless (other g) (surroundingsOf c) (kind_of e) ≡ true) → AlikeOnBus g (stepped c e).chip c
+      → (accepts c.edition c.phase (kind_of e) ≡ true → harmless (other g) (surroundings_of c) (kind_of e) ≡ true) → AlikeOnBus g (stepped c e).chip c
   left-by-event e =
-      by-outcome (λ c' ok. (ok ≡ true → harmless (other g) (surroundingsOf c) (kind_of e) ≡ true) → AlikeOnBus g c' c) c e
+      by-outcome (λ c' ok. (ok ≡ true → harmless (other g) (surroundings_of c) (kind_of e) ≡ true) → AlikeOnBus g c' c) c e
       (λ ok does. one_of _ _ (does refl) (its-leaves e.kind e.first e.second ok) (for-both-leaves e.kind e.first e.second ok))
       (λ does. record { core = alike_same g c.core; cycle = λ s. refl })

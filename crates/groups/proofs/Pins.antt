@@ -12,39 +12,39 @@ use Rattle.bits.proofs.BitLaws.{bit-of-assembled}
 use Rattle.bits.proofs.Sum.{byte-same}
 use Rattle.control.specs.declared.Group.{Group}
 use Rattle.control.specs.declared.Group.TheVariants.{A, B}
-use Rattle.chip.specs.Handshakes.{groupAt}
-use Rattle.groups.specs.Belongings.{itsPin}
-use Rattle.groups.specs.Doings.{other, actsOn, elsewhere}
+use Rattle.chip.specs.Handshakes.{group_at}
+use Rattle.groups.specs.Belongings.{its_pin}
+use Rattle.groups.specs.Doings.{other, acts_on, elsewhere}
 use Rattle.groups.proofs.Alike.{SameAt, at-its-pin}
 
 -- No group acts on a pin of the other.
-not-acted : (g : Group) (n : ℕ) → itsPin g n ≡ true → actsOn (other g) n ≡ false
+not-acted : (g : Group) (n : ℕ) → its_pin g n ≡ true → acts_on (other g) n ≡ false
 not-acted A n its = let above = ltb-true _ n its in le-ltb n _ (omega (arith, above))
 not-acted B n its = let below = ltb-true n _ its in le-ltb _ n (omega (arith, below))
 
 -- A pin on which the other group acts is none of the group's.
-pub acted-apart : (g : Group) (n k : ℕ) → actsOn (other g) n ≡ true → itsPin g k ≡ true → eqb k n ≡ false
+pub acted-apart : (g : Group) (n k : ℕ) → acts_on (other g) n ≡ true → its_pin g k ≡ true → eqb k n ≡ false
 acted-apart g n k acts its =
-    ne_eqb k n (λ same. contrary (actsOn (other g) n) (ap (actsOn (other g)) (sym same) ∙ not-acted g k its) acts)
+    ne_eqb k n (λ same. contrary (acts_on (other g) n) (ap (acts_on (other g)) (sym same) ∙ not-acted g k its) acts)
 
 -- The signals at a pin on which a group acts are that group's, for the pin is.
-acted-its : (g : Group) (n : ℕ) → actsOn g n ≡ true → itsPin g n ≡ true
+acted-its : (g : Group) (n : ℕ) → acts_on g n ≡ true → its_pin g n ≡ true
 acted-its A n acts = let above = ltb-true _ n acts in lt-ltb _ n (omega (arith, above))
 acted-its B n acts = let below = ltb-true n _ acts in lt-ltb n _ (omega (arith, below))
 
-pub acted-group : (g : Group) (n : ℕ) → actsOn g n ≡ true → groupAt n ≡ g
+pub acted-group : (g : Group) (n : ℕ) → acts_on g n ≡ true → group_at n ≡ g
 acted-group g n acts = at-its-pin g n (acted-its g n acts)
 
 -- Bit n of a byte, where the group does not act on that pin.
-abbrev bitElsewhere : Group → ℕ → ℕ → Bool
-bitElsewhere g x n = not (actsOn g n) && bit_of x n
+abbrev bit_elsewhere : Group → ℕ → ℕ → Bool
+bit_elsewhere g x n = not (acts_on g n) && bit_of x n
 
-assembled-elsewhere : (g : Group) (x : ℕ) → assembled (bitElsewhere g x) ≡ elsewhere g x
-assembled-elsewhere g x = byte-same (bitElsewhere g x) (bitElsewhere g x) (λ n small. refl)
+assembled-elsewhere : (g : Group) (x : ℕ) → assembled (bit_elsewhere g x) ≡ elsewhere g x
+assembled-elsewhere g x = byte-same (bit_elsewhere g x) (bit_elsewhere g x) (λ n small. refl)
 
-bit-elsewhere : (g : Group) (x n : ℕ) → n < 8 → actsOn g n ≡ false → bit_of (elsewhere g x) n ≡ bit_of x n
+bit-elsewhere : (g : Group) (x n : ℕ) → n < 8 → acts_on g n ≡ false → bit_of (elsewhere g x) n ≡ bit_of x n
 bit-elsewhere g x n small none =
-    ap (λ b. bit_of b n) (sym (assembled-elsewhere g x)) ∙ bit-of-assembled (bitElsewhere g x) n small ∙ rw (none)
+    ap (λ b. bit_of b n) (sym (assembled-elsewhere g x)) ∙ bit-of-assembled (bit_elsewhere g x) n small ∙ rw (none)
 
 -- Bytes that differ only where the other group acts have the same bits at the group's pins.
 pub same_at : (g : Group) (x y : ℕ) → eqb (elsewhere (other g) x) (elsewhere (other g) y) ≡ true → SameAt g x y
@@ -55,11 +55,11 @@ same_at g x y same n small its =
     ∙ bit-elsewhere (other g) y n small none
 
 -- Said pin by pin.
-pub same-elsewhere : (g : Group) (x y : ℕ) → ((n : ℕ) → n < 8 → actsOn g n ≡ false → bit_of x n ≡ bit_of y n)
+pub same-elsewhere : (g : Group) (x y : ℕ) → ((n : ℕ) → n < 8 → acts_on g n ≡ false → bit_of x n ≡ bit_of y n)
     → eqb (elsewhere g x) (elsewhere g y) ≡ true
 same-elsewhere g x y same =
-    eq-eqb _ _ (sym (assembled-elsewhere g x) ∙ byte-same (bitElsewhere g x) (bitElsewhere g y) (λ n small. go n small (actsOn g n) refl))
+    eq-eqb _ _ (sym (assembled-elsewhere g x) ∙ byte-same (bit_elsewhere g x) (bit_elsewhere g y) (λ n small. go n small (acts_on g n) refl))
   where
-    go : (n : ℕ) → n < 8 → (acts : Bool) → actsOn g n ≡ acts → (not acts && bit_of x n) ≡ (not acts && bit_of y n)
+    go : (n : ℕ) → n < 8 → (acts : Bool) → acts_on g n ≡ acts → (not acts && bit_of x n) ≡ (not acts && bit_of y n)
     go n small true acts = refl
     go n small false acts = same n small acts

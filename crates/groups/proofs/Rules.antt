@@ -2,24 +2,24 @@
 -- Rests on nothing.
 use Prim.Native.Nat.{ℕ}
 use Rattle.control.specs.declared.Group.{Group}
-use Rattle.control.specs.Mode.{strobedInput}
+use Rattle.control.specs.Mode.{strobed_input}
 use Rattle.chip.specs.declared.Port.{Port}
 use Rattle.chip.specs.declared.Core.{Core}
-use Rattle.reads.specs.Read.{fetchedFrom, doneWith}
-use Rattle.writes.specs.Write.{storedBy}
-use Rattle.levels.specs.Levels.{letsThrough, portAfterLevels}
+use Rattle.reads.specs.Read.{fetched_from, done_with}
+use Rattle.writes.specs.Write.{stored_by}
+use Rattle.levels.specs.Levels.{lets_through, port_after_levels}
 
 -- A read begins, and ends.
 abbrev pub beginning : Core → Group → Port → Port
-beginning c g p = fetchedFrom p (strobedInput c.word g)
+beginning c g p = fetched_from p (strobed_input c.word g)
 
 abbrev pub ending : Core → Group → Port → Port
-ending c g p = doneWith p (strobedInput c.word g)
+ending c g p = done_with p (strobed_input c.word g)
 
 -- A write of d ends.
 abbrev pub storing : Core → ℕ → Group → Port → Port
-storing c d g p = storedBy p c.word g d
+storing c d g p = stored_by p c.word g d
 
 -- Levels d come.
 abbrev pub levelling : Core → ℕ → Group → Port → Port
-levelling c d g p = portAfterLevels p (letsThrough c g) d
+levelling c d g p = port_after_levels p (lets_through c g) d

@@ -8,20 +8,20 @@ use Rattle.groups.specs.SideBySide.{SideBySide, ReadInTheWay, StatusRead}
 pub side_by_side : SideBySide
 unfolding bit_of
 side_by_side = record {
-  printersOwn = refl;
-  notTheScales = refl;
+  printers_own = refl;
+  not_the_scales = refl;
   scale = refl;
   printer = refl;
-  bothOutOfTheWay = λ g. elim g [ A ↦ refl | B ↦ refl ];
+  both_out_of_the_way = λ g. elim g [ A ↦ refl | B ↦ refl ];
   digits = refl;
-  digitsAlone = refl;
+  digits_alone = refl;
   prints = refl;
-  printsAlone = refl;
+  prints_alone = refl;
 }
 
 pub read-in-the-way : ReadInTheWay
 unfolding bit_of
-read-in-the-way = record { withIt = refl; withoutIt = refl; notOutOfTheWay = refl; othersOutOfTheWay = refl }
+read-in-the-way = record { with_it = refl; without_it = refl; not_out_of_the_way = refl; others_out_of_the_way = refl }
 
 pub status-read : StatusRead
 unfolding bit_of

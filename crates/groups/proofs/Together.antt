@@ -12,32 +12,32 @@ use Rattle.control.specs.declared.Group.{Group}
 use Rattle.control.specs.declared.Group.TheVariants.{A, B}
 use Rattle.control.specs.declared.word.Control.{Control}
 use Rattle.control.specs.declared.word.Control.TheVariants.{Mode, Bit}
-use Rattle.control.specs.Word.{controlOf}
-use Rattle.roles.specs.Role.{Role, input, output, INTR, IBF, OBF, STB, ACK, roleOf}
+use Rattle.control.specs.Word.{control_of}
+use Rattle.roles.specs.Role.{Role, input, output, INTR, IBF, OBF, STB, ACK, role_of}
 use Rattle.channel.specs.declared.Side.{Side}
 use Rattle.channel.specs.declared.Side.TheVariants.{Input, Output}
 use Rattle.channel.specs.declared.Channel.{Channel}
-use Rattle.channel.specs.Moves.{afterForce}
+use Rattle.channel.specs.Moves.{after_force}
 use Rattle.chip.specs.declared.Port.{Port}
 use Rattle.chip.specs.declared.Enables.{Enables}
 use Rattle.chip.specs.declared.Core.{Core}
-use Rattle.chip.specs.State.{portOf, withLatch, withEnables, onPort}
-use Rattle.chip.specs.Handshakes.{groupAt, enableOf}
+use Rattle.chip.specs.State.{port_of, with_latch, with_enables, on_port}
+use Rattle.chip.specs.Handshakes.{group_at, enable_of}
 use Rattle.chip.proofs.OnPort.{port-on, word_on, lines-on, enables-on}
 use Rattle.chip.proofs.OneChannel.{port-put, channel-surrounded, channel-lines, channel-enables}
-use Rattle.settings.specs.ModeWord.{clearedPort, afterModeWord}
-use Rattle.settings.specs.ControlWord.{enabled, flagPut, setAs, pinSet, obeyed, afterControlWord}
-use Rattle.reads.specs.Read.{afterReadBegins, afterReadEnds}
-use Rattle.writes.specs.Write.{writable, latchWritten, afterWriteEnds}
-use Rattle.levels.specs.Levels.{fallen, lineFalls, letsThrough, afterLevelsOnC, afterLevels}
+use Rattle.settings.specs.ModeWord.{cleared_port, after_mode_word}
+use Rattle.settings.specs.ControlWord.{enabled, flag_put, set_as, pin_set, obeyed, after_control_word}
+use Rattle.reads.specs.Read.{after_read_begins, after_read_ends}
+use Rattle.writes.specs.Write.{writable, latch_written, after_write_ends}
+use Rattle.levels.specs.Levels.{fallen, line_falls, lets_through, after_levels_on_c, after_levels}
 use Rattle.levels.proofs.PortsAfter.{edges-of}
 use Rattle.step.specs.Step.{after_end}
 use Rattle.groups.proofs.Alike.{SameAt, Alike, port-same, line_same}
 use Rattle.groups.proofs.Rules.{beginning, ending, storing, levelling}
 
 -- One enable is put, in enables that agree on the group's.
-enabled-both : (e' e : Enables) (v : Bool) (g : Group) → ((s : Side) → enableOf e' g s ≡ enableOf e g s) → (h : Group) (t s : Side)
-    → enableOf (enabled e' h t v) g s ≡ enableOf (enabled e h t v) g s
+enabled-both : (e' e : Enables) (v : Bool) (g : Group) → ((s : Side) → enable_of e' g s ≡ enable_of e g s) → (h : Group) (t s : Side)
+    → enable_of (enabled e' h t v) g s ≡ enable_of (enabled e h t v) g s
 enabled-both e' e v A same A Input Input = refl
 enabled-both e' e v A same A Input Output = same Output
 enabled-both e' e v A same A Output Input = same Input
@@ -50,7 +50,7 @@ enabled-both e' e v B same B t s = refl
 
 module _ (g : Group) (c' c : Core) (k : Alike g c' c) where
   -- A rule at an address that makes the same of the group's port.
-  on_both : (x : ℕ) (f' f : Group → Port → Port) → f' g (portOf c' g) ≡ f g (portOf c g) → Alike g (onPort c' x f') (onPort c x f)
+  on_both : (x : ℕ) (f' f : Group → Port → Port) → f' g (port_of c' g) ≡ f g (port_of c g) → Alike g (on_port c' x f') (on_port c x f)
   on_both x f' f same = record {
     word = word_on c' x f' ∙ k.word ∙ sym (word_on c x f);
     port = port-on c' x f' g ∙ cc (same, k.port) ∙ sym (port-on c x f g);
@@ -59,52 +59,52 @@ module _ (g : Group) (c' c : Core) (k : Alike g c' c) where
     lines = λ n small its. rw (lines-on c' x f', lines-on c x f) (k.lines n small its);
   }
 
-  pub begun-both : (x : ℕ) → Alike g (afterReadBegins c' x) (afterReadBegins c x)
-  unfolding afterReadBegins
+  pub begun-both : (x : ℕ) → Alike g (after_read_begins c' x) (after_read_begins c x)
+  unfolding after_read_begins
   begun-both x = on_both x (beginning c') (beginning c) (rw (k.port, k.word))
 
-  read-ended-both : (x : ℕ) → Alike g (afterReadEnds c' x) (afterReadEnds c x)
-  unfolding afterReadEnds
+  read-ended-both : (x : ℕ) → Alike g (after_read_ends c' x) (after_read_ends c x)
+  unfolding after_read_ends
   read-ended-both x = on_both x (ending c') (ending c) (rw (k.port, k.word))
 
   -- A mode word or a reset.
-  pub anew-both : (w : ℕ) → Alike g (afterModeWord c' w) (afterModeWord c w)
-  unfolding afterModeWord
+  pub anew-both : (w : ℕ) → Alike g (after_mode_word c' w) (after_mode_word c w)
+  unfolding after_mode_word
   anew-both w = record {
     word = refl;
-    port = cleared c' g ∙ ap clearedPort k.port ∙ sym (cleared c g);
+    port = cleared c' g ∙ ap cleared_port k.port ∙ sym (cleared c g);
     enables = λ s. refl;
     latch = λ n small its. refl;
     lines = k.lines;
   }
     where
-      cleared : (c : Core) (h : Group) → portOf (afterModeWord c w) h ≡ clearedPort (portOf c h)
+      cleared : (c : Core) (h : Group) → port_of (after_mode_word c w) h ≡ cleared_port (port_of c h)
       cleared c A = refl
       cleared c B = refl
 
   -- Another latch of port C, and other enables.
-  latch-both : (x' x : ℕ) → SameAt g x' x → Alike g (withLatch c' x') (withLatch c x)
+  latch-both : (x' x : ℕ) → SameAt g x' x → Alike g (with_latch c' x') (with_latch c x)
   latch-both x' x same = record {
     word = k.word;
-    port = port-same (withLatch c' x') c' refl refl g ∙ k.port ∙ port-same c (withLatch c x) refl refl g;
+    port = port-same (with_latch c' x') c' refl refl g ∙ k.port ∙ port-same c (with_latch c x) refl refl g;
     enables = k.enables;
     latch = same;
     lines = k.lines;
   }
 
-  enables-both : (e' e : Enables) → ((s : Side) → enableOf e' g s ≡ enableOf e g s) → Alike g (withEnables c' e') (withEnables c e)
+  enables-both : (e' e : Enables) → ((s : Side) → enable_of e' g s ≡ enable_of e g s) → Alike g (with_enables c' e') (with_enables c e)
   enables-both e' e same = record {
     word = k.word;
-    port = port-same (withEnables c' e') c' refl refl g ∙ k.port ∙ port-same c (withEnables c e) refl refl g;
+    port = port-same (with_enables c' e') c' refl refl g ∙ k.port ∙ port-same c (with_enables c e) refl refl g;
     enables = same;
     latch = k.latch;
     lines = k.lines;
   }
 
   -- A flag is forced.
-  forced-both : (h : Group) (s : Side) (v : Bool) → Alike g (flagPut c' h s v) (flagPut c h s v)
+  forced-both : (h : Group) (s : Side) (v : Bool) → Alike g (flag_put c' h s v) (flag_put c h s v)
   forced-both h s v =
-      let f : Side → Channel → Channel = λ s. afterForce s v in
+      let f : Side → Channel → Channel = λ s. after_force s v in
       record {
         word = (channel-surrounded c' f h s).word ∙ k.word ∙ sym (channel-surrounded c f h s).word;
         port = port-put c' f h g s ∙ rw k.port (sym (port-put c f h g s));
@@ -114,44 +114,44 @@ module _ (g : Group) (c' c : Core) (k : Alike g c' c) where
       }
 
   -- A pin is set, in any role that it has.
-  set_both : (n : ℕ) (v : Bool) (r : Role) → Alike g (setAs c' n v r) (setAs c n v r)
+  set_both : (n : ℕ) (v : Bool) (r : Role) → Alike g (set_as c' n v r) (set_as c n v r)
   set_both n v input = k
   set_both n v output =
       latch-both _ _ (λ m small its.
       bit-of-with c'.c.latch n v m small ∙ ap (cond (eqb m n) v) (k.latch m small its) ∙ sym (bit-of-with c.c.latch n v m small))
   set_both n v INTR = k
-  set_both n v IBF = forced-both (groupAt n) Input v
-  set_both n v OBF = forced-both (groupAt n) Output v
-  set_both n v STB = enables-both _ _ (enabled-both c'.inte c.inte v g k.enables (groupAt n) Input)
-  set_both n v ACK = enables-both _ _ (enabled-both c'.inte c.inte v g k.enables (groupAt n) Output)
+  set_both n v IBF = forced-both (group_at n) Input v
+  set_both n v OBF = forced-both (group_at n) Output v
+  set_both n v STB = enables-both _ _ (enabled-both c'.inte c.inte v g k.enables (group_at n) Input)
+  set_both n v ACK = enables-both _ _ (enabled-both c'.inte c.inte v g k.enables (group_at n) Output)
 
   -- A word at control.
   obeyed-both : (o : Control) → Alike g (obeyed c' o) (obeyed c o)
-  unfolding pinSet
+  unfolding pin_set
   obeyed-both (Mode w) = anew-both w
   obeyed-both (Bit n v) =
-      subst (λ w. Alike g (setAs c' n v (roleOf w n)) (pinSet c n v)) (sym k.word) (set_both n v (roleOf c.word n))
+      subst (λ w. Alike g (set_as c' n v (role_of w n)) (pin_set c n v)) (sym k.word) (set_both n v (role_of c.word n))
 
   -- A byte for port C.
-  latch-written-both : (d : ℕ) → SameAt g (latchWritten c'.word c'.c.latch d) (latchWritten c.word c.c.latch d)
-  unfolding latchWritten
+  latch-written-both : (d : ℕ) → SameAt g (latch_written c'.word c'.c.latch d) (latch_written c.word c.c.latch d)
+  unfolding latch_written
   latch-written-both d n small its =
       bit-of-assembled (λ n. cond (writable c'.word n) (bit_of d n) (bit_of c'.c.latch n)) n small
       ∙ cc (k.word, k.latch n small its)
       ∙ sym (bit-of-assembled (λ n. cond (writable c.word n) (bit_of d n) (bit_of c.c.latch n)) n small)
 
-  write-ended-both : (x d : ℕ) → Alike g (afterWriteEnds c' x d) (afterWriteEnds c x d)
-  unfolding afterWriteEnds afterControlWord
+  write-ended-both : (x d : ℕ) → Alike g (after_write_ends c' x d) (after_write_ends c x d)
+  unfolding after_write_ends after_control_word
   write-ended-both x d = go (eqb x 2) (eqb x 3)
     where
       go : (lines command : Bool)
           → Alike g
-          (cond lines (withLatch c' (latchWritten c'.word c'.c.latch d))
-          (cond command (afterControlWord c' d) (onPort c' x (storing c' d))))
-          (cond lines (withLatch c (latchWritten c.word c.c.latch d))
-          (cond command (afterControlWord c d) (onPort c x (storing c d))))
+          (cond lines (with_latch c' (latch_written c'.word c'.c.latch d))
+          (cond command (after_control_word c' d) (on_port c' x (storing c' d))))
+          (cond lines (with_latch c (latch_written c.word c.c.latch d))
+          (cond command (after_control_word c d) (on_port c x (storing c d))))
       go true command = latch-both _ _ (latch-written-both d)
-      go false true = obeyed-both (controlOf d)
+      go false true = obeyed-both (control_of d)
       go false false = on_both x (storing c' d) (storing c d) (rw (k.port, k.word))
 
   -- The end of the cycle that runs on both buses.
@@ -161,12 +161,12 @@ module _ (g : Group) (c' c : Core) (k : Alike g c' c) where
   ended-both (Writing x d) = write-ended-both x d
 
   -- Levels on port C, and on another port.
-  falls-both : (d : ℕ) (s : Side) → lineFalls c' d g s ≡ lineFalls c d g s
+  falls-both : (d : ℕ) (s : Side) → line_falls c' d g s ≡ line_falls c d g s
   unfolding fallen
   falls-both d s = rw (line_same g _ _ k.lines s, k.word)
 
-  lines-both : (d : ℕ) → Alike g (afterLevelsOnC c' d) (afterLevelsOnC c d)
-  unfolding afterLevelsOnC
+  lines-both : (d : ℕ) → Alike g (after_levels_on_c c' d) (after_levels_on_c c d)
+  unfolding after_levels_on_c
   lines-both d = record {
     word = k.word;
     port = edges-of c' d g ∙ rw (k.port, falls-both d Input, falls-both d Output) (sym (edges-of c d g));
@@ -175,16 +175,16 @@ module _ (g : Group) (c' c : Core) (k : Alike g c' c) where
     lines = λ n small its. refl;
   }
 
-  lets-both : letsThrough c' g ≡ letsThrough c g
+  lets-both : lets_through c' g ≡ lets_through c g
   lets-both = rw (line_same g _ _ k.lines Input, k.word)
 
-  pub levels-both : (x d : ℕ) → Alike g (afterLevels c' x d) (afterLevels c x d)
-  unfolding afterLevels
+  pub levels-both : (x d : ℕ) → Alike g (after_levels c' x d) (after_levels c x d)
+  unfolding after_levels
   levels-both x d = go (eqb x 2)
     where
       go : (lines : Bool)
           → Alike g
-          (cond lines (afterLevelsOnC c' d) (onPort c' x (levelling c' d)))
-          (cond lines (afterLevelsOnC c d) (onPort c x (levelling c d)))
+          (cond lines (after_levels_on_c c' d) (on_port c' x (levelling c' d)))
+          (cond lines (after_levels_on_c c d) (on_port c x (levelling c d)))
       go true = lines-both d
       go false = on_both x (levelling c' d) (levelling c d) (rw (k.port, lets-both))

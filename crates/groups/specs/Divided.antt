@@ -3,13 +3,13 @@ use Rattle.std.specs.Prelude.{◌≡◌, not, ◌&&◌, ℕ, ◌<◌, eqb}
 use Rattle.control.specs.declared.Group.{Group}
 use Rattle.control.specs.declared.Group.TheVariants.{A, B}
 use Rattle.chip.specs.declared.Chip.{Chip}
-use Rattle.groups.specs.Belongings.{itsPin, belongingsOf}
-use Rattle.groups.specs.Doings.{actsOn}
+use Rattle.groups.specs.Belongings.{its_pin, belongings_of}
+use Rattle.groups.specs.Doings.{acts_on}
 
 -- A pin of port C belongs to one group and not to the other, and that one acts on it, unless it is pin 3.
 pub record PinDivided (n : ℕ) : Type 0 where
-  pub belongs : itsPin A n ≡ not (itsPin B n)
-  pub acted : (g : Group) → actsOn g n ≡ (itsPin g n && not (eqb n 3))
+  pub belongs : its_pin A n ≡ not (its_pin B n)
+  pub acted : (g : Group) → acts_on g n ≡ (its_pin g n && not (eqb n 3))
 
 -- Port C's latch and the levels on its lines are bytes, as their type makes them.
 pub record LinesOfBytes (c : Chip) : Type 0 where
@@ -21,4 +21,4 @@ pub record SameInAll (c' c : Chip) : Type 0 where
   pub phase : c'.phase ≡ c.phase
   pub edition : c'.edition ≡ c.edition
   pub word : c'.core.word ≡ c.core.word
-  pub belongings : (g : Group) → belongingsOf g c' ≡ belongingsOf g c
+  pub belongings : (g : Group) → belongings_of g c' ≡ belongings_of g c

@@ -6,12 +6,12 @@ use Rattle.control.specs.declared.Group.{Group}
 use Rattle.control.specs.declared.Group.TheVariants.{A, B}
 use Rattle.chip.specs.declared.Edition.TheVariants.{Older}
 use Rattle.chip.specs.declared.Chip.{Chip}
-use Rattle.chip.specs.State.{allHigh, powerUpWith}
+use Rattle.chip.specs.State.{all_high, power_up_with}
 use Rattle.laws.specs.Marked.{strobe}
-use Rattle.fates.specs.Surroundings.{atPowerUp}
+use Rattle.fates.specs.Surroundings.{at_power_up}
 use Rattle.fates.specs.Promise.{run}
-use Rattle.groups.specs.Belongings.{belongingsOf}
-use Rattle.groups.specs.Doings.{onlyOf}
+use Rattle.groups.specs.Belongings.{belongings_of}
+use Rattle.groups.specs.Doings.{only_of}
 use Rattle.groups.specs.Apart.{Left}
 
 -- A history from a power-up with every line high, and what is then done; the group that changes, and the levels of its pins of port C
@@ -30,16 +30,16 @@ h then d changes g from x to y = record { before = h; done = d; group = g; was =
 
 -- The chip before, and the levels of a group's pins in a chip.
 abbrev pub start : Example → Chip
-start x = run (powerUpWith allHigh) x.before
+start x = run (power_up_with all_high) x.before
 
 abbrev pub shown : Group → Chip → ℕ
-shown g c = (belongingsOf g c).levels
+shown g c = (belongings_of g c).levels
 
 -- Before and after, the pins are as the example says; so the group is not left as it was.
 pub record Changes (x : Example) : Type 0 where
   pub first : shown x.group (start x) ≡ x.was
   pub last : shown x.group (run (start x) x.done) ≡ x.becomes
-  pub notLeft : ¬ Left x.group (start x) x.done
+  pub not_left : ¬ Left x.group (start x) x.done
 
 -- So it is with each example.
 abbrev pub EachChanges : List Example → Type 0
@@ -79,4 +79,4 @@ excluded = write 3 0x80 ∷ (event 0 0 0 ∷ []) ∷ write 2 0x01 ∷ write 3 0x
 -- None of them counts as the group's.
 abbrev pub NoneIsOf : Group → List (List Event) → Type 0
 NoneIsOf g [] = Unit {0}
-NoneIsOf g (es ∷ more) = (onlyOf g (atPowerUp Older allHigh) es ≡ false) × NoneIsOf g more
+NoneIsOf g (es ∷ more) = (only_of g (at_power_up Older all_high) es ≡ false) × NoneIsOf g more

@@ -5,7 +5,7 @@ use Rattle.events.specs.Histories.{write, levels}
 use Rattle.channel.specs.declared.Fill.TheVariants.{Waiting}
 use Rattle.channel.specs.declared.Tally.{Tally}
 use Rattle.channel.specs.declared.Channel.{Channel}
-use Rattle.chip.specs.State.{noByte}
+use Rattle.chip.specs.State.{no_byte}
 use Rattle.status.specs.declared.reasons.Reason.TheVariants.{EnableOff, High}
 use Rattle.status.specs.declared.reasons.Explained.TheVariants.{InputHalf, OutputHalf}
 use Rattle.laws.specs.Marked.{strobe}
@@ -17,26 +17,26 @@ abbrev pub moment : List Event
 moment = write 3 0xb4 ++ write 3 0x0f ++ write 3 0x09 ++ strobe 0x41 ++ levels 0 0x42 ++ write 1 0x33
 
 -- One byte was offered, and waits.
-abbrev pub oneOffered : Tally
-oneOffered = record { offered = 1; handed = 0; overwritten = 0; swallowed = 0; cleared = 0; planted = 0; struck = 0 }
+abbrev pub one_offered : Tally
+one_offered = record { offered = 1; handed = 0; overwritten = 0; swallowed = 0; cleared = 0; planted = 0; struck = 0 }
 
-abbrev pub scaleChannel : Channel
-scaleChannel = record { fill = Waiting; latch = 0x41; tally = oneOffered }
+abbrev pub scale_channel : Channel
+scale_channel = record { fill = Waiting; latch = 0x41; tally = one_offered }
 
-abbrev pub printerChannel : Channel
-printerChannel = record { fill = Waiting; latch = 0x33; tally = oneOffered }
+abbrev pub printer_channel : Channel
+printer_channel = record { fill = Waiting; latch = 0x33; tally = one_offered }
 
 -- Group A: pin 7, IBF, STB and INTR are high, and pin 6 is low. All but STB are driven. In the place of STB a read tells INTE, which is set.
-abbrev pub scaleHas : Belongings
-scaleHas = record {
-  input = scaleChannel;
-  output = noByte;
-  inputEnabled = true;
-  outputEnabled = false;
+abbrev pub scale_has : Belongings
+scale_has = record {
+  input = scale_channel;
+  output = no_byte;
+  input_enabled = true;
+  output_enabled = false;
   interrupt = InputHalf High;
   port = record { levels = 0x42; driven = 0x00 };
-  portRead = 0x41;
-  portOutside = 0x42;
+  port_read = 0x41;
+  port_outside = 0x42;
   levels = 0xb8;
   driven = 0xe8;
   told = 0xb8;
@@ -46,16 +46,16 @@ scaleHas = record {
 
 -- Group B: ACK is high, and OBF and INTR are low, the last since INTE B is not set. All but ACK are driven. In the place of ACK a read tells
 -- INTE B.
-abbrev pub printerHas : Belongings
-printerHas = record {
-  input = noByte;
-  output = printerChannel;
-  inputEnabled = false;
-  outputEnabled = false;
+abbrev pub printer_has : Belongings
+printer_has = record {
+  input = no_byte;
+  output = printer_channel;
+  input_enabled = false;
+  output_enabled = false;
   interrupt = OutputHalf EnableOff;
   port = record { levels = 0x33; driven = 0xff };
-  portRead = 0x33;
-  portOutside = 0xff;
+  port_read = 0x33;
+  port_outside = 0xff;
   levels = 0x04;
   driven = 0x03;
   told = 0x00;

@@ -4,39 +4,39 @@ use Rattle.events.specs.Event.{Event}
 use Rattle.bus.specs.declared.Phase.{Phase}
 use Rattle.bus.specs.declared.Phase.TheVariants.{Idle, Reading, Writing}
 use Rattle.bus.specs.declared.Limits.{Limits}
-use Rattle.bus.specs.Refusals.{limitsOf}
-use Rattle.bus.specs.Device.{Device, Given, stepIn}
+use Rattle.bus.specs.Refusals.{limits_of}
+use Rattle.bus.specs.Device.{Device, Given, step_in}
 use Rattle.i8355.specs.declared.Ports.{Ports}
 use Rattle.i8355.specs.declared.Chip8355.{Chip8355}
 use Rattle.i8355.specs.declared.step.Stepped.{Stepped}
-use Rattle.i8355.specs.Registers.{afterReset, afterWriteEnds, afterLevels}
+use Rattle.i8355.specs.Registers.{after_reset, after_write_ends, after_levels}
 use Rattle.i8355.specs.Views.{read_of}
 
 -- Four registers can be written: the ports at 0 and 1, their directions at 2 and 3. The ports alone can be read, and have levels.
 abbrev pub limits : Limits
-limits = limitsOf 4 2 2
+limits = limits_of 4 2 2
 
 -- The device is a phase of the bus and its ports.
-abbrev pub onBus : Phase → Ports → Chip8355
-onBus ph s = record { phase = ph; ports = s }
+abbrev pub on_bus : Phase → Ports → Chip8355
+on_bus ph s = record { phase = ph; ports = s }
 
 -- What the end of a cycle does to the ports, in each phase: a write takes effect, and a read has none.
 abbrev pub after_end : Ports → Phase → Ports
 after_end s Idle = s
 after_end s (Reading x) = s
-after_end s (Writing x d) = afterWriteEnds s x d
+after_end s (Writing x d) = after_write_ends s x d
 
 -- The 8355 as a device. A read that begins changes nothing.
 abbrev pub device : Device Chip8355 Ports
 device = record {
   phase = λ c. c.phase;
   rest = λ c. c.ports;
-  on = onBus;
+  on = on_bus;
   limits = λ s. limits;
-  afterReset = afterReset;
-  afterBegin = λ s x. s;
+  after_reset = after_reset;
+  after_begin = λ s x. s;
   after_end = after_end;
-  afterLevels = afterLevels;
+  after_levels = after_levels;
   answer = read_of;
   phase-on = λ ph s. refl;
   rest-on = λ ph s. refl;
@@ -47,12 +47,12 @@ device = record {
 }
 
 -- What an event gives, as the step's struct.
-abbrev pub asStepped : Given Chip8355 → Stepped
-asStepped o = record { chip = o.state; number = o.number; byte = o.byte }
+abbrev pub as_stepped : Given Chip8355 → Stepped
+as_stepped o = record { chip = o.state; number = o.number; byte = o.byte }
 
 -- One event, of kind k with operands x and d: the step of that device.
 unfoldable pub step_of : Chip8355 → ℕ → ℕ → ℕ → Stepped
-step_of c k x d = asStepped (stepIn device c k x d)
+step_of c k x d = as_stepped (step_in device c k x d)
 
 -- What the step makes of an event.
 abbrev pub stepped : Chip8355 → Event → Stepped

@@ -1,6 +1,6 @@
 // The two ports of the 8355, and what they are at power-up.
 ghost use Rattle.std.specs.Prelude.{◌≡◌};
-ghost use Rattle.i8355.specs.State.{powerUp};
+ghost use Rattle.i8355.specs.State.{power_up};
 
 mod registers;
 pub mod step;
@@ -48,7 +48,7 @@ pub const DIRECTION_B: u8 = 3;
 
 // The device at power-up: every pin is an input, under a line that is high.
 pub fn power_up() -> Chip8355
-    ensures { result ≡ powerUp }
+    ensures { result ≡ power_up }
 {
     let port = Port {
         direction: 0,

@@ -1,12 +1,12 @@
 // What a reset, the end of a write and outside levels make of the ports.
 ghost use Rattle.std.specs.Prelude.{◌≡◌};
-ghost use Rattle.i8355.specs.Registers.{afterReset, afterWriteEnds, afterLevels};
+ghost use Rattle.i8355.specs.Registers.{after_reset, after_write_ends, after_levels};
 
 use super::{DIRECTION_A, DIRECTION_B, PORT_A, PORT_B, Ports};
 
 // A reset makes every pin an input; the latches keep their bytes.
 pub(super) fn reset(mut ports: Ports) -> Ports
-    ensures { result ≡ afterReset ports }
+    ensures { result ≡ after_reset ports }
 {
     ports.a.direction = 0;
     ports.b.direction = 0;
@@ -15,7 +15,7 @@ pub(super) fn reset(mut ports: Ports) -> Ports
 
 // The byte goes whole into the register at the address, whatever the directions; where there is none, nowhere.
 pub(super) fn write(mut ports: Ports, address: u8, byte: u8) -> Ports
-    ensures { result ≡ afterWriteEnds ports address byte }
+    ensures { result ≡ after_write_ends ports address byte }
 {
     match address {
         PORT_A => ports.a.latch = byte,
@@ -29,7 +29,7 @@ pub(super) fn write(mut ports: Ports, address: u8, byte: u8) -> Ports
 
 // The outside levels of a port become these; on a number that is no port nothing happens.
 pub(super) fn levels(mut ports: Ports, port: u8, levels: u8) -> Ports
-    ensures { result ≡ afterLevels ports port levels }
+    ensures { result ≡ after_levels ports port levels }
 {
     match port {
         PORT_A => ports.a.outside = levels,

@@ -1,7 +1,7 @@
 // One event of the 8355: refused by its number, and then nothing changes, or accepted, with its effect and the byte of a read.
 ghost use Rattle.std.specs.Prelude.{◌≡◌};
-ghost use Rattle.bus.specs.Device.{afterIn, byteIn};
-ghost use Rattle.i8355.specs.Step.{limits, onBus, after_end, device, step_of};
+ghost use Rattle.bus.specs.Device.{after_in, byte_in};
+ghost use Rattle.i8355.specs.Step.{limits, on_bus, after_end, device, step_of};
 
 use super::{Chip8355, Ports, registers, view};
 use bus::{Limits, Phase};
@@ -15,7 +15,7 @@ pub struct Stepped {
 }
 
 fn on_bus(phase: Phase, ports: Ports) -> Chip8355
-    ensures { result ≡ onBus phase ports }
+    ensures { result ≡ on_bus phase ports }
 {
     Chip8355 { phase, ports }
 }
@@ -32,7 +32,7 @@ fn end(ports: Ports, phase: Phase) -> Ports
 }
 
 fn after(chip: Chip8355, kind: u8, first: u8, second: u8) -> Chip8355
-    ensures { result ≡ afterIn device chip kind first second }
+    ensures { result ≡ after_in device chip kind first second }
 {
     let phase = chip.phase;
     let ports = chip.ports;
@@ -47,7 +47,7 @@ fn after(chip: Chip8355, kind: u8, first: u8, second: u8) -> Chip8355
 
 // Only a read that begins has a byte to give: what the pins show.
 fn byte(chip: Chip8355, kind: u8, first: u8) -> u8
-    ensures { result ≡ byteIn device chip kind first }
+    ensures { result ≡ byte_in device chip kind first }
 {
     if kind == events::BEGIN_READ {
         let pins = view::pins(chip, first);

@@ -9,15 +9,15 @@ use borrow.Author.Tests.{ltb-true, ltb-false, le-ltb, lt-ltb, ne_eqb, not-true}
 use Rattle.bits.proofs.Logic.{both}
 use Rattle.chip.specs.Addresses.{control}
 use Rattle.image.specs.Places as places
-use Rattle.image.specs.Good.{writes, cycleFits}
+use Rattle.image.specs.Good.{writes, cycle_fits}
 
 module _ (edition : ℕ) where
   abbrev unread : ℕ → Bool
   unread n = eqb edition places.older && eqb n control
 
   -- The lower byte, and the number.
-  abbrev numberFits : ℕ → ℕ → Bool
-  numberFits b n = (writes b || not (ltb places.idle n)) && not (unread n)
+  abbrev number_fits : ℕ → ℕ → Bool
+  number_fits b n = (writes b || not (ltb places.idle n)) && not (unread n)
 
   -- Where nothing is to be written, the number is the byte of the bus, and a write is among what is no more than idle.
   up-to-idle : (b : ℕ) (above : Bool) → ltb places.idle b ≡ above → (writes b || not above) ≡ not above
@@ -38,7 +38,7 @@ module _ (edition : ℕ) where
       )
   a_write b false is = sym (and-false (not (ltb places.idle b) && not (unread b)))
 
-  as_number : (b w : ℕ) → numberFits b (b + 256 * w) ≡ cycleFits edition b w
+  as_number : (b w : ℕ) → number_fits b (b + 256 * w) ≡ cycle_fits edition b w
   as_number b zero =
       let alone : b + 256 * 0 ≡ b = omega arith in
       rw (alone, up-to-idle b (ltb places.idle b) refl, or-true (writes b)) (sym (and-true (not (ltb places.idle b) && not (unread b))))
@@ -59,8 +59,8 @@ module _ (edition : ℕ) where
       ∙ sym (ap (λ (z : Bool). z && eqb n control) (ne_eqb (suc e) places.older (λ z. omega (arith, z))))
 
   pub by_number : (n : ℕ)
-      → ((writes (n % 256) || not (ltb places.idle n)) && not (eqb (n + 65536 * edition) control)) ≡ cycleFits edition (n % 256) (n / 256)
+      → ((writes (n % 256) || not (ltb places.idle n)) && not (eqb (n + 65536 * edition) control)) ≡ cycle_fits edition (n % 256) (n / 256)
   by_number n =
       let both_bytes : n % 256 + 256 * (n / 256) ≡ n = omega arith in
       rw (all-as-one n edition)
-      (subst (λ (m : ℕ). numberFits (n % 256) m ≡ cycleFits edition (n % 256) (n / 256)) both_bytes (as_number (n % 256) (n / 256)))
+      (subst (λ (m : ℕ). number_fits (n % 256) m ≡ cycle_fits edition (n % 256) (n / 256)) both_bytes (as_number (n % 256) (n / 256)))

@@ -17,25 +17,25 @@ use Rattle.chip.specs.declared.Edition.{Edition}
 use Rattle.chip.specs.declared.Edition.TheVariants.{Older, Newer}
 use Rattle.chip.specs.declared.Chip.{Chip}
 use Rattle.image.specs.Places as places
-use Rattle.image.specs.Layout.{tallyBytes, fillByte, enablesByte, busByte, writtenByte, editionByte, image_of}
-use Rattle.image.specs.Loaded.{tallyAt, fillAs, enablesAs, phaseAs, editionAs, state_of}
-use Rattle.image.specs.Good.{canBeRead, namesItsPlace, hasImage}
+use Rattle.image.specs.Layout.{tally_bytes, fill_byte, enables_byte, bus_byte, written_byte, edition_byte, image_of}
+use Rattle.image.specs.Loaded.{tally_at, fill_as, enables_as, phase_as, edition_as, state_of}
+use Rattle.image.specs.Good.{can_be_read, names_its_place, has_image}
 
 -- A tally from its two bytes.
 two_bytes : (n : ℕ) → n % 256 + 256 * (n / 256) ≡ n
 two_bytes n = omega arith
 
-pub fill-back : (f : Fill) → fillAs (fillByte f) ≡ f
+pub fill-back : (f : Fill) → fill_as (fill_byte f) ≡ f
 fill-back Empty = refl
 fill-back Waiting = refl
 fill-back Fetching = refl
 
 -- Only addresses can be read.
-an-address : (ed : Edition) (p : ℕ) → canBeRead ed p ≡ true → p < 4
+an-address : (ed : Edition) (p : ℕ) → can_be_read ed p ≡ true → p < 4
 an-address Older p can = omega (arith, ltb-true p 3 can)
 an-address Newer p can = ltb-true p 4 can
 
-pub phase-back : (ed : Edition) (ph : Phase) → namesItsPlace ed ph ≡ true → phaseAs (busByte ph) (writtenByte ph) ≡ ph
+pub phase-back : (ed : Edition) (ph : Phase) → names_its_place ed ph ≡ true → phase_as (bus_byte ph) (written_byte ph) ≡ ph
 phase-back ed Idle names = refl
 phase-back ed (Reading p) names =
     let below = an-address ed p names in
@@ -45,16 +45,16 @@ phase-back ed (Writing a d) names =
     rw (names, le-ltb (places.writes + a) places.writes (omega arith), lt-ltb (places.writes + a) places.idle (omega (arith, below)))
     (ap (λ (x : ℕ). Writing x d) (omega (arith, below)))
 
-edition-back : (ed : Edition) → editionAs (editionByte ed) ≡ ed
+edition-back : (ed : Edition) → edition_as (edition_byte ed) ≡ ed
 edition-back Older = refl
 edition-back Newer = refl
 
-pub enables-back : (e : Enables) → enablesAs (enablesByte e) ≡ e
+pub enables-back : (e : Enables) → enables_as (enables_byte e) ≡ e
 unfolding bit_of value_of
 enables-back e = go e.input e.output e.b
   where
     go : (i o b : Bool)
-        → enablesAs (enablesByte (record { input = i; output = o; b = b })) ≡ record { input = i; output = o; b = b }
+        → enables_as (enables_byte (record { input = i; output = o; b = b })) ≡ record { input = i; output = o; b = b }
     go true true true = refl
     go true true false = refl
     go true false true = refl
@@ -67,7 +67,7 @@ enables-back e = go e.input e.output e.b
 -- A channel, of which every layout has the condition, the latch and five tallies; of the other two it is asked what they are told as.
 pub channel-back : (ch : Channel) (planted struck : ℕ) → planted ≡ ch.tally.planted → struck ≡ ch.tally.struck →
     record {
-      fill = fillAs (fillByte ch.fill);
+      fill = fill_as (fill_byte ch.fill);
       latch = ch.latch;
       tally = record {
         offered = ch.tally.offered % 256 + 256 * (ch.tally.offered / 256);
@@ -96,20 +96,20 @@ channel-back ch planted struck same-planted same-struck = λ i. record {
 -- Here they are told as two bytes each.
 seven-back : (ch : Channel) →
     record {
-      fill = fillAs (fillByte ch.fill);
+      fill = fill_as (fill_byte ch.fill);
       latch = ch.latch;
-      tally = tallyAt (tallyBytes ch.tally) 0;
+      tally = tally_at (tally_bytes ch.tally) 0;
     } ≡ ch
 seven-back ch = channel-back ch _ _ (two_bytes ch.tally.planted) (two_bytes ch.tally.struck)
 
 -- The bus is that of a state with an image.
-pub at-place : (c : Chip) → hasImage c ≡ true → namesItsPlace c.edition c.phase ≡ true
-unfolding hasImage
+pub at-place : (c : Chip) → has_image c ≡ true → names_its_place c.edition c.phase ≡ true
+unfolding has_image
 at-place c has =
-    let names = namesItsPlace c.edition c.phase in
+    let names = names_its_place c.edition c.phase in
     (both names (bit_of c.core.word 7) (both (names && bit_of c.core.word 7) _ has).0).0
 
-pub comes_back : (c : Chip) → hasImage c ≡ true → state_of (image_of c) ≡ c
+pub comes_back : (c : Chip) → has_image c ≡ true → state_of (image_of c) ≡ c
 unfolding state_of image_of
 comes_back c has = λ i. record {
   phase = phase-back c.edition c.phase (at-place c has) i;

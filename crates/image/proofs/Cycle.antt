@@ -9,13 +9,13 @@ use borrow.Author.Tests.{eqb-true, ltb-true, ltb-false, not-true, lt-ltb}
 use Rattle.bits.proofs.Logic.{both, one_of, contrary}
 use Rattle.chip.specs.Addresses.{control}
 use Rattle.image.specs.Places as places
-use Rattle.image.specs.Layout.{busByte, writtenByte}
-use Rattle.image.specs.Loaded.{phaseAs}
-use Rattle.image.specs.Good.{writes, cycleFits}
+use Rattle.image.specs.Layout.{bus_byte, written_byte}
+use Rattle.image.specs.Loaded.{phase_as}
+use Rattle.image.specs.Good.{writes, cycle_fits}
 
-module _ (edition bus byte : ℕ) (fits : cycleFits edition bus byte ≡ true) where
+module _ (edition bus byte : ℕ) (fits : cycle_fits edition bus byte ≡ true) where
   abbrev pub Same : Type 0
-  Same = (busByte (phaseAs bus byte) ≡ bus) × (writtenByte (phaseAs bus byte) ≡ byte)
+  Same = (bus_byte (phase_as bus byte) ≡ bus) × (written_byte (phase_as bus byte) ≡ byte)
 
   abbrev readable : Bool
   readable = not (eqb edition places.older && eqb bus control)

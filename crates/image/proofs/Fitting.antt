@@ -22,9 +22,9 @@ use Rattle.chip.specs.declared.Chip.{Chip}
 use Rattle.chip.specs.Addresses.{control}
 use Rattle.chip.specs.Handshakes.{strobed}
 use Rattle.image.specs.Places as places
-use Rattle.image.specs.Layout.{fillByte, enablesByte, busByte, writtenByte, coreBytes, editionByte, image_of}
+use Rattle.image.specs.Layout.{fill_byte, enables_byte, bus_byte, written_byte, core_bytes, edition_byte, image_of}
 use Rattle.image.specs.Loaded.{byte_at}
-use Rattle.image.specs.Good.{canBeRead, namesItsPlace, allowed, allowedAt, hasImage, cycleFits, editionFits, enablesFit, fillFits, coreFits, isImage}
+use Rattle.image.specs.Good.{can_be_read, names_its_place, allowed, allowed_at, has_image, cycle_fits, edition_fits, enables_fit, fill_fits, core_fits, is_image}
 use Rattle.image.proofs.Zeros.{and_assoc}
 use Rattle.image.proofs.ComesBack.{enables-back}
 
@@ -37,18 +37,18 @@ not-control p true is = go (eqb p control) refl
     go false other = sym (lt-ltb p 3 (omega (arith, ltb-true p 4 is, eqb-false p control other)))
 not-control p false is = sym (le-ltb p 3 (omega (arith, ltb-false p 4 is)))
 
-read-where : (ed : Edition) (p : ℕ) → (ltb p 4 && not (eqb (editionByte ed) places.older && eqb p control)) ≡ canBeRead ed p
+read-where : (ed : Edition) (p : ℕ) → (ltb p 4 && not (eqb (edition_byte ed) places.older && eqb p control)) ≡ can_be_read ed p
 read-where Older p = not-control p (ltb p 4) refl
 read-where Newer p = and-true (ltb p 4)
 
 read_fits : (edition p : ℕ) (b : Bool) → ltb p 4 ≡ b
-    → cycleFits edition (cond b p places.nowhere) 0 ≡ (b && not (eqb edition places.older && eqb p control))
+    → cycle_fits edition (cond b p places.nowhere) 0 ≡ (b && not (eqb edition places.older && eqb p control))
 read_fits edition p true is =
     let below = ltb-true p 4 is in
     rw (le-ltb places.idle p (omega (arith, below)), is) (and-true (not (eqb edition places.older && eqb p control)))
 read_fits edition p false is = refl
 
-write-fits : (edition a d : ℕ) (b : Bool) → ltb a 4 ≡ b → cycleFits edition (cond b (places.writes + a) places.nowhere) d ≡ b
+write-fits : (edition a d : ℕ) (b : Bool) → ltb a 4 ≡ b → cycle_fits edition (cond b (places.writes + a) places.nowhere) d ≡ b
 write-fits edition a d true is =
     let below = ltb-true a 4 is in
     rw (
@@ -60,16 +60,16 @@ write-fits edition a d true is =
     )
 write-fits edition a d false is = refl
 
-cycle-fits : (ed : Edition) (ph : Phase) → cycleFits (editionByte ed) (busByte ph) (writtenByte ph) ≡ namesItsPlace ed ph
-cycle-fits ed Idle = rw (and-false (eqb (editionByte ed) places.older))
-cycle-fits ed (Reading p) = read_fits (editionByte ed) p (ltb p 4) refl ∙ read-where ed p
-cycle-fits ed (Writing a d) = write-fits (editionByte ed) a d (ltb a 4) refl
+cycle-fits : (ed : Edition) (ph : Phase) → cycle_fits (edition_byte ed) (bus_byte ph) (written_byte ph) ≡ names_its_place ed ph
+cycle-fits ed Idle = rw (and-false (eqb (edition_byte ed) places.older))
+cycle-fits ed (Reading p) = read_fits (edition_byte ed) p (ltb p 4) refl ∙ read-where ed p
+cycle-fits ed (Writing a d) = write-fits (edition_byte ed) a d (ltb a 4) refl
 
-edition-fits : (ed : Edition) → editionFits (editionByte ed) ≡ true
+edition-fits : (ed : Edition) → edition_fits (edition_byte ed) ≡ true
 edition-fits Older = refl
 edition-fits Newer = refl
 
-fill-fits : (on : Bool) (s : Side) (f : Fill) → fillFits on s (fillByte f) ≡ allowed on s f
+fill-fits : (on : Bool) (s : Side) (f : Fill) → fill_fits on s (fill_byte f) ≡ allowed on s f
 fill-fits true Input Empty = refl
 fill-fits false Input Empty = refl
 fill-fits true Output Empty = refl
@@ -83,14 +83,14 @@ fill-fits false Input Fetching = refl
 fill-fits true Output Fetching = refl
 fill-fits false Output Fetching = refl
 
-enables-fit : (e : Enables) → enablesFit (enablesByte e) ≡ true
-enables-fit e = eq-eqb _ _ (ap enablesByte (enables-back e))
+enables-fit : (e : Enables) → enables_fit (enables_byte e) ≡ true
+enables-fit e = eq-eqb _ _ (ap enables_byte (enables-back e))
 
 -- All but the bus, in whatever layout: what is asked of the bytes is what is asked of the state.
-abbrev pub coreAllowed : Core → Bool
-coreAllowed c = bit_of c.word 7 && (allowedAt c A Input && allowedAt c A Output && allowedAt c B Input && allowedAt c B Output)
+abbrev pub core_allowed : Core → Bool
+core_allowed c = bit_of c.word 7 && (allowed_at c A Input && allowed_at c A Output && allowed_at c B Input && allowed_at c B Output)
 
-pub core-fits : (c : Core) → coreFits (byte_at (coreBytes c)) ≡ coreAllowed c
+pub core-fits : (c : Core) → core_fits (byte_at (core_bytes c)) ≡ core_allowed c
 core-fits c =
     rw (enables-fit c.inte)
     ((λ i.
@@ -100,16 +100,16 @@ core-fits c =
     && fill-fits (strobed c.word B Input) Input c.b.input.fill i
     && fill-fits (strobed c.word B Output) Output c.b.output.fill i)
     && true)
-    ∙ and-true (coreAllowed c))
+    ∙ and-true (core_allowed c))
 
 -- With the bus that is all.
-pub all_asked : (c : Chip) → (namesItsPlace c.edition c.phase && coreAllowed c.core) ≡ hasImage c
-unfolding hasImage
-all_asked c = sym (and_assoc (namesItsPlace c.edition c.phase) (bit_of c.core.word 7) _)
+pub all_asked : (c : Chip) → (names_its_place c.edition c.phase && core_allowed c.core) ≡ has_image c
+unfolding has_image
+all_asked c = sym (and_assoc (names_its_place c.edition c.phase) (bit_of c.core.word 7) _)
 
-pub image-where : (c : Chip) → isImage (image_of c) ≡ hasImage c
-unfolding isImage image_of
+pub image-where : (c : Chip) → is_image (image_of c) ≡ has_image c
+unfolding is_image image_of
 image-where c =
     (λ i. cycle-fits c.edition c.phase i && (edition-fits c.edition i && true) && core-fits c.core i)
-    ∙ ap (λ (b : Bool). b && coreAllowed c.core) (and-true (namesItsPlace c.edition c.phase))
+    ∙ ap (λ (b : Bool). b && core_allowed c.core) (and-true (names_its_place c.edition c.phase))
     ∙ all_asked c

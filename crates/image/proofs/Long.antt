@@ -14,18 +14,18 @@ use Rattle.chip.specs.declared.Chip.{Chip}
 use Rattle.image.specs.Places as places
 use Rattle.image.specs.Layout.{image_of}
 use Rattle.image.specs.Loaded.{state_of}
-use Rattle.image.specs.Good.{bytesFit, isImage}
-use Rattle.image.specs.Slices.{savedIn, loadedFrom}
+use Rattle.image.specs.Good.{bytes_fit, is_image}
+use Rattle.image.specs.Slices.{saved_in, loaded_from}
 
-pub is-long : (l : List ℕ) → isImage l ≡ true → length l ≡ places.length
-unfolding isImage
-is-long l good = eqb-true _ _ (both (eqb (length l) places.length) (bytesFit l) good).0
+pub is-long : (l : List ℕ) → is_image l ≡ true → length l ≡ places.length
+unfolding is_image
+is-long l good = eqb-true _ _ (both (eqb (length l) places.length) (bytes_fit l) good).0
 
-pub written_over : (l : List ℕ) (c : Chip) → length l ≡ places.length → savedIn l c ≡ image_of c
-unfolding savedIn
+pub written_over : (l : List ℕ) (c : Chip) → length l ≡ places.length → saved_in l c ≡ image_of c
+unfolding saved_in
 written_over l c long = rw (eq-eqb (length l) places.length long)
 
-pub saved : (l : List ℕ) (c : Chip) → isImage l ≡ true → savedIn l c ≡ image_of c
+pub saved : (l : List ℕ) (c : Chip) → is_image l ≡ true → saved_in l c ≡ image_of c
 saved l c good = written_over l c (is-long l good)
 
 -- As many bytes as an image has are all of them, and what is loaded from them is the state that they tell.
@@ -33,6 +33,6 @@ module _ (l : List ℕ) (long : length l ≡ places.length) where
   pub all-of-it : take places.length l ≡ l
   all-of-it = take_all places.length l (omega (arith, long))
 
-  pub loaded : loadedFrom l ≡ state_of l
-  unfolding loadedFrom
+  pub loaded : loaded_from l ≡ state_of l
+  unfolding loaded_from
   loaded = rw (eq-eqb (length l) places.length long)

@@ -11,14 +11,14 @@ use Rattle.image.specs.Places as places
 use Rattle.image.specs.Layout.{image_of}
 use Rattle.image.specs.Loaded.{state_of}
 use Rattle.image.specs.Good.{Told}
-use Rattle.image.specs.Slices.{coreSavedIn, busSavedIn}
+use Rattle.image.specs.Slices.{core_saved_in, bus_saved_in}
 
-over-core : (c : Chip) (d : Core) → coreSavedIn (image_of c) d ≡ image_of (record { phase = c.phase; edition = c.edition; core = d })
-unfolding coreSavedIn image_of
+over-core : (c : Chip) (d : Core) → core_saved_in (image_of c) d ≡ image_of (record { phase = c.phase; edition = c.edition; core = d })
+unfolding core_saved_in image_of
 over-core c d = refl
 
-pub over-bus : (c : Chip) (ph : Phase) → busSavedIn (image_of c) ph ≡ image_of (record { phase = ph; edition = c.edition; core = c.core })
-unfolding busSavedIn image_of
+pub over-bus : (c : Chip) (ph : Phase) → bus_saved_in (image_of c) ph ≡ image_of (record { phase = ph; edition = c.edition; core = c.core })
+unfolding bus_saved_in image_of
 over-bus c ph = refl
 
 long : (c : Chip) → length (image_of c) ≡ places.length
@@ -29,13 +29,13 @@ module _ (l : List ℕ) (told : Told l) where
   pub told-long : length l ≡ places.length
   told-long = sym (ap length told) ∙ long (state_of l)
 
-  pub core-saved : (d : Core) → coreSavedIn l d ≡ image_of (record { phase = (state_of l).phase; edition = (state_of l).edition; core = d })
-  core-saved d = ap (λ (m : List ℕ). coreSavedIn m d) (sym told) ∙ over-core (state_of l) d
+  pub core-saved : (d : Core) → core_saved_in l d ≡ image_of (record { phase = (state_of l).phase; edition = (state_of l).edition; core = d })
+  core-saved d = ap (λ (m : List ℕ). core_saved_in m d) (sym told) ∙ over-core (state_of l) d
 
-  pub bus-saved : (ph : Phase) → busSavedIn l ph ≡ image_of (record { phase = ph; edition = (state_of l).edition; core = (state_of l).core })
-  bus-saved ph = ap (λ (m : List ℕ). busSavedIn m ph) (sym told) ∙ over-bus (state_of l) ph
+  pub bus-saved : (ph : Phase) → bus_saved_in l ph ≡ image_of (record { phase = ph; edition = (state_of l).edition; core = (state_of l).core })
+  bus-saved ph = ap (λ (m : List ℕ). bus_saved_in m ph) (sym told) ∙ over-bus (state_of l) ph
 
-  pub both-saved : (d : Core) (ph : Phase) → busSavedIn (coreSavedIn l d) ph ≡ image_of (record { phase = ph; edition = (state_of l).edition; core = d })
+  pub both-saved : (d : Core) (ph : Phase) → bus_saved_in (core_saved_in l d) ph ≡ image_of (record { phase = ph; edition = (state_of l).edition; core = d })
   both-saved d ph =
-      ap (λ (m : List ℕ). busSavedIn m ph) (core-saved d)
+      ap (λ (m : List ℕ). bus_saved_in m ph) (core-saved d)
       ∙ over-bus (record { phase = (state_of l).phase; edition = (state_of l).edition; core = d }) ph

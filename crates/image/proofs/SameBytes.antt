@@ -21,9 +21,9 @@ use Rattle.channel.specs.declared.Side.TheVariants.{Input, Output}
 use Rattle.channel.specs.declared.Tally.{Tally}
 use Rattle.chip.specs.Handshakes.{strobed}
 use Rattle.image.specs.Places as places
-use Rattle.image.specs.Layout.{fillByte, enablesByte, portBytes, editionByte, image_of}
-use Rattle.image.specs.Loaded.{byte_at, fillAs, enablesAs, coreBy, channelTally, editionAs, state_of}
-use Rattle.image.specs.Good.{cycleFits, editionFits, enablesFit, fillFits, channelFits, fillsFit, coreFits, allZero, unusedZero, endFits, bytesFit, isImage, Told, Bytes}
+use Rattle.image.specs.Layout.{fill_byte, enables_byte, port_bytes, edition_byte, image_of}
+use Rattle.image.specs.Loaded.{byte_at, fill_as, enables_as, core_by, channel_tally, edition_as, state_of}
+use Rattle.image.specs.Good.{cycle_fits, edition_fits, enables_fit, fill_fits, channel_fits, fills_fit, core_fits, all_zero, unused_zero, end_fits, bytes_fit, is_image, Told, Bytes}
 use Rattle.image.proofs.Long.{is-long}
 use Rattle.image.proofs.Cycle.{same-bus}
 
@@ -62,7 +62,7 @@ module _ (f : ℕ → ℕ) (below : (i : ℕ) → f i < 256) where
   same-pairs i zero = refl
   same-pairs i (suc n) = λ j. low (f i) (f (suc i)) (below i) j ∷ high (f i) (f (suc i)) (below i) j ∷ same-pairs (suc (suc i)) n j
 
-same-fill : (on : Bool) (s : Side) (b : ℕ) → fillFits on s b ≡ true → fillByte (fillAs b) ≡ b
+same-fill : (on : Bool) (s : Side) (b : ℕ) → fill_fits on s b ≡ true → fill_byte (fill_as b) ≡ b
 same-fill on s zero fits = refl
 same-fill on s (suc zero) fits = refl
 same-fill on s (suc (suc zero)) fits = refl
@@ -71,7 +71,7 @@ same-fill true Output (suc (suc (suc b))) fits = absurd (omega (arith, ltb-true 
 same-fill false Input (suc (suc (suc b))) fits = absurd (omega (arith, ltb-true (suc (suc (suc b))) 1 fits))
 same-fill false Output (suc (suc (suc b))) fits = absurd (omega (arith, ltb-true (suc (suc (suc b))) 1 fits))
 
-same-edition : (b : ℕ) → editionFits b ≡ true → editionByte (editionAs b) ≡ b
+same-edition : (b : ℕ) → edition_fits b ≡ true → edition_byte (edition_as b) ≡ b
 same-edition zero fits = refl
 same-edition (suc zero) fits = refl
 same-edition (suc (suc b)) fits =
@@ -82,62 +82,62 @@ abbrev pub zeros : List ℕ → List ℕ
 zeros [] = []
 zeros (b ∷ bs) = 0 ∷ zeros bs
 
-pub same-zeros : (bs : List ℕ) → allZero bs ≡ true → zeros bs ≡ bs
+pub same-zeros : (bs : List ℕ) → all_zero bs ≡ true → zeros bs ≡ bs
 same-zeros [] all = refl
 same-zeros (b ∷ bs) all =
-    let is = both (eqb b 0) (allZero bs) all in
+    let is = both (eqb b 0) (all_zero bs) all in
     λ i. sym (eqb-true b 0 is.0) i ∷ same-zeros bs is.1 i
 
 -- What is asked of the bytes between the tallies and the bus, one by one.
 record Parts (byte : ℕ → ℕ) : Type 0 where
-  aInput : channelFits byte A Input 0 ≡ true
-  aOutput : channelFits byte A Output 1 ≡ true
-  bInput : channelFits byte B Input 2 ≡ true
-  bOutput : channelFits byte B Output 3 ≡ true
-  enables : enablesFit (byte places.enables) ≡ true
+  a_input : channel_fits byte A Input 0 ≡ true
+  a_output : channel_fits byte A Output 1 ≡ true
+  b_input : channel_fits byte B Input 2 ≡ true
+  b_output : channel_fits byte B Output 3 ≡ true
+  enables : enables_fit (byte places.enables) ≡ true
 
-parts : (byte : ℕ → ℕ) → coreFits byte ≡ true → Parts byte
+parts : (byte : ℕ → ℕ) → core_fits byte ≡ true → Parts byte
 parts byte fits =
     let set = bit_of (byte places.word) 7 in
-    let a = channelFits byte A Input 0 in
-    let b = channelFits byte A Output 1 in
-    let c = channelFits byte B Input 2 in
-    let d = channelFits byte B Output 3 in
-    let to-enables = both (set && fillsFit byte) (enablesFit (byte places.enables)) fits in
-    let three = both (a && b && c) d (both set (fillsFit byte) to-enables.0).1 in
+    let a = channel_fits byte A Input 0 in
+    let b = channel_fits byte A Output 1 in
+    let c = channel_fits byte B Input 2 in
+    let d = channel_fits byte B Output 3 in
+    let to-enables = both (set && fills_fit byte) (enables_fit (byte places.enables)) fits in
+    let three = both (a && b && c) d (both set (fills_fit byte) to-enables.0).1 in
     let two = both (a && b) c three.0 in
     let one = both a b two.0 in
-    record { aInput = one.0; aOutput = one.1; bInput = two.1; bOutput = three.1; enables = to-enables.1 }
+    record { a_input = one.0; a_output = one.1; b_input = two.1; b_output = three.1; enables = to-enables.1 }
 
 -- Those fourteen bytes, by the byte at each place, whatever the tallies are.
-pub same-core : (byte : ℕ → ℕ) (tally : ℕ → Tally) → coreFits byte ≡ true
-    → portBytes (coreBy byte tally) ++ (byte places.word ∷ enablesByte (enablesAs (byte places.enables)) ∷ [])
-    ≡ from byte places.levelsA (places.bus - places.levelsA)
+pub same-core : (byte : ℕ → ℕ) (tally : ℕ → Tally) → core_fits byte ≡ true
+    → port_bytes (core_by byte tally) ++ (byte places.word ∷ enables_byte (enables_as (byte places.enables)) ∷ [])
+    ≡ from byte places.levels_a (places.bus - places.levels_a)
 same-core byte tally fits =
     let p = parts byte fits in
     let strobes = strobed (byte places.word) in
     let condition : ℕ → ℕ = λ k. byte (places.conditions + k) in
     λ i.
-    from byte places.levelsA (places.conditions - places.levelsA)
-    ++ (same-fill (strobes A Input) Input (condition 0) p.aInput i
-    ∷ same-fill (strobes A Output) Output (condition 1) p.aOutput i
-    ∷ same-fill (strobes B Input) Input (condition 2) p.bInput i
-    ∷ same-fill (strobes B Output) Output (condition 3) p.bOutput i
+    from byte places.levels_a (places.conditions - places.levels_a)
+    ++ (same-fill (strobes A Input) Input (condition 0) p.a_input i
+    ∷ same-fill (strobes A Output) Output (condition 1) p.a_output i
+    ∷ same-fill (strobes B Input) Input (condition 2) p.b_input i
+    ∷ same-fill (strobes B Output) Output (condition 3) p.b_output i
     ∷ byte places.word
-    ∷ eqb-true (enablesByte (enablesAs (byte places.enables))) (byte places.enables) p.enables i ∷ [])
+    ∷ eqb-true (enables_byte (enables_as (byte places.enables))) (byte places.enables) p.enables i ∷ [])
 
-pub same_bytes : (l : List ℕ) → Bytes l → isImage l ≡ true → Told l
-unfolding image_of state_of isImage
-same_bytes l bytes good =
-    let fits = both (endFits l) (coreFits (byte_at l)) (both (eqb (length l) places.length) (bytesFit l) good).1 in
+pub same-bytes : (l : List ℕ) → Bytes l → is_image l ≡ true → Told l
+unfolding image_of state_of is_image
+same-bytes l bytes good =
+    let fits = both (end_fits l) (core_fits (byte_at l)) (both (eqb (length l) places.length) (bytes_fit l) good).1 in
     let edition = byte_at l places.edition in
-    let cycle = cycleFits edition (byte_at l places.bus) (byte_at l places.written) in
-    let end = both cycle (editionFits edition && unusedZero l) fits.0 in
-    let behind = both (editionFits edition) (unusedZero l) end.1 in
+    let cycle = cycle_fits edition (byte_at l places.bus) (byte_at l places.written) in
+    let end = both cycle (edition_fits edition && unused_zero l) fits.0 in
+    let behind = both (edition_fits edition) (unused_zero l) end.1 in
     let bus = same-bus edition (byte_at l places.bus) (byte_at l places.written) end.0 in
     (λ i.
     same-pairs (byte_at l) (small l bytes) places.tallies 28 i
-    ++ same-core (byte_at l) (channelTally l) fits.1 i
+    ++ same-core (byte_at l) (channel_tally l) fits.1 i
     ++ (bus.0 i ∷ bus.1 i ∷ same-edition edition behind.0 i ∷ [])
     ++ same-zeros (from (byte_at l) places.unused (places.length - places.unused)) behind.1 i)
     ∙ spelled l places.length (is-long l good)
@@ -147,5 +147,5 @@ pub bytes-by : (l : List ℕ) → ((i : ℕ) → Fits w8 (byte_at l i)) → Byte
 bytes-by [] each = tt
 bytes-by (b ∷ bs) each = ((each 0).fits, bytes-by bs (λ i. each (suc i)))
 
-pub slice-told : (l : List ℕ) → ((i : ℕ) → Fits w8 (byte_at l i)) → isImage l ≡ true → Told l
-slice-told l each good = same_bytes l (bytes-by l each) good
+pub slice-told : (l : List ℕ) → ((i : ℕ) → Fits w8 (byte_at l i)) → is_image l ≡ true → Told l
+slice-told l each good = same-bytes l (bytes-by l each) good

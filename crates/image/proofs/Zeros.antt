@@ -8,8 +8,8 @@ use native.Mathlib.Omega.{arith}
 use lib.Dec.{eqb, ltb}
 use borrow.Author.Tests.{ltb-true, ltb-false, lt-ltb, le-ltb, eq-eqb, ne_eqb}
 use Rattle.image.specs.Places as places
-use Rattle.image.specs.Loaded.{byte_at, wideAt, eightAt}
-use Rattle.image.specs.Good.{cycleFits, editionFits, allZero, unusedZero, endFits}
+use Rattle.image.specs.Loaded.{byte_at, wide_at, eight_at}
+use Rattle.image.specs.Good.{cycle_fits, edition_fits, all_zero, unused_zero, end_fits}
 
 -- Bytes as one number, the lowest first.
 abbrev value : List ℕ → ℕ
@@ -27,12 +27,12 @@ both_zero (suc b) v =
     ne_eqb (suc b + 256 * v) 0 (λ e. absurd (omega (arith, e)))
     ∙ sym (ap (λ (z : Bool). z && eqb v 0) (ne_eqb (suc b) 0 (λ e. absurd (omega (arith, e)))))
 
-value-zero : (bs : List ℕ) → eqb (value bs) 0 ≡ allZero bs
+value-zero : (bs : List ℕ) → eqb (value bs) 0 ≡ all_zero bs
 value-zero [] = refl
 value-zero (b ∷ bs) = both_zero b (value bs) ∙ ap (λ (z : Bool). eqb b 0 && z) (value-zero bs)
 
 -- A number is below 2 where its lowest byte is an edition, and what stands above is 0.
-below_two : (b v : ℕ) → ltb (b + 256 * v) 2 ≡ (editionFits b && eqb v 0)
+below_two : (b v : ℕ) → ltb (b + 256 * v) 2 ≡ (edition_fits b && eqb v 0)
 below_two b zero = go (ltb places.newer b) refl
   where
     go : (above : Bool) → ltb places.newer b ≡ above → ltb (b + 256 * 0) 2 ≡ (not above && true)
@@ -40,90 +40,90 @@ below_two b zero = go (ltb places.newer b) refl
     go false is = lt-ltb (b + 256 * 0) 2 (omega (arith, ltb-false places.newer b is))
 below_two b (suc v) =
     le-ltb (b + 256 * suc v) 2 (omega arith)
-    ∙ sym (ap (λ (z : Bool). editionFits b && z) (ne_eqb (suc v) 0 (λ e. absurd (omega (arith, e)))) ∙ and-false (editionFits b))
+    ∙ sym (ap (λ (z : Bool). edition_fits b && z) (ne_eqb (suc v) 0 (λ e. absurd (omega (arith, e)))) ∙ and-false (edition_fits b))
 
 -- Seven bytes behind a place, and with that place eight, two and two.
-abbrev behindIt : List ℕ → ℕ → List ℕ
-behindIt l i =
+abbrev behind_it : List ℕ → ℕ → List ℕ
+behind_it l i =
     byte_at l (i + 1) ∷ byte_at l (i + 2) ∷ byte_at l (i + 2 + 1)
     ∷ byte_at l (i + 4) ∷ byte_at l (i + 4 + 1) ∷ byte_at l (i + 6) ∷ byte_at l (i + 6 + 1) ∷ []
 
-abbrev byEight : List ℕ → ℕ → List ℕ
-byEight l i = byte_at l i ∷ behindIt l i
+abbrev by_eight : List ℕ → ℕ → List ℕ
+by_eight l i = byte_at l i ∷ behind_it l i
 
-as_one : (l : List ℕ) (i : ℕ) → eightAt l i ≡ value (byEight l i)
+as_one : (l : List ℕ) (i : ℕ) → eight_at l i ≡ value (by_eight l i)
 as_one l i = omega arith
 
 below_one : (n : ℕ) → ltb n 1 ≡ eqb n 0
 below_one zero = refl
 below_one (suc n) = le-ltb (suc n) 1 (omega arith) ∙ sym (ne_eqb (suc n) 0 (λ e. absurd (omega (arith, e))))
 
-eight-zero : (l : List ℕ) (i : ℕ) → ltb (eightAt l i) 1 ≡ allZero (byEight l i)
-eight-zero l i = below_one (eightAt l i) ∙ ap (λ (n : ℕ). eqb n 0) (as_one l i) ∙ value-zero (byEight l i)
+eight-zero : (l : List ℕ) (i : ℕ) → ltb (eight_at l i) 1 ≡ all_zero (by_eight l i)
+eight-zero l i = below_one (eight_at l i) ∙ ap (λ (n : ℕ). eqb n 0) (as_one l i) ∙ value-zero (by_eight l i)
 
-edition-first : (l : List ℕ) (i : ℕ) → ltb (eightAt l i) 2 ≡ (editionFits (byte_at l i) && allZero (behindIt l i))
+edition-first : (l : List ℕ) (i : ℕ) → ltb (eight_at l i) 2 ≡ (edition_fits (byte_at l i) && all_zero (behind_it l i))
 edition-first l i =
     ap (λ (n : ℕ). ltb n 2) (as_one l i)
-    ∙ below_two (byte_at l i) (value (behindIt l i))
-    ∙ ap (λ (z : Bool). editionFits (byte_at l i) && z) (value-zero (behindIt l i))
+    ∙ below_two (byte_at l i) (value (behind_it l i))
+    ∙ ap (λ (z : Bool). edition_fits (byte_at l i) && z) (value-zero (behind_it l i))
 
 pub and_assoc : (a b c : Bool) → (a && b && c) ≡ (a && (b && c))
 and_assoc true b c = refl
 and_assoc false b c = refl
 
 -- What follows 0s is 0 where all is.
-in_two : (xs ys : List ℕ) → (allZero xs && allZero ys) ≡ allZero (xs ++ ys)
+in_two : (xs ys : List ℕ) → (all_zero xs && all_zero ys) ≡ all_zero (xs ++ ys)
 in_two [] ys = refl
-in_two (x ∷ xs) ys = and_assoc (eqb x 0) (allZero xs) (allZero ys) ∙ ap (λ (z : Bool). eqb x 0 && z) (in_two xs ys)
+in_two (x ∷ xs) ys = and_assoc (eqb x 0) (all_zero xs) (all_zero ys) ∙ ap (λ (z : Bool). eqb x 0 && z) (in_two xs ys)
 
 module _ (l : List ℕ) where
   -- The bytes behind the bus, eight and eight and eight: the first with the edition, and the others each compared with the same number.
-  abbrev pub threeEights : ℕ → Bool
-  threeEights n =
-      ltb (eightAt l places.edition) 2 && ltb (eightAt l (places.edition + 8)) n && ltb (eightAt l (places.edition + 16)) n
+  abbrev pub three_eights : ℕ → Bool
+  three_eights n =
+      ltb (eight_at l places.edition) 2 && ltb (eight_at l (places.edition + 8)) n && ltb (eight_at l (places.edition + 16)) n
 
-  abbrev behindFits : Bool
-  behindFits = editionFits (byte_at l places.edition) && unusedZero l
+  abbrev behind_fits : Bool
+  behind_fits = edition_fits (byte_at l places.edition) && unused_zero l
 
-  all_fit : threeEights 1 ≡ behindFits
+  all_fit : three_eights 1 ≡ behind_fits
   all_fit =
-      let first = behindIt l places.edition in
-      let second = byEight l (places.edition + 8) in
-      let third = byEight l (places.edition + 16) in
-      let fits = editionFits (byte_at l places.edition) in
+      let first = behind_it l places.edition in
+      let second = by_eight l (places.edition + 8) in
+      let third = by_eight l (places.edition + 16) in
+      let fits = edition_fits (byte_at l places.edition) in
       (λ i. edition-first l places.edition i && eight-zero l (places.edition + 8) i && eight-zero l (places.edition + 16) i)
-      ∙ ap (λ (z : Bool). z && allZero third) (and_assoc fits (allZero first) (allZero second))
-      ∙ and_assoc fits (allZero first && allZero second) (allZero third)
-      ∙ ap (λ (z : Bool). fits && (z && allZero third)) (in_two first second)
+      ∙ ap (λ (z : Bool). z && all_zero third) (and_assoc fits (all_zero first) (all_zero second))
+      ∙ and_assoc fits (all_zero first && all_zero second) (all_zero third)
+      ∙ ap (λ (z : Bool). fits && (z && all_zero third)) (in_two first second)
       ∙ ap (λ (z : Bool). fits && z) (in_two (first ++ second) third)
 
   -- Nothing is below 0.
-  none-fit : threeEights 0 ≡ false
+  none-fit : three_eights 0 ≡ false
   none-fit =
-      rw (le-ltb (eightAt l (places.edition + 16)) 0 (omega arith))
-      (and-false (ltb (eightAt l places.edition) 2 && ltb (eightAt l (places.edition + 8)) 0))
+      rw (le-ltb (eight_at l (places.edition + 16)) 0 (omega arith))
+      (and-false (ltb (eight_at l places.edition) 2 && ltb (eight_at l (places.edition + 8)) 0))
 
-  by-bus : (fits : Bool) → threeEights (cond fits 1 0) ≡ (fits && behindFits)
+  by-bus : (fits : Bool) → three_eights (cond fits 1 0) ≡ (fits && behind_fits)
   by-bus true = all_fit
   by-bus false = none-fit
 
   abbrev cycle : ℕ → Bool
-  cycle edition = cycleFits edition (byte_at l places.bus) (byte_at l places.written)
+  cycle edition = cycle_fits edition (byte_at l places.bus) (byte_at l places.written)
 
   -- Where the first eight do not fit, nothing else matters; where they do, the edition is what the first two are.
-  by-edition : (below : Bool) → ltb (eightAt l places.edition) 2 ≡ below
-      → threeEights (cond (cycle (wideAt l places.edition)) 1 0) ≡ threeEights (cond (cycle (byte_at l places.edition)) 1 0)
+  by-edition : (below : Bool) → ltb (eight_at l places.edition) 2 ≡ below
+      → three_eights (cond (cycle (wide_at l places.edition)) 1 0) ≡ three_eights (cond (cycle (byte_at l places.edition)) 1 0)
   by-edition true is =
-      let first : wideAt l places.edition ≡ byte_at l places.edition = omega (arith, ltb-true (eightAt l places.edition) 2 is) in
-      ap (λ (e : ℕ). threeEights (cond (cycle e) 1 0)) first
+      let first : wide_at l places.edition ≡ byte_at l places.edition = omega (arith, ltb-true (eight_at l places.edition) 2 is) in
+      ap (λ (e : ℕ). three_eights (cond (cycle e) 1 0)) first
   by-edition false is = rw (is)
 
   -- The number is 1 where the bus fits, by its two bytes as one number, and otherwise 0.
-  pub end_fits : byte_at l places.bus < 256
-      → threeEights (cond (cycleFits (wideAt l places.edition) (wideAt l places.bus % 256) (wideAt l places.bus / 256)) 1 0) ≡ endFits l
-  end_fits small =
-      let bus : wideAt l places.bus % 256 ≡ byte_at l places.bus = omega (arith, small) in
-      let written : wideAt l places.bus / 256 ≡ byte_at l places.written = omega (arith, small) in
-      (λ i. threeEights (cond (cycleFits (wideAt l places.edition) (bus i) (written i)) 1 0))
-      ∙ by-edition (ltb (eightAt l places.edition) 2) refl
+  pub end-fits : byte_at l places.bus < 256
+      → three_eights (cond (cycle_fits (wide_at l places.edition) (wide_at l places.bus % 256) (wide_at l places.bus / 256)) 1 0) ≡ end_fits l
+  end-fits small =
+      let bus : wide_at l places.bus % 256 ≡ byte_at l places.bus = omega (arith, small) in
+      let written : wide_at l places.bus / 256 ≡ byte_at l places.written = omega (arith, small) in
+      (λ i. three_eights (cond (cycle_fits (wide_at l places.edition) (bus i) (written i)) 1 0))
+      ∙ by-edition (ltb (eight_at l places.edition) 2) refl
       ∙ by-bus (cycle (byte_at l places.edition))

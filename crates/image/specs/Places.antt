@@ -5,21 +5,21 @@ use Rattle.std.specs.Prelude.{ℕ}
 abbrev pub tallies : ℕ
 tallies = 0
 
-abbrev pub channelTallies : ℕ
-channelTallies = 14
+abbrev pub channel_tallies : ℕ
+channel_tallies = 14
 
 -- The levels outside of the three ports, and the latch of port C.
-abbrev pub levelsA : ℕ
-levelsA = 56
+abbrev pub levels_a : ℕ
+levels_a = 56
 
-abbrev pub levelsB : ℕ
-levelsB = 57
+abbrev pub levels_b : ℕ
+levels_b = 57
 
-abbrev pub levelsC : ℕ
-levelsC = 58
+abbrev pub levels_c : ℕ
+levels_c = 58
 
-abbrev pub latchC : ℕ
-latchC = 59
+abbrev pub latch_c : ℕ
+latch_c = 59
 
 -- The latches of the four channels, and their conditions.
 abbrev pub latches : ℕ

@@ -2,8 +2,8 @@
 ghost use Rattle.std.specs.Prelude.{◌≡◌, ◌+◌, ◌/◌, ◌%◌, ◌<◌, length};
 ghost use Rattle.channel.specs.declared.Side.TheVariants.{Input, Output};
 ghost use Rattle.image.specs.Places as places;
-ghost use Rattle.image.specs.Loaded.{byte_at, eightAt};
-ghost use Rattle.image.specs.Good.{cycleFits, enablesFit, fillFits, fillsFit, coreFits, endFits, bytesFit, isImage};
+ghost use Rattle.image.specs.Loaded.{byte_at, eight_at};
+ghost use Rattle.image.specs.Good.{cycle_fits, enables_fit, fill_fits, fills_fit, core_fits, end_fits, bytes_fit, is_image};
 
 use super::places::{BUS, CONDITIONS, EDITION, ENABLES, IDLE, LENGTH, OLDER, WORD, WRITES};
 use super::{load, save};
@@ -18,7 +18,7 @@ const OLDER_READS_CONTROL: u32 = chip::CONTROL as u32 + 0x1_0000 * (OLDER as u32
 // The two bytes of the bus are taken as one number, and all four as another, which takes fewer instructions: where nothing is written, the
 // first is the lower byte.
 fn cycle(bus: u16, behind: u16) -> bool
-    ensures { result ≡ cycleFits behind (bus % 256) (bus / 256) }
+    ensures { result ≡ cycle_fits behind (bus % 256) (bus / 256) }
 {
     let lower = bus % 256;
     let writes = !(lower < WRITES as u16) & (lower < IDLE as u16);
@@ -27,26 +27,26 @@ fn cycle(bus: u16, behind: u16) -> bool
 }
 
 fn enables(byte: u8) -> bool
-    ensures { result ≡ enablesFit byte }
+    ensures { result ≡ enables_fit byte }
 {
     save::enables(load::enables(byte)) == byte
 }
 
 fn input(strobed: bool, fill: u8) -> bool
-    ensures { result ≡ fillFits strobed Input fill }
+    ensures { result ≡ fill_fits strobed Input fill }
 {
     !(bits::choose(strobed, 2, 0) < fill)
 }
 
 fn output(strobed: bool, fill: u8) -> bool
-    ensures { result ≡ fillFits strobed Output fill }
+    ensures { result ≡ fill_fits strobed Output fill }
 {
     !(bits::choose(strobed, 1, 0) < fill)
 }
 
 fn eight(image: &[u8], at: usize) -> u64
     requires { at + 7 < length image.now }
-    ensures { result ≡ eightAt image.now at }
+    ensures { result ≡ eight_at image.now at }
 {
     (load::wide(image, at) as u64)
         + 0x1_0000 * (load::wide(image, at + 2) as u64)
@@ -60,7 +60,7 @@ fn eight(image: &[u8], at: usize) -> u64
 // they are compared with 0 it compares one by one.
 fn end(image: &[u8]) -> bool
     requires { length image.now ≡ places.length }
-    ensures { result ≡ endFits image.now }
+    ensures { result ≡ end_fits image.now }
 {
     let fits = cycle(load::wide(image, BUS), load::wide(image, EDITION));
     let above = bits::choose(fits, 1, 0) as u64;
@@ -71,7 +71,7 @@ fn end(image: &[u8]) -> bool
 
 fn fills(image: &[u8]) -> bool
     requires { length image.now ≡ places.length }
-    ensures { result ≡ fillsFit (byte_at image.now) }
+    ensures { result ≡ fills_fit (byte_at image.now) }
 {
     let word = image[WORD];
     input(
@@ -91,7 +91,7 @@ fn fills(image: &[u8]) -> bool
 
 fn core(image: &[u8]) -> bool
     requires { length image.now ≡ places.length }
-    ensures { result ≡ coreFits (byte_at image.now) }
+    ensures { result ≡ core_fits (byte_at image.now) }
 {
     bits::bit(image[WORD], 7) & fills(image) & enables(image[ENABLES])
 }
@@ -99,7 +99,7 @@ fn core(image: &[u8]) -> bool
 // The end is asked first, and alone: so the compiler has fewer answers to keep at a time.
 fn fits(image: &[u8]) -> bool
     requires { length image.now ≡ places.length }
-    ensures { result ≡ bytesFit image.now }
+    ensures { result ≡ bytes_fit image.now }
 {
     if !end(image) {
         return false;
@@ -109,7 +109,7 @@ fn fits(image: &[u8]) -> bool
 
 // Whether the bytes are the image of a state. Those of another length are none.
 pub fn good(image: &[u8]) -> bool
-    ensures { result ≡ isImage image.now }
+    ensures { result ≡ is_image image.now }
 {
     if image.len() != LENGTH {
         return false;

@@ -1,8 +1,8 @@
 // The state that an image tells. The length is asked for once, before any byte is read, and not at each byte.
 ghost use Rattle.std.specs.Prelude.{◌≡◌, ◌+◌, ◌*◌, ◌<◌, length};
 ghost use Rattle.image.specs.Places as places;
-ghost use Rattle.image.specs.Loaded.{wideAt, tallyAt, fillAs, channelAt, enablesAs, phaseAs, editionAs, state_of};
-ghost use Rattle.image.specs.Slices.{loadedFrom};
+ghost use Rattle.image.specs.Loaded.{wide_at, tally_at, fill_as, channel_at, enables_as, phase_as, edition_as, state_of};
+ghost use Rattle.image.specs.Slices.{loaded_from};
 
 use super::places::{
     BUS, CHANNEL_TALLIES, CONDITIONS, EDITION, ENABLES, IDLE, LATCH_C, LATCHES, LENGTH, LEVELS_A,
@@ -16,14 +16,14 @@ use chip::{Chip, Core, Edition, Enables, Port, PortC};
 // The number of the two bytes from a place on.
 pub(super) fn wide(image: &[u8], at: usize) -> u16
     requires { at + 1 < length image.now }
-    ensures { result ≡ wideAt image.now at }
+    ensures { result ≡ wide_at image.now at }
 {
     bits::pair(image[at], image[at + 1])
 }
 
 fn tally(image: &[u8], at: usize) -> Tally
     requires { at + 13 < length image.now }
-    ensures { result ≡ tallyAt image.now at }
+    ensures { result ≡ tally_at image.now at }
 {
     Tally {
         offered: wide(image, at),
@@ -38,7 +38,7 @@ fn tally(image: &[u8], at: usize) -> Tally
 
 // The number is compared first with 2: what the compiler makes of that gives a condition back as it came in fewer steps.
 fn fill(byte: u8) -> Fill
-    ensures { result ≡ fillAs byte }
+    ensures { result ≡ fill_as byte }
 {
     if byte < 2 {
         if byte == 1 {
@@ -54,7 +54,7 @@ fn fill(byte: u8) -> Fill
 fn channel(image: &[u8], k: usize) -> Channel
     requires image_len { length image.now ≡ places.length }
     requires k_bound { k < 4 }
-    ensures { result ≡ channelAt image.now k }
+    ensures { result ≡ channel_at image.now k }
 {
     Channel {
         fill: fill(image[CONDITIONS + k]),
@@ -66,7 +66,7 @@ fn channel(image: &[u8], k: usize) -> Channel
 fn port(image: &[u8], k: usize, outside: u8) -> Port
     requires image_len { length image.now ≡ places.length }
     requires k_bound { k < 3 }
-    ensures { result ≡ record { input = channelAt image.now k; output = channelAt image.now (k + 1); outside = outside } }
+    ensures { result ≡ record { input = channel_at image.now k; output = channel_at image.now (k + 1); outside = outside } }
 {
     Port {
         input: channel(image, k),
@@ -77,7 +77,7 @@ fn port(image: &[u8], k: usize, outside: u8) -> Port
 
 // The enables that a byte tells, each on the pin of its handshake's line.
 pub(super) fn enables(byte: u8) -> Enables
-    ensures { result ≡ enablesAs byte }
+    ensures { result ≡ enables_as byte }
 {
     Enables {
         input: bits::bit(byte, STB_A),
@@ -87,7 +87,7 @@ pub(super) fn enables(byte: u8) -> Enables
 }
 
 fn phase(bus: u8, written: u8) -> Phase
-    ensures { result ≡ phaseAs bus written }
+    ensures { result ≡ phase_as bus written }
 {
     if bus < WRITES {
         Phase::Reading(bus % WRITES)
@@ -100,7 +100,7 @@ fn phase(bus: u8, written: u8) -> Phase
 
 // The edition that a byte tells.
 pub fn edition(byte: u8) -> Edition
-    ensures { result ≡ editionAs byte }
+    ensures { result ≡ edition_as byte }
 {
     if byte == OLDER {
         Edition::Older
@@ -132,7 +132,7 @@ fn whole(image: &[u8]) -> Chip
 
 // What runs on the bus, by itself: nothing, where it is told by no image.
 pub fn bus(image: &[u8]) -> Phase
-    ensures { result ≡ (loadedFrom image.now).phase }
+    ensures { result ≡ (loaded_from image.now).phase }
 {
     if image.len() != LENGTH {
         return Phase::Idle;
@@ -142,7 +142,7 @@ pub fn bus(image: &[u8]) -> Phase
 
 // The whole state. Bytes of another length than an image's tell none: for them it is the chip at power-up.
 pub fn state(image: &[u8]) -> Chip
-    ensures { result ≡ loadedFrom image.now }
+    ensures { result ≡ loaded_from image.now }
 {
     if image.len() == LENGTH {
         whole(image)

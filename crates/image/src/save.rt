@@ -2,8 +2,8 @@
 ghost use Rattle.std.specs.Prelude.{◌≡◌, [], ◌∷◌, ◌+◌, ◌<◌, length, replicate};
 ghost use Rattle.std.proofs.lemmas.List.Edits.{sets};
 ghost use Rattle.image.specs.Places as places;
-ghost use Rattle.image.specs.Layout.{wideBytes, tallyBytes, ofChannels, fillByte, enablesByte, busByte, writtenByte, portBytes, coreBytes, busBytes, editionByte, image_of};
-ghost use Rattle.image.specs.Slices.{savedIn, coreSavedIn, busSavedIn};
+ghost use Rattle.image.specs.Layout.{wide_bytes, tally_bytes, of_channels, fill_byte, enables_byte, bus_byte, written_byte, port_bytes, core_bytes, bus_bytes, edition_byte, image_of};
+ghost use Rattle.image.specs.Slices.{saved_in, core_saved_in, bus_saved_in};
 
 use super::places::{
     BUS, CHANNEL_TALLIES, CONDITIONS, EDITION, IDLE, LATCHES, LENGTH, LEVELS_A, NEWER, NOWHERE,
@@ -23,14 +23,14 @@ fn put_two(image: &mut [u8], at: usize, x: u8, y: u8)
 
 fn put_wide(image: &mut [u8], at: usize, value: u16)
     requires { at + 1 < length image.old }
-    ensures { image.new ≡ sets image.old at (wideBytes value) }
+    ensures { image.new ≡ sets image.old at (wide_bytes value) }
 {
     put_two(image, at, (value % 256) as u8, (value / 256) as u8);
 }
 
 fn put_tally(image: &mut [u8], at: usize, tally: Tally)
     requires { at + 13 < length image.old }
-    ensures { image.new ≡ sets image.old at (tallyBytes tally) }
+    ensures { image.new ≡ sets image.old at (tally_bytes tally) }
 {
     put_wide(image, at, tally.offered);
     put_wide(image, at + 2, tally.handed);
@@ -43,7 +43,7 @@ fn put_tally(image: &mut [u8], at: usize, tally: Tally)
 
 fn put_tallies(image: &mut [u8], core: Core)
     requires { length image.old ≡ places.length }
-    ensures { image.new ≡ sets image.old places.tallies (ofChannels tallyBytes core) }
+    ensures { image.new ≡ sets image.old places.tallies (of_channels tally_bytes core) }
 {
     put_tally(image, TALLIES, core.a.input.tally);
     put_tally(image, TALLIES + CHANNEL_TALLIES, core.a.output.tally);
@@ -68,7 +68,7 @@ fn put_zeros(image: &mut [u8], at: usize)
 }
 
 fn fill(channel: Channel) -> u8
-    ensures { result ≡ fillByte channel.fill }
+    ensures { result ≡ fill_byte channel.fill }
 {
     let fill = channel.fill;
     match fill {
@@ -79,7 +79,7 @@ fn fill(channel: Channel) -> u8
 }
 
 pub(super) fn enables(inte: Enables) -> u8
-    ensures { result ≡ enablesByte inte }
+    ensures { result ≡ enables_byte inte }
 {
     bits::byte(
         false,
@@ -94,7 +94,7 @@ pub(super) fn enables(inte: Enables) -> u8
 }
 
 fn bus_byte(phase: Phase) -> u8
-    ensures { result ≡ busByte phase }
+    ensures { result ≡ bus_byte phase }
 {
     match phase {
         Phase::Idle => IDLE,
@@ -110,7 +110,7 @@ fn bus_byte(phase: Phase) -> u8
 }
 
 fn written(phase: Phase) -> u8
-    ensures { result ≡ writtenByte phase }
+    ensures { result ≡ written_byte phase }
 {
     match phase {
         Phase::Idle => 0,
@@ -120,7 +120,7 @@ fn written(phase: Phase) -> u8
 }
 
 fn edition_byte(edition: Edition) -> u8
-    ensures { result ≡ editionByte edition }
+    ensures { result ≡ edition_byte edition }
 {
     match edition {
         Edition::Older => OLDER,
@@ -130,7 +130,7 @@ fn edition_byte(edition: Edition) -> u8
 
 fn put_ports(image: &mut [u8], core: Core)
     requires { length image.old ≡ places.length }
-    ensures { image.new ≡ sets image.old places.levelsA (portBytes core) }
+    ensures { image.new ≡ sets image.old places.levels_a (port_bytes core) }
 {
     put_four(
         image,
@@ -160,7 +160,7 @@ fn put_ports(image: &mut [u8], core: Core)
 
 fn put_core(image: &mut [u8], core: Core)
     requires { length image.old ≡ places.length }
-    ensures { image.new ≡ sets image.old places.tallies (coreBytes core) }
+    ensures { image.new ≡ sets image.old places.tallies (core_bytes core) }
 {
     put_tallies(image, core);
     put_ports(image, core);
@@ -169,7 +169,7 @@ fn put_core(image: &mut [u8], core: Core)
 
 fn put_bus(image: &mut [u8], phase: Phase)
     requires { length image.old ≡ places.length }
-    ensures { image.new ≡ sets image.old places.bus (busBytes phase) }
+    ensures { image.new ≡ sets image.old places.bus (bus_bytes phase) }
 {
     put_two(image, BUS, bus_byte(phase), written(phase));
 }
@@ -190,7 +190,7 @@ fn whole(image: &mut [u8], chip: Chip)
 
 // The state's image, written over the bytes. Those of another length are left alone.
 pub fn state(image: &mut [u8], chip: Chip)
-    ensures { image.new ≡ savedIn image.old chip }
+    ensures { image.new ≡ saved_in image.old chip }
 {
     if image.len() == LENGTH {
         whole(image, chip);
@@ -199,7 +199,7 @@ pub fn state(image: &mut [u8], chip: Chip)
 
 // All but the bus and the edition, for who has an image and leaves these alone.
 pub fn core(image: &mut [u8], core: Core)
-    ensures { image.new ≡ coreSavedIn image.old core }
+    ensures { image.new ≡ core_saved_in image.old core }
 {
     if image.len() == LENGTH {
         put_core(image, core);
@@ -208,7 +208,7 @@ pub fn core(image: &mut [u8], core: Core)
 
 // The bus, for who leaves all else alone.
 pub fn bus(image: &mut [u8], phase: Phase)
-    ensures { image.new ≡ busSavedIn image.old phase }
+    ensures { image.new ≡ bus_saved_in image.old phase }
 {
     if image.len() == LENGTH {
         put_bus(image, phase);

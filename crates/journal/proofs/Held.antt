@@ -11,21 +11,21 @@ use Rattle.step.specs.Step.{stepped}
 use Rattle.image.specs.Places as places
 use Rattle.image.specs.Layout.{image_of}
 use Rattle.image.specs.Loaded.{state_of}
-use Rattle.image.specs.Good.{hasImage}
+use Rattle.image.specs.Good.{has_image}
 use Rattle.image.proofs.Long.{is-long}
 use Rattle.image.proofs.ComesBack.{comes_back}
 use Rattle.image.proofs.OneImage.{has-image}
-use Rattle.calls.specs.Calls.{stepImage}
+use Rattle.calls.specs.Calls.{step_image}
 use Rattle.calls.proofs.HostStep.{by_number}
 
-module _ (c : Chip) (has : hasImage c ≡ true) where
+module _ (c : Chip) (has : has_image c ≡ true) where
   pub image-long : length (image_of c) ≡ places.length
   image-long = is-long (image_of c) (has-image c has)
 
   -- What the step of an image leaves is the image of the chip after the event.
-  pub passed : (e : Event) → stepImage (image_of c) e.kind e.first e.second ≡ image_of (stepped c e).chip
+  pub passed : (e : Event) → step_image (image_of c) e.kind e.first e.second ≡ image_of (stepped c e).chip
   passed e =
-      subst (λ (d : Chip). stepImage (image_of c) e.kind e.first e.second ≡ image_of (stepped d e).chip) (comes_back c has)
+      subst (λ (d : Chip). step_image (image_of c) e.kind e.first e.second ≡ image_of (stepped d e).chip) (comes_back c has)
       (by_number (image_of c) e.kind e.first e.second (λ l d. l ≡ image_of d) (has-image c has) refl (ap image_of (sym (comes_back c has))))
 
   -- Bytes that are the chip's image tell the chip.

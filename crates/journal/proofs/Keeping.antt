@@ -8,16 +8,16 @@ use Prim.Native.Nat.{ℕ, suc, ◌+◌, ◌-◌, ◌<◌, ◌≤◌}
 use native.Mathlib.Omega.{arith}
 use lib.ListN.{length, drop, set, get_or, replicate, length-append, length-drop, length-replicate, replicate-append-replicate, drop_of_length-le}
 use lib.Seq.{set_at, get_or_at}
-use Rattle.bits.specs.Same.{sameBytes}
+use Rattle.bits.specs.Same.{same_bytes}
 use Rattle.bits.proofs.Logic.{both}
 use Rattle.chip.specs.declared.Chip.{Chip}
 use Rattle.image.specs.Places as places
 use Rattle.image.specs.Layout.{image_of}
-use Rattle.image.specs.Good.{hasImage}
-use Rattle.calls.specs.Calls.{stepImage}
+use Rattle.image.specs.Good.{has_image}
+use Rattle.calls.specs.Calls.{step_image}
 use Rattle.restored.proofs.Stays.{image-stays}
-use Rattle.journal.specs.Words.{eventIn, isFrame, allFrames}
-use Rattle.journal.specs.Trim.{sameState, afterWord, keptFrom, filledUp}
+use Rattle.journal.specs.Words.{event_in, is_frame, all_frames}
+use Rattle.journal.specs.Trim.{same_state, after_word, kept_from, filled_up}
 use Rattle.journal.proofs.Ahead.{ahead}
 use Rattle.journal.proofs.Held.{image-long, passed}
 
@@ -30,12 +30,12 @@ pub record Keeping (c₀ : Chip) (ws₀ ws image : List ℕ) (at kept : ℕ) : T
   pub behind : kept ≤ at
   pub inside : at ≤ length ws₀
   pub words : ws ≡ (done ++ replicate (at - kept) 0) ++ drop at ws₀
-  pub all : done ++ keptFrom chip (drop at ws₀) ≡ keptFrom c₀ ws₀
+  pub all : done ++ kept_from chip (drop at ws₀) ≡ kept_from c₀ ws₀
   pub held : image ≡ image_of chip
-  pub has : hasImage chip ≡ true
-  pub frames : allFrames (drop at ws₀) ≡ true
+  pub has : has_image chip ≡ true
+  pub frames : all_frames (drop at ws₀) ≡ true
 
-pub starts : (c₀ : Chip) (ws₀ image : List ℕ) → image ≡ image_of c₀ → hasImage c₀ ≡ true → allFrames ws₀ ≡ true → Keeping c₀ ws₀ ws₀ image 0 0
+pub starts : (c₀ : Chip) (ws₀ image : List ℕ) → image ≡ image_of c₀ → has_image c₀ ≡ true → all_frames ws₀ ≡ true → Keeping c₀ ws₀ ws₀ image 0 0
 starts c₀ ws₀ image held has frames = record {
   done = [];
   chip = c₀;
@@ -50,16 +50,16 @@ starts c₀ ws₀ image held has frames = record {
 }
 
 -- What is kept of a word and of those behind it, where the word changes the chip, and where it does not.
-kept_here : (c : Chip) (w : ℕ) (ws : List ℕ) → sameState c (afterWord c w) ≡ false → keptFrom c (w ∷ ws) ≡ w ∷ keptFrom (afterWord c w) ws
-unfolding keptFrom
+kept_here : (c : Chip) (w : ℕ) (ws : List ℕ) → same_state c (after_word c w) ≡ false → kept_from c (w ∷ ws) ≡ w ∷ kept_from (after_word c w) ws
+unfolding kept_from
 kept_here c w ws differs = rw (differs)
 
-dropped-here : (c : Chip) (w : ℕ) (ws : List ℕ) → sameState c (afterWord c w) ≡ true → keptFrom c (w ∷ ws) ≡ keptFrom (afterWord c w) ws
-unfolding keptFrom
+dropped-here : (c : Chip) (w : ℕ) (ws : List ℕ) → same_state c (after_word c w) ≡ true → kept_from c (w ∷ ws) ≡ kept_from (after_word c w) ws
+unfolding kept_from
 dropped-here c w ws same = rw (same)
 
-none_kept : (c : Chip) → keptFrom c [] ≡ []
-unfolding keptFrom
+none_kept : (c : Chip) → kept_from c [] ≡ []
+unfolding kept_from
 none_kept c = refl
 
 module _ (c₀ : Chip) (ws₀ ws image : List ℕ) (at kept : ℕ) (way : Keeping c₀ ws₀ ws image at kept) where
@@ -108,52 +108,52 @@ module _ (c₀ : Chip) (ws₀ ws image : List ℕ) (at kept : ℕ) (way : Keepin
             ∙ ap (λ (n : ℕ). replicate n 0) count
             ∙ sym (replicate-append-replicate 1 (at - kept) 0)
 
-    both-frames : (isFrame (eventIn word) ≡ true) × (allFrames (drop (at + 1) ws₀) ≡ true)
-    both-frames = both (isFrame (eventIn word)) (allFrames (drop (at + 1) ws₀)) (sym (ap allFrames (ahead ws₀ at below)) ∙ way.frames)
+    both-frames : (is_frame (event_in word) ≡ true) × (all_frames (drop (at + 1) ws₀) ≡ true)
+    both-frames = both (is_frame (event_in word)) (all_frames (drop (at + 1) ws₀)) (sym (ap all_frames (ahead ws₀ at below)) ∙ way.frames)
 
-    pub is-frame : isFrame (eventIn (get_or ws at 0)) ≡ true
-    is-frame = ap (λ w. isFrame (eventIn w)) here ∙ both-frames.0
+    pub is-frame : is_frame (event_in (get_or ws at 0)) ≡ true
+    is-frame = ap (λ w. is_frame (event_in w)) here ∙ both-frames.0
 
-    module _ (next : List ℕ) (met : next ≡ stepImage image (eventIn (get_or ws at 0)).kind (eventIn (get_or ws at 0)).first (eventIn (get_or ws at 0)).second) where
+    module _ (next : List ℕ) (met : next ≡ step_image image (event_in (get_or ws at 0)).kind (event_in (get_or ws at 0)).first (event_in (get_or ws at 0)).second) where
       -- The image of the chip after the word.
-      now-held : next ≡ image_of (afterWord way.chip word)
+      now-held : next ≡ image_of (after_word way.chip word)
       now-held =
           met
-          ∙ (λ i. stepImage (way.held i) (eventIn (here i)).kind (eventIn (here i)).first (eventIn (here i)).second)
-          ∙ passed way.chip way.has (eventIn word)
+          ∙ (λ i. step_image (way.held i) (event_in (here i)).kind (event_in (here i)).first (event_in (here i)).second)
+          ∙ passed way.chip way.has (event_in word)
 
       pub next-long : length next ≡ places.length
-      next-long = ap length now-held ∙ image-long (afterWord way.chip word) (image-stays way.chip (eventIn word) way.has)
+      next-long = ap length now-held ∙ image-long (after_word way.chip word) (image-stays way.chip (event_in word) way.has)
 
-      told : (b : Bool) → sameBytes image next ≡ b → sameState way.chip (afterWord way.chip word) ≡ b
-      unfolding sameState
-      told b is = (λ i. sameBytes (sym way.held i) (sym now-held i)) ∙ is
+      told : (b : Bool) → same_bytes image next ≡ b → same_state way.chip (after_word way.chip word) ≡ b
+      unfolding same_state
+      told b is = (λ i. same_bytes (sym way.held i) (sym now-held i)) ∙ is
 
-      pub dropped : sameBytes image next ≡ true → Keeping c₀ ws₀ (set ws at 0) next (at + 1) kept
+      pub dropped : same_bytes image next ≡ true → Keeping c₀ ws₀ (set ws at 0) next (at + 1) kept
       dropped same =
           let zeros : suc (at - kept) ≡ at + 1 - kept = omega (arith, way.behind) in
           record {
             done = way.done;
-            chip = afterWord way.chip word;
+            chip = after_word way.chip word;
             counted = way.counted;
             behind = omega (arith, way.behind);
             inside = omega (arith, below);
             words = taken_out ∙ ap (λ n. (way.done ++ replicate n 0) ++ drop (at + 1) ws₀) zeros;
             all =
                 ap (λ l. way.done ++ l)
-                (sym (ap (keptFrom way.chip) (ahead ws₀ at below) ∙ dropped-here way.chip word (drop (at + 1) ws₀) (told true same)))
+                (sym (ap (kept_from way.chip) (ahead ws₀ at below) ∙ dropped-here way.chip word (drop (at + 1) ws₀) (told true same)))
                 ∙ way.all;
             held = now-held;
-            has = image-stays way.chip (eventIn word) way.has;
+            has = image-stays way.chip (event_in word) way.has;
             frames = both-frames.1;
           }
 
-      pub moved : sameBytes image next ≡ false → Keeping c₀ ws₀ (set (set ws at 0) kept (get_or ws at 0)) next (at + 1) (kept + 1)
+      pub moved : same_bytes image next ≡ false → Keeping c₀ ws₀ (set (set ws at 0) kept (get_or ws at 0)) next (at + 1) (kept + 1)
       moved differs =
           let zeros : at - kept ≡ at + 1 - (kept + 1) = omega (arith, way.behind) in
           record {
             done = way.done ++ (word ∷ []);
-            chip = afterWord way.chip word;
+            chip = after_word way.chip word;
             counted = length-append way.done (word ∷ []) ∙ ap (λ n. n + 1) way.counted;
             behind = omega (arith, way.behind);
             inside = omega (arith, below);
@@ -164,12 +164,12 @@ module _ (c₀ : Chip) (ws₀ ws image : List ℕ) (at kept : ℕ) (way : Keepin
                 ∙ sym (append_assoc (way.done ++ (word ∷ [])) (replicate (at - kept) 0) (drop (at + 1) ws₀))
                 ∙ ap (λ n. ((way.done ++ (word ∷ [])) ++ replicate n 0) ++ drop (at + 1) ws₀) zeros;
             all =
-                append_assoc way.done (word ∷ []) (keptFrom (afterWord way.chip word) (drop (at + 1) ws₀))
+                append_assoc way.done (word ∷ []) (kept_from (after_word way.chip word) (drop (at + 1) ws₀))
                 ∙ ap (λ l. way.done ++ l)
-                (sym (ap (keptFrom way.chip) (ahead ws₀ at below) ∙ kept_here way.chip word (drop (at + 1) ws₀) (told false differs)))
+                (sym (ap (kept_from way.chip) (ahead ws₀ at below) ∙ kept_here way.chip word (drop (at + 1) ws₀) (told false differs)))
                 ∙ way.all;
             held = now-held;
-            has = image-stays way.chip (eventIn word) way.has;
+            has = image-stays way.chip (event_in word) way.has;
             frames = both-frames.1;
           }
 
@@ -181,13 +181,13 @@ module _ (c₀ : Chip) (ws₀ ws image : List ℕ) (at kept : ℕ) (way : Keepin
     none_ahead : drop at ws₀ ≡ []
     none_ahead = let all-passed : length ws₀ ≤ at = omega (arith, end) in drop_of_length-le ws₀ all-passed
 
-    pub arrives : way.done ≡ keptFrom c₀ ws₀
+    pub arrives : way.done ≡ kept_from c₀ ws₀
     arrives =
         sym (append-nil way.done)
-        ∙ ap (λ l. way.done ++ l) (sym (ap (keptFrom way.chip) none_ahead ∙ none_kept way.chip))
+        ∙ ap (λ l. way.done ++ l) (sym (ap (kept_from way.chip) none_ahead ∙ none_kept way.chip))
         ∙ way.all
 
-    pub filled-up : ws ≡ filledUp way.done (length ws₀)
+    pub filled-up : ws ≡ filled_up way.done (length ws₀)
     filled-up =
         way.words
         ∙ ap (λ l. passed-by ++ l) none_ahead

@@ -7,17 +7,17 @@ use native.Mathlib.Omega.{arith}
 use lib.Dec.{eqb}
 use borrow.Author.Tests.{eqb-true, eqb-false, eq-eqb, ne_eqb}
 use Rattle.bits.proofs.Logic.{both}
-use Rattle.events.specs.Kinds.{isKind, operandsOf}
+use Rattle.events.specs.Kinds.{is_kind, operands_of}
 use Rattle.events.specs.Event.{Event}
 use Rattle.events.proofs.ByKind.{kind-small}
-use Rattle.journal.specs.Words.{word_of, eventIn, unusedZero, isFrame}
+use Rattle.journal.specs.Words.{word_of, event_in, unused_zero, is_frame}
 
 -- Every word is what it packs, packed again.
-pub packed-back : (w : ℕ) → word_of (eventIn w) ≡ w
+pub packed-back : (w : ℕ) → word_of (event_in w) ≡ w
 packed-back w = omega arith
 
 -- Every event whose operands are bytes is read back.
-pub read_back : (e : Event) → e.first < 256 → e.second < 256 → eventIn (word_of e) ≡ e
+pub read_back : (e : Event) → e.first < 256 → e.second < 256 → event_in (word_of e) ≡ e
 read_back e first second =
     let k : word_of e / 65536 ≡ e.kind = omega (arith, first, second) in
     let x : word_of e / 256 % 256 ≡ e.first = omega (arith, first, second) in
@@ -34,6 +34,6 @@ half-zero w = go (eqb (w / 256 % 256) 0) refl (eqb (w % 256) 0) refl
     go false h low l = ne_eqb (w % 65536) 0 (λ e. eqb-false (w / 256 % 256) 0 h (omega (arith, e)))
 
 -- The kind of a frame is a byte, and more: it is below 06.
-pub frame_small : (e : Event) → isFrame e ≡ true → e.kind < 6
-unfolding isFrame
-frame_small e frame = kind-small e.kind (both (isKind e.kind) (unusedZero (operandsOf e.kind) e) frame).0
+pub frame_small : (e : Event) → is_frame e ≡ true → e.kind < 6
+unfolding is_frame
+frame_small e frame = kind-small e.kind (both (is_kind e.kind) (unused_zero (operands_of e.kind) e) frame).0

@@ -9,15 +9,15 @@ use lib.Dec.{ltb}
 use lib.ListN.{length}
 use borrow.Author.Tests.{ltb-false, eq-eqb, ne_eqb}
 use Rattle.chip.specs.declared.Chip.{Chip}
-use Rattle.image.specs.Good.{editionFits}
-use Rattle.journal.specs.Words.{allFrames}
-use Rattle.journal.specs.Trim.{sameState, afterWord, keptFrom, keptOf, mostWords, noEditionNumber, tooLongNumber, noFrameNumber, trimNumber, trimAnswer, filledUp, trimmedWords}
+use Rattle.image.specs.Good.{edition_fits}
+use Rattle.journal.specs.Words.{all_frames}
+use Rattle.journal.specs.Trim.{same_state, after_word, kept_from, kept_of, most_words, no_edition_number, too_long_number, no_frame_number, trim_number, trim_answer, filled_up, trimmed_words}
 
 -- No more words are kept than there are.
-pub kept-at-most : (c : Chip) (ws : List ℕ) → length (keptFrom c ws) ≤ length ws
-unfolding keptFrom
+pub kept-at-most : (c : Chip) (ws : List ℕ) → length (kept_from c ws) ≤ length ws
+unfolding kept_from
 kept-at-most c [] = omega arith
-kept-at-most c (w ∷ ws) = go (keptFrom (afterWord c w) ws) (sameState c (afterWord c w)) (kept-at-most (afterWord c w) ws)
+kept-at-most c (w ∷ ws) = go (kept_from (after_word c w) ws) (same_state c (after_word c w)) (kept-at-most (after_word c w) ws)
   where
     go : (ks : List ℕ) (same : Bool) → length ks ≤ length ws → length (cond same ks (w ∷ ks)) ≤ suc (length ws)
     go ks true most = omega (arith, most)
@@ -25,34 +25,34 @@ kept-at-most c (w ∷ ws) = go (keptFrom (afterWord c w) ws) (sameState c (after
 
 -- A trim is accepted where there are not too many words, and all are frames.
 pub record Accepted (ws : List ℕ) : Type 0 where
-  pub fits : length ws ≤ mostWords
-  pub frames : allFrames ws ≡ true
+  pub fits : length ws ≤ most_words
+  pub frames : all_frames ws ≡ true
 
 module _ (ws : List ℕ) (edition : ℕ) where
-  pub when-accepted : trimNumber ws edition ≡ 0 → Accepted ws
-  unfolding trimNumber
-  when-accepted zero = go (editionFits edition) (ltb mostWords (length ws)) refl (allFrames ws) refl zero
+  pub when-accepted : trim_number ws edition ≡ 0 → Accepted ws
+  unfolding trim_number
+  when-accepted zero = go (edition_fits edition) (ltb most_words (length ws)) refl (all_frames ws) refl zero
     where
-      go : (known many : Bool) → ltb mostWords (length ws) ≡ many → (all : Bool) → allFrames ws ≡ all
-          → cond (not known) noEditionNumber (cond many tooLongNumber (cond all 0 noFrameNumber)) ≡ 0 → Accepted ws
+      go : (known many : Bool) → ltb most_words (length ws) ≡ many → (all : Bool) → all_frames ws ≡ all
+          → cond (not known) no_edition_number (cond many too_long_number (cond all 0 no_frame_number)) ≡ 0 → Accepted ws
       go false many m all a e = absurd (omega (arith, e))
       go true true m all a e = absurd (omega (arith, e))
       go true false m false a e = absurd (omega (arith, e))
-      go true false m true a e = record { fits = ltb-false mostWords (length ws) m; frames = a }
+      go true false m true a e = record { fits = ltb-false most_words (length ws) m; frames = a }
 
   module _ (a b c : ℕ) where
-    pub refused-answer : ¬ (trimNumber ws edition ≡ 0) → trimNumber ws edition ≡ trimAnswer ws edition a b c
-    unfolding trimAnswer
-    refused-answer refused = rw (ne_eqb (trimNumber ws edition) 0 refused)
+    pub refused-answer : ¬ (trim_number ws edition ≡ 0) → trim_number ws edition ≡ trim_answer ws edition a b c
+    unfolding trim_answer
+    refused-answer refused = rw (ne_eqb (trim_number ws edition) 0 refused)
 
-    pub refused-words : ¬ (trimNumber ws edition ≡ 0) → ws ≡ trimmedWords ws edition a b c
-    unfolding trimmedWords
-    refused-words refused = rw (ne_eqb (trimNumber ws edition) 0 refused)
+    pub refused-words : ¬ (trim_number ws edition ≡ 0) → ws ≡ trimmed_words ws edition a b c
+    unfolding trimmed_words
+    refused-words refused = rw (ne_eqb (trim_number ws edition) 0 refused)
 
-    pub accepted-answer : trimNumber ws edition ≡ 0 → 256 * length (keptOf ws edition a b c) ≡ trimAnswer ws edition a b c
-    unfolding trimAnswer
-    accepted-answer zero = rw (eq-eqb (trimNumber ws edition) 0 zero)
+    pub accepted-answer : trim_number ws edition ≡ 0 → 256 * length (kept_of ws edition a b c) ≡ trim_answer ws edition a b c
+    unfolding trim_answer
+    accepted-answer zero = rw (eq-eqb (trim_number ws edition) 0 zero)
 
-    pub accepted-words : trimNumber ws edition ≡ 0 → filledUp (keptOf ws edition a b c) (length ws) ≡ trimmedWords ws edition a b c
-    unfolding trimmedWords
-    accepted-words zero = rw (eq-eqb (trimNumber ws edition) 0 zero)
+    pub accepted-words : trim_number ws edition ≡ 0 → filled_up (kept_of ws edition a b c) (length ws) ≡ trimmed_words ws edition a b c
+    unfolding trimmed_words
+    accepted-words zero = rw (eq-eqb (trim_number ws edition) 0 zero)

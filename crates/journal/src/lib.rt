@@ -1,7 +1,7 @@
 // The journal of a host: the events that it passed to a chip, logged in words of 32 bits, and its trim, which keeps in the same room those
 // that changed the chip. include/towanchor.h declares towanchor_trim.
 ghost use Rattle.std.specs.Prelude.{◌≡◌};
-ghost use Rattle.journal.specs.Trim.{trimNumber, trimAnswer, trimmedWords};
+ghost use Rattle.journal.specs.Trim.{trim_number, trim_answer, trimmed_words};
 
 use bus::ACCEPTED;
 use chip::Levels;
@@ -22,7 +22,7 @@ const NO_FRAME: u8 = 1;
 
 // The number of a trim: the refusals in their order.
 fn number(words: &[u32], edition: u8) -> u8
-    ensures { result ≡ trimNumber words.now edition }
+    ensures { result ≡ trim_number words.now edition }
 {
     if NEWER < edition {
         return NO_EDITION;
@@ -40,8 +40,8 @@ fn number(words: &[u32], edition: u8) -> u8
 // number. A refused call changes no word.
 #[unsafe(no_mangle)]
 pub extern "C" fn towanchor_trim(words: &mut [u32], edition: u8, a: u8, b: u8, c: u8) -> u32
-    ensures value { result ≡ trimAnswer words.old edition a b c }
-    ensures words_after { words.new ≡ trimmedWords words.old edition a b c }
+    ensures value { result ≡ trim_answer words.old edition a b c }
+    ensures words_after { words.new ≡ trimmed_words words.old edition a b c }
 {
     let number = number(words, edition);
     if number != ACCEPTED {

@@ -1,7 +1,7 @@
 // The words of a journal: an event packed in 32 bits, what a word packs, and whether it is a frame.
 ghost use Rattle.std.specs.Prelude.{◌≡◌};
 ghost use Rattle.events.specs.Event.{event};
-ghost use Rattle.journal.specs.Words.{word_of, eventIn, loggedIn, unusedZero, isFrame, allFrames};
+ghost use Rattle.journal.specs.Words.{word_of, event_in, logged_in, unused_zero, is_frame, all_frames};
 
 // An event as it was logged. The number of its kind may be no byte, for all upper sixteen bits of a word are the kind.
 #[derive(Drop)]
@@ -20,7 +20,7 @@ pub fn pack(kind: u8, first: u8, second: u8) -> u32
 
 // What a word packs, whether or not it is a frame.
 pub fn read(word: u32) -> Logged
-    ensures { result ≡ loggedIn word }
+    ensures { result ≡ logged_in word }
 {
     Logged {
         kind: (word / 65536) as u16,
@@ -31,7 +31,7 @@ pub fn read(word: u32) -> Logged
 
 // Whether nothing stands where a kind of so many operands has none: in both lower bytes, in the lowest, or nowhere.
 fn is_exact(word: u32, operands: u8) -> bool
-    ensures { result ≡ unusedZero operands (eventIn word) }
+    ensures { result ≡ unused_zero operands (event_in word) }
 {
     match operands {
         0 => word % 65536 == 0,
@@ -42,7 +42,7 @@ fn is_exact(word: u32, operands: u8) -> bool
 
 // Whether a word is a frame: there is such a kind, and nothing stands where it has no operand.
 fn is_frame(word: u32) -> bool
-    ensures { result ≡ isFrame (eventIn word) }
+    ensures { result ≡ is_frame (event_in word) }
 {
     let kind = (word / 65536) as u16;
     events::is_kind(kind) & is_exact(word, events::operands(kind))
@@ -50,7 +50,7 @@ fn is_frame(word: u32) -> bool
 
 // Whether all words are frames.
 pub(super) fn all_frames(words: &[u32]) -> bool
-    ensures { result ≡ allFrames words.now }
+    ensures { result ≡ all_frames words.now }
 {
     let mut at = 0;
     while at < words.len() {

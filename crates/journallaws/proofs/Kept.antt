@@ -6,56 +6,56 @@ use mathlib.Core.List.{List, [], ◌∷◌}
 use Prim.Native.Nat.{ℕ}
 use Rattle.bits.proofs.Logic.{both, contrary}
 use Rattle.chip.specs.declared.Chip.{Chip}
-use Rattle.image.specs.Good.{hasImage}
+use Rattle.image.specs.Good.{has_image}
 use Rattle.restored.proofs.Stays.{image-stays}
-use Rattle.journal.specs.Words.{eventIn, isFrame, allFrames}
-use Rattle.journal.specs.Trim.{sameState, afterWord, keptFrom}
-use Rattle.journallaws.specs.Keeps.{eventsIn, Keeps, none, kept, dropped}
+use Rattle.journal.specs.Words.{event_in, is_frame, all_frames}
+use Rattle.journal.specs.Trim.{same_state, after_word, kept_from}
+use Rattle.journallaws.specs.Keeps.{events_in, Keeps, none, kept, dropped}
 use Rattle.journallaws.proofs.Same.{exactly}
 
-module _ (c : Chip) (has : hasImage c ≡ true) (w : ℕ) where
-  has-next : hasImage (afterWord c w) ≡ true
-  has-next = image-stays c (eventIn w) has
+module _ (c : Chip) (has : has_image c ≡ true) (w : ℕ) where
+  has-next : has_image (after_word c w) ≡ true
+  has-next = image-stays c (event_in w) has
 
-  is_same : sameState c (afterWord c w) ≡ true → afterWord c w ≡ c
-  is_same same = sym ((exactly c (afterWord c w) has has-next).onlyThen same)
+  is_same : same_state c (after_word c w) ≡ true → after_word c w ≡ c
+  is_same same = sym ((exactly c (after_word c w) has has-next).only_then same)
 
-  differs : sameState c (afterWord c w) ≡ false → ¬ (afterWord c w ≡ c)
-  differs other is = contrary (sameState c (afterWord c w)) other ((exactly c (afterWord c w) has has-next).then (sym is))
+  differs : same_state c (after_word c w) ≡ false → ¬ (after_word c w ≡ c)
+  differs other is = contrary (same_state c (after_word c w)) other ((exactly c (after_word c w) has has-next).then (sym is))
 
-pub keeps : (c : Chip) → hasImage c ≡ true → (ws : List ℕ) → Keeps c (eventsIn ws) (eventsIn (keptFrom c ws))
-unfolding keptFrom
+pub keeps : (c : Chip) → has_image c ≡ true → (ws : List ℕ) → Keeps c (events_in ws) (events_in (kept_from c ws))
+unfolding kept_from
 keeps c has [] = none
-keeps c has (w ∷ ws) = go (sameState c (afterWord c w)) refl (keeps (afterWord c w) (has-next c has w) ws)
+keeps c has (w ∷ ws) = go (same_state c (after_word c w)) refl (keeps (after_word c w) (has-next c has w) ws)
   where
-    go : (b : Bool) → sameState c (afterWord c w) ≡ b → Keeps (afterWord c w) (eventsIn ws) (eventsIn (keptFrom (afterWord c w) ws))
-        → Keeps c (eventsIn (w ∷ ws)) (eventsIn (cond b (keptFrom (afterWord c w) ws) (w ∷ keptFrom (afterWord c w) ws)))
+    go : (b : Bool) → same_state c (after_word c w) ≡ b → Keeps (after_word c w) (events_in ws) (events_in (kept_from (after_word c w) ws))
+        → Keeps c (events_in (w ∷ ws)) (events_in (cond b (kept_from (after_word c w) ws) (w ∷ kept_from (after_word c w) ws)))
     go true same later = dropped (is_same c has w same) later
     go false other later = kept (differs c has w other) later
 
 -- Of what is kept all is kept.
-pub kept_again : (c : Chip) → hasImage c ≡ true → (ws : List ℕ) → keptFrom c (keptFrom c ws) ≡ keptFrom c ws
-unfolding keptFrom
+pub kept_again : (c : Chip) → has_image c ≡ true → (ws : List ℕ) → kept_from c (kept_from c ws) ≡ kept_from c ws
+unfolding kept_from
 kept_again c has [] = refl
-kept_again c has (w ∷ ws) = go (sameState c (afterWord c w)) refl (kept_again (afterWord c w) (has-next c has w) ws)
+kept_again c has (w ∷ ws) = go (same_state c (after_word c w)) refl (kept_again (after_word c w) (has-next c has w) ws)
   where
     c' : Chip
-    c' = afterWord c w
+    c' = after_word c w
 
-    go : (b : Bool) → sameState c c' ≡ b → keptFrom c' (keptFrom c' ws) ≡ keptFrom c' ws
-        → keptFrom c (cond b (keptFrom c' ws) (w ∷ keptFrom c' ws)) ≡ cond b (keptFrom c' ws) (w ∷ keptFrom c' ws)
-    go true same again = subst (λ (d : Chip). keptFrom d (keptFrom c' ws) ≡ keptFrom c' ws) (is_same c has w same) again
+    go : (b : Bool) → same_state c c' ≡ b → kept_from c' (kept_from c' ws) ≡ kept_from c' ws
+        → kept_from c (cond b (kept_from c' ws) (w ∷ kept_from c' ws)) ≡ cond b (kept_from c' ws) (w ∷ kept_from c' ws)
+    go true same again = subst (λ (d : Chip). kept_from d (kept_from c' ws) ≡ kept_from c' ws) (is_same c has w same) again
     go false other again = rw (other) (ap (λ (ks : List ℕ). w ∷ ks) again)
 
 -- What is kept of frames is frames.
-pub kept-frames : (c : Chip) (ws : List ℕ) → allFrames ws ≡ true → allFrames (keptFrom c ws) ≡ true
-unfolding keptFrom
+pub kept-frames : (c : Chip) (ws : List ℕ) → all_frames ws ≡ true → all_frames (kept_from c ws) ≡ true
+unfolding kept_from
 kept-frames c [] all = refl
 kept-frames c (w ∷ ws) all =
-    let k = both (isFrame (eventIn w)) (allFrames ws) all in
-    go (sameState c (afterWord c w)) k.0 (kept-frames (afterWord c w) ws k.1)
+    let k = both (is_frame (event_in w)) (all_frames ws) all in
+    go (same_state c (after_word c w)) k.0 (kept-frames (after_word c w) ws k.1)
   where
-    go : (b : Bool) → isFrame (eventIn w) ≡ true → allFrames (keptFrom (afterWord c w) ws) ≡ true
-        → allFrames (cond b (keptFrom (afterWord c w) ws) (w ∷ keptFrom (afterWord c w) ws)) ≡ true
+    go : (b : Bool) → is_frame (event_in w) ≡ true → all_frames (kept_from (after_word c w) ws) ≡ true
+        → all_frames (cond b (kept_from (after_word c w) ws) (w ∷ kept_from (after_word c w) ws)) ≡ true
     go true is later = later
     go false is later = rw (is) later

@@ -14,15 +14,15 @@ use Rattle.chip.specs.declared.Edition.{Edition}
 use Rattle.chip.specs.declared.Edition.TheVariants.{Older, Newer}
 use Rattle.chip.specs.declared.Chip.{Chip}
 use Rattle.chip.specs.declared.Levels.{Levels}
-use Rattle.chip.specs.State.{powerUpAs, tally_of}
+use Rattle.chip.specs.State.{power_up_as, tally_of}
 use Rattle.step.specs.Step.{stepped}
 use Rattle.image.specs.Layout.{image_of}
-use Rattle.image.specs.Good.{hasImage}
+use Rattle.image.specs.Good.{has_image}
 use Rattle.image.proofs.Long.{written_over}
-use Rattle.fates.specs.Bytes.{offeredAt, bytes_of, valuesAndFates}
+use Rattle.fates.specs.Bytes.{offered_at, bytes_of, values_and_fates}
 use Rattle.fates.specs.Promise.{run}
-use Rattle.calls.specs.Calls.{powerUpAsImage}
-use Rattle.restored.specs.Host.{hostRun, powerUpIn}
+use Rattle.calls.specs.Calls.{power_up_as_image}
+use Rattle.restored.specs.Host.{host_run, power_up_in}
 use Rattle.restored.proofs.Stays.{image-stays, power-up-has}
 use Rattle.journal.proofs.Held.{passed}
 use Rattle.journallaws.specs.Keeps.{Keeps, none, kept, dropped}
@@ -36,29 +36,29 @@ same-state (kept changes rest) new = same-state rest new
 same-state (dropped {c} {e} {es} {ks} stays rest) new = ap (λ (x : Chip). run x (ks ++ new)) (sym stays) ∙ same-state rest new
 
 -- The bytes that a host holds are the image of the chip.
-held : (c : Chip) (es : List Event) → hasImage c ≡ true → hostRun (image_of c) es ≡ image_of (run c es)
+held : (c : Chip) (es : List Event) → has_image c ≡ true → host_run (image_of c) es ≡ image_of (run c es)
 held c [] has = refl
-held c (e ∷ es) has = ap (λ (l : List ℕ). hostRun l es) (passed c has e) ∙ held (stepped c e).chip es (image-stays c e has)
+held c (e ∷ es) has = ap (λ (l : List ℕ). host_run l es) (passed c has e) ∙ held (stepped c e).chip es (image-stays c e has)
 
-powered-up : (l : List ℕ) (ed : Edition) (v : Levels) → length l ≡ 96 → powerUpIn l ed v ≡ image_of (powerUpAs ed v)
-unfolding powerUpAsImage
-powered-up l Older v long = written_over l (powerUpAs Older v) long
-powered-up l Newer v long = written_over l (powerUpAs Newer v) long
+powered-up : (l : List ℕ) (ed : Edition) (v : Levels) → length l ≡ 96 → power_up_in l ed v ≡ image_of (power_up_as ed v)
+unfolding power_up_as_image
+powered-up l Older v long = written_over l (power_up_as Older v) long
+powered-up l Newer v long = written_over l (power_up_as Newer v) long
 
 module _ (ed : Edition) (v : Levels) where
   abbrev start : Chip
-  start = powerUpAs ed v
+  start = power_up_as ed v
 
-  held-from : (l : List ℕ) (es : List Event) → length l ≡ 96 → hostRun (powerUpIn l ed v) es ≡ image_of (run start es)
-  held-from l es long = ap (λ (m : List ℕ). hostRun m es) (powered-up l ed v long) ∙ held start es (power-up-has ed v)
+  held-from : (l : List ℕ) (es : List Event) → length l ≡ 96 → host_run (power_up_in l ed v) es ≡ image_of (run start es)
+  held-from l es long = ap (λ (m : List ℕ). host_run m es) (powered-up l ed v long) ∙ held start es (power-up-has ed v)
 
   -- At power-up no byte waits, and all latches are 00.
   from-the-start : (g : Group) (s : Side) (es ks : List Event) → Keeps start es ks → (new : List Event)
-      → valuesAndFates (bytes_of g s ed v (ks ++ new)) ≡ valuesAndFates (bytes_of g s ed v (es ++ new))
-  from-the-start A Input es ks keeps new = sym (same-fates A Input keeps (power-up-has ed v) new (offeredAt 0 0) (offeredAt 0 0) 1 1 (λ a. refl) (λ a. refl) (λ w. refl))
-  from-the-start A Output es ks keeps new = sym (same-fates A Output keeps (power-up-has ed v) new (offeredAt 0 0) (offeredAt 0 0) 1 1 (λ a. refl) (λ a. refl) (λ w. refl))
-  from-the-start B Input es ks keeps new = sym (same-fates B Input keeps (power-up-has ed v) new (offeredAt 0 0) (offeredAt 0 0) 1 1 (λ a. refl) (λ a. refl) (λ w. refl))
-  from-the-start B Output es ks keeps new = sym (same-fates B Output keeps (power-up-has ed v) new (offeredAt 0 0) (offeredAt 0 0) 1 1 (λ a. refl) (λ a. refl) (λ w. refl))
+      → values_and_fates (bytes_of g s ed v (ks ++ new)) ≡ values_and_fates (bytes_of g s ed v (es ++ new))
+  from-the-start A Input es ks keeps new = sym (same-fates A Input keeps (power-up-has ed v) new (offered_at 0 0) (offered_at 0 0) 1 1 (λ a. refl) (λ a. refl) (λ w. refl))
+  from-the-start A Output es ks keeps new = sym (same-fates A Output keeps (power-up-has ed v) new (offered_at 0 0) (offered_at 0 0) 1 1 (λ a. refl) (λ a. refl) (λ w. refl))
+  from-the-start B Input es ks keeps new = sym (same-fates B Input keeps (power-up-has ed v) new (offered_at 0 0) (offered_at 0 0) 1 1 (λ a. refl) (λ a. refl) (λ w. refl))
+  from-the-start B Output es ks keeps new = sym (same-fates B Output keeps (power-up-has ed v) new (offered_at 0 0) (offered_at 0 0) 1 1 (λ a. refl) (λ a. refl) (λ w. refl))
 
   pub same-meaning : (es ks : List Event) → Keeps start es ks → (new : List Event) → SameMeaning ed v (es ++ new) (ks ++ new)
   same-meaning es ks keeps new =

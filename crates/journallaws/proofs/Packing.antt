@@ -3,11 +3,11 @@ use mathlib.Core.Path.{◌≡◌, ◌∙◌, ap, sym}
 use Prim.Native.Nat.{ℕ, ◌+◌, ◌*◌, ◌<◌}
 use native.Mathlib.Omega.{arith}
 use Rattle.events.specs.Event.{event}
-use Rattle.journal.specs.Words.{word_of, eventIn}
+use Rattle.journal.specs.Words.{word_of, event_in}
 use Rattle.journal.proofs.Packed.{read_back}
 use Rattle.journallaws.specs.Packing.{Packs}
 
 pub packs : (k x d : ℕ) → x < 256 → d < 256 → Packs k x d
 packs k x d below below' =
     let packing : word_of (event k x d) ≡ 65536 * k + 256 * x + d = omega arith in
-    record { packing = packing; reading = ap eventIn (sym packing) ∙ read_back (event k x d) below below' }
+    record { packing = packing; reading = ap event_in (sym packing) ∙ read_back (event k x d) below below' }

@@ -11,50 +11,50 @@ use borrow.Author.Tests.{lt-ltb, le-ltb}
 use Rattle.chip.specs.declared.Edition.{Edition}
 use Rattle.chip.specs.declared.Edition.TheVariants.{Older, Newer}
 use Rattle.chip.specs.declared.Levels.{Levels}
-use Rattle.chip.specs.State.{powerUpAs}
-use Rattle.image.specs.Layout.{editionByte}
+use Rattle.chip.specs.State.{power_up_as}
+use Rattle.image.specs.Layout.{edition_byte}
 use Rattle.restored.proofs.Stays.{power-up-has}
-use Rattle.journal.specs.Words.{allFrames}
-use Rattle.journal.specs.Trim.{keptFrom, keptOf, trimNumber, filledUp}
+use Rattle.journal.specs.Words.{all_frames}
+use Rattle.journal.specs.Trim.{kept_from, kept_of, trim_number, filled_up}
 use Rattle.journal.proofs.Trimming.{kept-at-most, refused-answer, refused-words, accepted-answer, accepted-words}
 use Rattle.journallaws.specs.Frames.{Frames}
-use Rattle.journallaws.specs.Keeps.{eventsIn, Keeps}
-use Rattle.journallaws.specs.Promise.{answer_of, left_of, frontOf, Trimmed, RefusedWith, Numbered}
+use Rattle.journallaws.specs.Keeps.{events_in, Keeps}
+use Rattle.journallaws.specs.Promise.{answer_of, left_of, front_of, Trimmed, RefusedWith, Numbered}
 use Rattle.journallaws.proofs.Kept.{keeps, kept_again, kept-frames}
 use Rattle.journallaws.proofs.Meaning.{same-meaning, alone}
 use Rattle.journallaws.proofs.Shapes.{all-shapes, shapes-all}
 
 -- The number, by the refusals.
 module _ (ws : List ℕ) (edition a b c : ℕ) where
-  refused-with : (n : ℕ) → trimNumber ws edition ≡ n → ¬ (n ≡ 0) → RefusedWith n ws edition a b c
+  refused-with : (n : ℕ) → trim_number ws edition ≡ n → ¬ (n ≡ 0) → RefusedWith n ws edition a b c
   refused-with n is some =
-      let refused : ¬ (trimNumber ws edition ≡ 0) = λ e. some (sym is ∙ e) in
+      let refused : ¬ (trim_number ws edition ≡ 0) = λ e. some (sym is ∙ e) in
       (sym (refused-answer ws edition a b c refused) ∙ is, sym (refused-words ws edition a b c refused))
 
-  no-edition : 1 < edition → trimNumber ws edition ≡ 8
-  unfolding trimNumber
+  no-edition : 1 < edition → trim_number ws edition ≡ 8
+  unfolding trim_number
   no-edition above = rw (lt-ltb 1 edition above)
 
-  too_long : edition ≤ 1 → 8192 < length ws → trimNumber ws edition ≡ 6
-  unfolding trimNumber
-  too_long known many = rw (le-ltb 1 edition known, lt-ltb 8192 (length ws) many)
+  too-long : edition ≤ 1 → 8192 < length ws → trim_number ws edition ≡ 6
+  unfolding trim_number
+  too-long known many = rw (le-ltb 1 edition known, lt-ltb 8192 (length ws) many)
 
-  by_frames : edition ≤ 1 → length ws ≤ 8192 → (all : Bool) → allFrames ws ≡ all → trimNumber ws edition ≡ cond all 0 1
-  unfolding trimNumber
+  by_frames : edition ≤ 1 → length ws ≤ 8192 → (all : Bool) → all_frames ws ≡ all → trim_number ws edition ≡ cond all 0 1
+  unfolding trim_number
   by_frames known few all is = rw (le-ltb 1 edition known, le-ltb 8192 (length ws) few, is)
 
-  not-all : ¬ Frames ws → allFrames ws ≡ false
-  not-all none = go (allFrames ws) refl
+  not-all : ¬ Frames ws → all_frames ws ≡ false
+  not-all none = go (all_frames ws) refl
     where
-      go : (all : Bool) → allFrames ws ≡ all → all ≡ false
+      go : (all : Bool) → all_frames ws ≡ all → all ≡ false
       go true is = absurd (none (all-shapes ws is))
       go false is = refl
 
   pub numbered : Numbered ws edition a b c
   numbered = record {
-    noEdition = λ above. refused-with 8 (no-edition above) (λ e. omega (arith, e));
-    tooLong = λ known many. refused-with 6 (too_long known many) (λ e. omega (arith, e));
-    noFrame = λ known few none. refused-with 1 (by_frames known few false (not-all none)) (λ e. omega (arith, e));
+    no_edition = λ above. refused-with 8 (no-edition above) (λ e. omega (arith, e));
+    too_long = λ known many. refused-with 6 (too-long known many) (λ e. omega (arith, e));
+    no_frame = λ known few none. refused-with 1 (by_frames known few false (not-all none)) (λ e. omega (arith, e));
     accepted = λ known few all.
         let zero = by_frames known few true (shapes-all ws all) in
         let count = accepted-answer ws edition a b c zero in
@@ -62,69 +62,69 @@ module _ (ws : List ℕ) (edition a b c : ℕ) where
   }
 
 -- An edition by its number is that edition.
-kept-is : (ed : Edition) (v : Levels) (ws : List ℕ) → keptOf ws (editionByte ed) v.a v.b v.c ≡ keptFrom (powerUpAs ed v) ws
+kept-is : (ed : Edition) (v : Levels) (ws : List ℕ) → kept_of ws (edition_byte ed) v.a v.b v.c ≡ kept_from (power_up_as ed v) ws
 kept-is Older v ws = refl
 kept-is Newer v ws = refl
 
-known : (ed : Edition) → editionByte ed ≤ 1
+known : (ed : Edition) → edition_byte ed ≤ 1
 known Older = omega arith
 known Newer = omega arith
 
 module _ (ed : Edition) (v : Levels) where
-  abbrev keptIn : List ℕ → List ℕ
-  keptIn ws = keptFrom (powerUpAs ed v) ws
+  abbrev kept_in : List ℕ → List ℕ
+  kept_in ws = kept_from (power_up_as ed v) ws
 
-  module _ (ws : List ℕ) (few : length ws ≤ 8192) (all : allFrames ws ≡ true) where
-    zero : trimNumber ws (editionByte ed) ≡ 0
-    zero = by_frames ws (editionByte ed) 0 0 0 (known ed) few true all
+  module _ (ws : List ℕ) (few : length ws ≤ 8192) (all : all_frames ws ≡ true) where
+    zero : trim_number ws (edition_byte ed) ≡ 0
+    zero = by_frames ws (edition_byte ed) 0 0 0 (known ed) few true all
 
-    answer : answer_of ed v ws ≡ 256 * length (keptIn ws)
-    answer = sym (accepted-answer ws (editionByte ed) v.a v.b v.c zero) ∙ ap (λ ks. 256 * length ks) (kept-is ed v ws)
+    answer : answer_of ed v ws ≡ 256 * length (kept_in ws)
+    answer = sym (accepted-answer ws (edition_byte ed) v.a v.b v.c zero) ∙ ap (λ ks. 256 * length ks) (kept-is ed v ws)
 
-    words : left_of ed v ws ≡ filledUp (keptIn ws) (length ws)
-    words = sym (accepted-words ws (editionByte ed) v.a v.b v.c zero) ∙ ap (λ ks. filledUp ks (length ws)) (kept-is ed v ws)
+    words : left_of ed v ws ≡ filled_up (kept_in ws) (length ws)
+    words = sym (accepted-words ws (edition_byte ed) v.a v.b v.c zero) ∙ ap (λ ks. filled_up ks (length ws)) (kept-is ed v ws)
 
-    count : answer_of ed v ws / 256 ≡ length (keptIn ws)
+    count : answer_of ed v ws / 256 ≡ length (kept_in ws)
     count = omega (arith, answer)
 
-    front : frontOf ed v ws ≡ keptIn ws
-    front = (λ i. take (count i) (words i)) ∙ take_at (keptIn ws) (replicate (length ws - length (keptIn ws)) 0) (length (keptIn ws)) refl
+    front : front_of ed v ws ≡ kept_in ws
+    front = (λ i. take (count i) (words i)) ∙ take_at (kept_in ws) (replicate (length ws - length (kept_in ws)) 0) (length (kept_in ws)) refl
 
-    as_long : length (left_of ed v ws) ≡ length ws
-    as_long =
+    as-long : length (left_of ed v ws) ≡ length ws
+    as-long =
         ap length words
-        ∙ length-append (keptIn ws) (replicate (length ws - length (keptIn ws)) 0)
-        ∙ omega (arith, length-replicate {A = ℕ} (length ws - length (keptIn ws)) 0, kept-at-most (powerUpAs ed v) ws)
+        ∙ length-append (kept_in ws) (replicate (length ws - length (kept_in ws)) 0)
+        ∙ omega (arith, length-replicate {A = ℕ} (length ws - length (kept_in ws)) 0, kept-at-most (power_up_as ed v) ws)
 
     zero-behind : (i : ℕ) → answer_of ed v ws / 256 ≤ i → i < length ws → get_or (left_of ed v ws) i 1 ≡ 0
     zero-behind i behind inside =
-        let n = length (keptIn ws) in
+        let n = length (kept_in ws) in
         let place : i ≡ n + (i - n) = omega (arith, behind, count) in
         (λ j. get_or (words j) (place j) 1)
-        ∙ get_or-append-add (keptIn ws) (replicate (length ws - n) 0) (i - n) 1
+        ∙ get_or-append-add (kept_in ws) (replicate (length ws - n) 0) (i - n) 1
         ∙ get_or-replicate (length ws - n) (i - n) 0 1 (omega (arith, behind, count, inside))
 
   pub trimmed : (ws : List ℕ) → length ws ≤ 8192 → Frames ws → Trimmed ed v ws
   trimmed ws few shapes =
       let all = shapes-all ws shapes in
-      let ks = keptIn ws in
-      let again = kept_again (powerUpAs ed v) (power-up-has ed v) ws in
-      let fewer : length ks ≤ 8192 = omega (arith, kept-at-most (powerUpAs ed v) ws, few) in
-      let frames = kept-frames (powerUpAs ed v) ws all in
-      let kept : Keeps (powerUpAs ed v) (eventsIn ws) (eventsIn ks) = keeps (powerUpAs ed v) (power-up-has ed v) ws in
+      let ks = kept_in ws in
+      let again = kept_again (power_up_as ed v) (power-up-has ed v) ws in
+      let fewer : length ks ≤ 8192 = omega (arith, kept-at-most (power_up_as ed v) ws, few) in
+      let frames = kept-frames (power_up_as ed v) ws all in
+      let kept : Keeps (power_up_as ed v) (events_in ws) (events_in ks) = keeps (power_up_as ed v) (power-up-has ed v) ws in
       record {
         accepted = omega (arith, answer ws few all);
-        asLong = as_long ws few all;
+        as_long = as-long ws few all;
         counted = ap length (front ws few all) ∙ sym (count ws few all);
-        zeroBehind = zero-behind ws few all;
+        zero_behind = zero-behind ws few all;
         keeps = rw (front ws few all) kept;
-        sameMeaning = rw (front ws few all) (alone ed v (eventsIn ws) (eventsIn ks) kept);
-        goesOn = λ new. rw (front ws few all) (same-meaning ed v (eventsIn ws) (eventsIn ks) kept new);
+        same_meaning = rw (front ws few all) (alone ed v (events_in ws) (events_in ks) kept);
+        goes_on = λ new. rw (front ws few all) (same-meaning ed v (events_in ws) (events_in ks) kept new);
         again = (
           ap (answer_of ed v) (front ws few all) ∙ answer ks fewer frames ∙ ap (λ l. 256 * length l) again ∙ sym (answer ws few all),
-          ap (left_of ed v) (front ws few all) ∙ words ks fewer frames ∙ ap (λ l. filledUp l (length ks)) again ∙ full ks ∙ sym (front ws few all),
+          ap (left_of ed v) (front ws few all) ∙ words ks fewer frames ∙ ap (λ l. filled_up l (length ks)) again ∙ full ks ∙ sym (front ws few all),
         );
       }
     where
-      full : (ks : List ℕ) → filledUp ks (length ks) ≡ ks
+      full : (ks : List ℕ) → filled_up ks (length ks) ≡ ks
       full ks = let none : length ks - length ks ≡ 0 = omega arith in ap (λ n. ks ++ replicate n 0) none ∙ append-nil ks

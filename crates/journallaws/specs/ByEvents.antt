@@ -6,19 +6,19 @@ use Rattle.control.specs.declared.Group.{Group}
 use Rattle.channel.specs.declared.Side.TheVariants.{Input}
 use Rattle.chip.specs.declared.Edition.{Edition}
 use Rattle.chip.specs.declared.Levels.{Levels}
-use Rattle.chip.specs.State.{powerUpAs}
+use Rattle.chip.specs.State.{power_up_as}
 use Rattle.fates.specs.Kinds.{kind_of, accepts}
 use Rattle.fates.specs.Surroundings.{first_word}
-use Rattle.fates.specs.Effects.{portNumber}
+use Rattle.fates.specs.Effects.{port_number}
 use Rattle.fates.specs.Promise.{run}
-use Rattle.journallaws.specs.Here.{levelsAt, ofACycle, here, leftHere, Open}
+use Rattle.journallaws.specs.Here.{levels_at, of_a_cycle, here, left_here, Open}
 
 -- After the events es an event changes the chip, and is kept; or it does not, and is dropped.
 abbrev pub IsKept : Edition → Levels → List Event → Event → Type 0
-IsKept ed v es e = ¬ (run (powerUpAs ed v) (es ++ e ∷ []) ≡ run (powerUpAs ed v) es)
+IsKept ed v es e = ¬ (run (power_up_as ed v) (es ++ e ∷ []) ≡ run (power_up_as ed v) es)
 
 abbrev pub IsDropped : Edition → Levels → List Event → Event → Type 0
-IsDropped ed v es e = run (powerUpAs ed v) (es ++ e ∷ []) ≡ run (powerUpAs ed v) es
+IsDropped ed v es e = run (power_up_as ed v) (es ++ e ∷ []) ≡ run (power_up_as ed v) es
 
 -- Every event by itself. A refused one is dropped, and an accepted one that begins or ends a cycle is kept. Levels on a port are kept where they
 -- are others than those there, and where an input lets them through to a latch that holds something else; where neither is so they are dropped. A
@@ -26,11 +26,11 @@ IsDropped ed v es e = run (powerUpAs ed v) (es ++ e ∷ []) ≡ run (powerUpAs e
 -- that word nothing else can be set.
 pub record ByEvents (ed : Edition) (v : Levels) (es : List Event) : Type 0 where
   pub refused : (e : Event) → accepts ed (here ed v es).phase (kind_of e) ≡ false → IsDropped ed v es e
-  pub cycle : (e : Event) → accepts ed (here ed v es).phase (kind_of e) ≡ true → ofACycle (kind_of e) ≡ true → IsKept ed v es e
-  pub otherLevels : (x d : ℕ) → x < 3 → ¬ (levelsAt x (here ed v es) ≡ d) → IsKept ed v es (event 5 x d)
-  pub throughToTheLatch : (g : Group) (d : ℕ) → Open ed v es g → ¬ ((leftHere ed v es g Input).latch ≡ d) → IsKept ed v es (event 5 (portNumber g) d)
-  pub sameLevels : (x d : ℕ) → levelsAt x (here ed v es) ≡ d
-      → ((g : Group) → portNumber g ≡ x → Open ed v es g → (leftHere ed v es g Input).latch ≡ d) → IsDropped ed v es (event 5 x d)
-  pub resetInACycle : ¬ ((here ed v es).phase ≡ Idle) → IsKept ed v es (event 0 0 0)
-  pub resetOfAWord : ¬ ((here ed v es).word ≡ first_word) → IsKept ed v es (event 0 0 0)
-  pub resetOfNothing : (here ed v es).phase ≡ Idle → (here ed v es).word ≡ first_word → IsDropped ed v es (event 0 0 0)
+  pub cycle : (e : Event) → accepts ed (here ed v es).phase (kind_of e) ≡ true → of_a_cycle (kind_of e) ≡ true → IsKept ed v es e
+  pub other_levels : (x d : ℕ) → x < 3 → ¬ (levels_at x (here ed v es) ≡ d) → IsKept ed v es (event 5 x d)
+  pub through_to_the_latch : (g : Group) (d : ℕ) → Open ed v es g → ¬ ((left_here ed v es g Input).latch ≡ d) → IsKept ed v es (event 5 (port_number g) d)
+  pub same_levels : (x d : ℕ) → levels_at x (here ed v es) ≡ d
+      → ((g : Group) → port_number g ≡ x → Open ed v es g → (left_here ed v es g Input).latch ≡ d) → IsDropped ed v es (event 5 x d)
+  pub reset_in_a_cycle : ¬ ((here ed v es).phase ≡ Idle) → IsKept ed v es (event 0 0 0)
+  pub reset_of_a_word : ¬ ((here ed v es).word ≡ first_word) → IsKept ed v es (event 0 0 0)
+  pub reset_of_nothing : (here ed v es).phase ≡ Idle → (here ed v es).word ≡ first_word → IsDropped ed v es (event 0 0 0)

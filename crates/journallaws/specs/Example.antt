@@ -1,7 +1,7 @@
 -- A journal in which each reason to keep an event, and each to drop one, is seen ("Trimming the journal").
 use Rattle.std.specs.Prelude.{List, [], ◌∷◌, ◌++◌, ℕ, replicate}
 use Rattle.chip.specs.declared.Edition.{Edition}
-use Rattle.chip.specs.State.{allHigh}
+use Rattle.chip.specs.State.{all_high}
 use Rattle.journallaws.specs.Promise.{answer_of, left_of}
 
 -- A word, with whether it is kept where every line was high at power-up.
@@ -9,8 +9,8 @@ pub data Judged : Type 0 where
   kept dropped : ℕ → Judged
 
 -- The scale holds STB down while the mode word makes port A its input, so that levels which are there already load the latch, once.
-abbrev pub aStore : List Judged
-aStore =
+abbrev pub a_store : List Judged
+a_store =
     dropped 0x000000  -- a reset of a chip that is as at power-up
     ∷ dropped 0x0502ff  -- levels that are there already
     ∷ kept 0x050041  -- others
@@ -32,15 +32,15 @@ aStore =
     ∷ []
 
 -- All words, those that are kept, and how many are not.
-abbrev pub allAmong : List Judged → List ℕ
-allAmong [] = []
-allAmong (kept w ∷ ws) = w ∷ allAmong ws
-allAmong (dropped w ∷ ws) = w ∷ allAmong ws
+abbrev pub all_among : List Judged → List ℕ
+all_among [] = []
+all_among (kept w ∷ ws) = w ∷ all_among ws
+all_among (dropped w ∷ ws) = w ∷ all_among ws
 
-abbrev pub keptAmong : List Judged → List ℕ
-keptAmong [] = []
-keptAmong (kept w ∷ ws) = w ∷ keptAmong ws
-keptAmong (dropped w ∷ ws) = keptAmong ws
+abbrev pub kept_among : List Judged → List ℕ
+kept_among [] = []
+kept_among (kept w ∷ ws) = w ∷ kept_among ws
+kept_among (dropped w ∷ ws) = kept_among ws
 
 -- The answer to it and the words that it leaves.
 pub record Gives : Type 0 where
@@ -48,8 +48,8 @@ pub record Gives : Type 0 where
   pub words : List ℕ
 
 abbrev pub given : Edition → Gives
-given ed = record { answer = answer_of ed allHigh (allAmong aStore); words = left_of ed allHigh (allAmong aStore) }
+given ed = record { answer = answer_of ed all_high (all_among a_store); words = left_of ed all_high (all_among a_store) }
 
 -- Ten words are kept, and eight zero words stand behind them.
 abbrev pub said : Gives
-said = record { answer = 2560; words = keptAmong aStore ++ replicate 8 0 }
+said = record { answer = 2560; words = kept_among a_store ++ replicate 8 0 }

@@ -5,9 +5,9 @@ use Rattle.std.specs.Prelude.{List, [], ◌∷◌, ℕ, ◌+◌, ◌*◌, ◌<�
 -- address, or levels on a port; each operand is a byte, and nothing else is in the word.
 pub data Frame : ℕ → Type 0 where
   reset : Frame 0
-  beginRead : (a : ℕ) → a < 256 → Frame (65536 + 256 * a)
-  endCycle : Frame 131072
-  beginWrite : (a d : ℕ) → a < 256 → d < 256 → Frame (196608 + 256 * a + d)
+  begin_read : (a : ℕ) → a < 256 → Frame (65536 + 256 * a)
+  end_cycle : Frame 131072
+  begin_write : (a d : ℕ) → a < 256 → d < 256 → Frame (196608 + 256 * a + d)
   levels : (p d : ℕ) → p < 256 → d < 256 → Frame (327680 + 256 * p + d)
 
 -- So is each of some words.

@@ -9,39 +9,39 @@ use Rattle.channel.specs.declared.Side.TheVariants.{Input}
 use Rattle.channel.specs.declared.Fill.TheVariants.{Empty}
 use Rattle.chip.specs.declared.Edition.{Edition}
 use Rattle.chip.specs.declared.Levels.{Levels}
-use Rattle.fates.specs.Kinds.{Kind, reset, cycleEnded, unknown, readBegun, writeBegun, newLevels}
-use Rattle.fates.specs.Surroundings.{Surroundings, atPowerUp, surroundingsOver}
-use Rattle.fates.specs.Effects.{Effect, strobePin, strobes, effects}
-use Rattle.fates.specs.Left.{Left, left, leftAfter}
+use Rattle.fates.specs.Kinds.{Kind, reset, cycle_ended, unknown, read_begun, write_begun, new_levels}
+use Rattle.fates.specs.Surroundings.{Surroundings, at_power_up, surroundings_over}
+use Rattle.fates.specs.Effects.{Effect, strobe_pin, strobes, effects}
+use Rattle.fates.specs.Left.{Left, left, left_after}
 
 -- What some effects leave in a channel.
-abbrev pub leftBy : Side → Left → List Effect → Left
-leftBy s h [] = h
-leftBy s h (d ∷ later) = leftBy s (leftAfter s h d) later
+abbrev pub left_by : Side → Left → List Effect → Left
+left_by s h [] = h
+left_by s h (d ∷ later) = left_by s (left_after s h d) later
 
 -- The levels on port x.
-abbrev pub levelsAt : ℕ → Surroundings → ℕ
-levelsAt x a = cond (eqb x 0) a.levelsA (cond (eqb x 1) a.levelsB a.levelsC)
+abbrev pub levels_at : ℕ → Surroundings → ℕ
+levels_at x a = cond (eqb x 0) a.levels_a (cond (eqb x 1) a.levels_b a.levels_c)
 
 -- A cycle begins or ends.
-abbrev pub ofACycle : Kind → Bool
-ofACycle reset = false
-ofACycle (readBegun x) = true
-ofACycle cycleEnded = true
-ofACycle (writeBegun x d) = true
-ofACycle (newLevels x d) = false
-ofACycle unknown = false
+abbrev pub of_a_cycle : Kind → Bool
+of_a_cycle reset = false
+of_a_cycle (read_begun x) = true
+of_a_cycle cycle_ended = true
+of_a_cycle (write_begun x d) = true
+of_a_cycle (new_levels x d) = false
+of_a_cycle unknown = false
 
 -- After the events of a history, from a power-up of this edition under these levels:
 module _ (ed : Edition) (v : Levels) (es : List Event) where
   -- what surrounds the channels,
   abbrev pub here : Surroundings
-  here = surroundingsOver (atPowerUp ed v) es
+  here = surroundings_over (at_power_up ed v) es
 
   -- what is left in a channel,
-  abbrev pub leftHere : Group → Side → Left
-  leftHere g s = leftBy s (left Empty 0) (effects g s (atPowerUp ed v) es)
+  abbrev pub left_here : Group → Side → Left
+  left_here g s = left_by s (left Empty 0) (effects g s (at_power_up ed v) es)
 
   -- and whether an input lets what comes onto its port's lines through to its latch: it is strobed, and its STB is low.
   abbrev pub Open : Group → Type 0
-  Open g = (strobes here.word g Input ≡ true) × (bit_of here.levelsC (strobePin g Input) ≡ false)
+  Open g = (strobes here.word g Input ≡ true) × (bit_of here.levels_c (strobe_pin g Input) ≡ false)

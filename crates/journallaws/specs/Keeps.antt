@@ -3,12 +3,12 @@ use Rattle.std.specs.Prelude.{◌≡◌, true, List, [], ◌∷◌, map, ℕ}
 use Rattle.events.specs.Event.{Event}
 use Rattle.chip.specs.declared.Chip.{Chip}
 use Rattle.step.specs.Step.{stepped}
-use Rattle.journal.specs.Words.{eventIn}
-use Rattle.journal.specs.Trim.{sameState}
+use Rattle.journal.specs.Words.{event_in}
+use Rattle.journal.specs.Trim.{same_state}
 
 -- The history that a journal is: the event of each word.
-abbrev pub eventsIn : List ℕ → List Event
-eventsIn ws = map eventIn ws
+abbrev pub events_in : List ℕ → List Event
+events_in ws = map event_in ws
 
 -- Of the events es, met by the chip c, exactly those are in ks, in order, after which the state differs from the state before.
 pub data Keeps : Chip → List Event → List Event → Type 0 where
@@ -18,5 +18,5 @@ pub data Keeps : Chip → List Event → List Event → Type 0 where
 
 -- The test of two states answers exactly equality.
 pub record Exactly (c d : Chip) : Type 0 where
-  pub onlyThen : sameState c d ≡ true → c ≡ d
-  pub then : c ≡ d → sameState c d ≡ true
+  pub only_then : same_state c d ≡ true → c ≡ d
+  pub then : c ≡ d → same_state c d ≡ true

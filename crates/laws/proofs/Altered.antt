@@ -8,12 +8,12 @@ use Rattle.control.specs.declared.Group.{Group}
 use Rattle.control.specs.declared.Group.TheVariants.{A, B}
 use Rattle.channel.specs.declared.Side.{Side}
 use Rattle.channel.specs.declared.Side.TheVariants.{Input, Output}
-use Rattle.channel.specs.Channel.{flagOf}
+use Rattle.channel.specs.Channel.{flag_of}
 use Rattle.chip.specs.declared.Chip.{Chip}
 use Rattle.chip.specs.Handshakes.{strobed}
 use Rattle.status.specs.declared.reasons.Reason.{Reason}
 use Rattle.status.specs.declared.reasons.Reason.TheVariants.{EnableOff, FlagWrong, LineLow, OwnCycle, High}
-use Rattle.status.specs.Reasons.{holds, reasonOf}
+use Rattle.status.specs.Reasons.{holds, reason_of}
 use Rattle.status.proofs.ByReason.{NoneHolds, by-reason, none_named, none-asks}
 use Rattle.laws.specs.Quiet.{later, NoneSeen}
 use Rattle.laws.specs.Altered.{altered, HalfHigh}
@@ -42,7 +42,7 @@ module _ (c : Chip) where
   flag-beside-enable B s = refl
 
   flag-right : (g : Group) (s : Side) → holds (altered c g s FlagWrong) g s FlagWrong ≡ false
-  unfolding flagOf
+  unfolding flag_of
   flag-right A Input = refl
   flag-right A Output = refl
   flag-right B Input = refl
@@ -77,7 +77,7 @@ high-where c g s there none =
 
 -- Where no reason behind the one that is given is seen, the half is high in the state with that one cause altered.
 pub would-be-high : (c : Chip) (g : Group) (s : Side) → strobed c.core.word g s ≡ true
-    → NoneSeen c g s (later (reasonOf c g s)) → HalfHigh (altered c g s (reasonOf c g s)) g s
+    → NoneSeen c g s (later (reason_of c g s)) → HalfHigh (altered c g s (reason_of c g s)) g s
 would-be-high c g s there =
     by-reason c g s (λ r. NoneSeen c g s (later r) → HalfHigh (altered c g s r) g s)
     (λ off none. high-where _ g s (still EnableOff) (record {

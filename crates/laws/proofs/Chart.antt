@@ -7,20 +7,20 @@ use Rattle.bits.specs.Bit.{bit_of}
 use Rattle.bits.proofs.Logic.{neither}
 use Rattle.control.specs.declared.Group.{Group}
 use Rattle.control.specs.declared.Group.TheVariants.{A, B}
-use Rattle.control.specs.Mode.{input_of, upperInput, lowerInput, directionsOf}
+use Rattle.control.specs.Mode.{input_of, upper_input, lower_input, directions_of}
 use Rattle.chip.specs.declared.Chip.{Chip}
-use Rattle.chip.specs.Handshakes.{ownAddress}
+use Rattle.chip.specs.Handshakes.{own_address}
 use Rattle.ports.specs.declared.Pins.{Pins}
-use Rattle.ports.specs.Pins.{pinsOf}
-use Rattle.laws.specs.PlainBits.{goesBothWays, handshake, into, used, intoC}
+use Rattle.ports.specs.Pins.{pins_of}
+use Rattle.laws.specs.PlainBits.{goes_both_ways, handshake, into, used, into_c}
 use Rattle.laws.specs.Chart.{LinesCharted, AsCharted}
 use Rattle.laws.proofs.PlainBits.{by-pin}
 use Rattle.laws.proofs.OneWay.{output-drives, input-undriven}
 use Rattle.laws.proofs.PortC.{line-driven}
 
-one_way : (w : ℕ) (g : Group) → handshake w g ≡ false → goesBothWays w g ≡ false
-one_way w A none = (neither (bit_of w 6) (bit_of w 5) none).0
-one_way w B none = refl
+one-way : (w : ℕ) (g : Group) → handshake w g ≡ false → goes_both_ways w g ≡ false
+one-way w A none = (neither (bit_of w 6) (bit_of w 5) none).0
+one-way w B none = refl
 
 -- No handshake uses a pin.
 none-on : (two one way : Bool) → two ≡ false → one ≡ false → (two || (one && way)) ≡ false
@@ -28,25 +28,25 @@ none-on two one way a b = rw (a, b)
 
 unused : (w : ℕ) → handshake w A ≡ false → handshake w B ≡ false → (n : ℕ) → n < 8 → used w n ≡ false
 unused w a b =
-    let taking = none-on (goesBothWays w A) (handshake w A) (into w A) (one_way w A a) a in
-    let giving = none-on (goesBothWays w A) (handshake w A) (not (into w A)) (one_way w A a) a in
+    let taking = none-on (goes_both_ways w A) (handshake w A) (into w A) (one-way w A a) a in
+    let giving = none-on (goes_both_ways w A) (handshake w A) (not (into w A)) (one-way w A a) a in
     by-pin (λ n. used w n ≡ false) b b b a taking taking giving giving
 
 module _ (c : Chip) where
   abbrev w : ℕ
   w = c.core.word
 
-  port-charted : (g : Group) (a : ℕ) → ownAddress a g ≡ true → handshake w g ≡ false → (pinsOf c a).driven ≡ cond (into w g) 0 0xff
+  port-charted : (g : Group) (a : ℕ) → own_address a g ≡ true → handshake w g ≡ false → (pins_of c a).driven ≡ cond (into w g) 0 0xff
   port-charted g a own none = go (into w g) refl
     where
-      go : (inward : Bool) → into w g ≡ inward → (pinsOf c a).driven ≡ cond inward 0 0xff
-      go true way = ap (λ (p : Pins). p.driven) (input-undriven c g a own (rw (one_way w g none, way))).shows
-      go false way = ap (λ (p : Pins). p.driven) (output-drives c g a own (rw (one_way w g none, way))).shows
+      go : (inward : Bool) → into w g ≡ inward → (pins_of c a).driven ≡ cond inward 0 0xff
+      go true way = ap (λ (p : Pins). p.driven) (input-undriven c g a own (rw (one-way w g none, way))).shows
+      go false way = ap (λ (p : Pins). p.driven) (output-drives c g a own (rw (one-way w g none, way))).shows
 
-  lines-charted : handshake w A ≡ false → handshake w B ≡ false → LinesCharted c (directionsOf w)
-  unfolding upperInput lowerInput
-  lines-charted a b n hn = line-driven c n hn ∙ rw (unused w a b n hn) (ap not (or-false (intoC w n)))
+  lines-charted : handshake w A ≡ false → handshake w B ≡ false → LinesCharted c (directions_of w)
+  unfolding upper_input lower_input
+  lines-charted a b n hn = line-driven c n hn ∙ rw (unused w a b n hn) (ap not (or-false (into_c w n)))
 
-  pub as-charted : handshake w A ≡ false → handshake w B ≡ false → AsCharted c (directionsOf w)
+  pub as-charted : handshake w A ≡ false → handshake w B ≡ false → AsCharted c (directions_of w)
   unfolding input_of
-  as-charted a b = record { portA = port-charted A 0 refl a; portB = port-charted B 1 refl b; lines = lines-charted a b }
+  as-charted a b = record { port_a = port-charted A 0 refl a; port_b = port-charted B 1 refl b; lines = lines-charted a b }

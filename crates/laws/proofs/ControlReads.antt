@@ -8,11 +8,11 @@ use native.Mathlib.Omega.{arith}
 use lib.Dec.{eqb, ltb, lit<}
 use borrow.Author.Tests.{ne_eqb, eqb-false}
 use Rattle.bits.proofs.BitLaws.{bit-of-with}
-use Rattle.events.specs.Kinds.{isKind}
+use Rattle.events.specs.Kinds.{is_kind}
 use Rattle.events.proofs.ByKind.{by_kind}
 use Rattle.bus.specs.declared.Phase.{Phase}
 use Rattle.bus.specs.declared.Phase.TheVariants.{Idle, Reading, Writing}
-use Rattle.bus.specs.Refusals.{isBusy, number_of}
+use Rattle.bus.specs.Refusals.{is_busy, number_of}
 use Rattle.control.specs.declared.Group.{Group}
 use Rattle.control.specs.declared.Group.TheVariants.{A, B}
 use Rattle.channel.specs.declared.Side.{Side}
@@ -22,9 +22,9 @@ use Rattle.chip.specs.declared.Edition.{Edition}
 use Rattle.chip.specs.declared.Edition.TheVariants.{Older, Newer}
 use Rattle.chip.specs.declared.Chip.{Chip}
 use Rattle.chip.specs.Handshakes.{running}
-use Rattle.reads.specs.Read.{afterReadBegins}
-use Rattle.ports.specs.Reads.{readControl, read_of}
-use Rattle.step.specs.Step.{limits, onBus, asStepped, step_of}
+use Rattle.reads.specs.Read.{after_read_begins}
+use Rattle.ports.specs.Reads.{read_control, read_of}
+use Rattle.step.specs.Step.{limits, on_bus, as_stepped, step_of}
 use Rattle.step.proofs.Outcome.{step-accepts, step-number, step-either}
 use Rattle.laws.specs.Editions.{ShowsAlike, ReadBack, ControlRead, ControlReadEnds}
 use Rattle.laws.proofs.Cycles.{facts, read-answers}
@@ -32,10 +32,10 @@ use Rattle.laws.proofs.ShowsAlike.{shows_alike}
 use Rattle.laws.proofs.Unreached.{read-of-no-port-ends}
 
 -- The byte that is read back is the mode word but for bit 7.
-read_back : (w : ℕ) → ReadBack (readControl w) w
-unfolding readControl
+read_back : (w : ℕ) → ReadBack (read_control w) w
+unfolding read_control
 read_back w = record {
-  modeBit = bit-of-with w 7 true 7 (lit< tt);
+  mode_bit = bit-of-with w 7 true 7 (lit< tt);
   others = λ n small. bit-of-with w 7 true n (omega (arith, small)) ∙ rw (ne_eqb n 7 (λ e. omega (arith, small, e)));
 }
 
@@ -48,22 +48,22 @@ no-own-cycle B Output = refl
 
 -- It begins on an idle bus, and moves nothing there.
 begins-idle : (ed : Edition) (ph : Phase) → number_of (limits ed) ph 1 3 ≡ 0 → ph ≡ Idle
-unfolding number_of isKind
+unfolding number_of is_kind
 begins-idle Older ph none = cc
 begins-idle Newer Idle none = refl
 begins-idle Newer (Reading p) none = cc
 begins-idle Newer (Writing a d) none = cc
 
-moves-nothing : (c : Core) → afterReadBegins c 3 ≡ c
-unfolding afterReadBegins
+moves-nothing : (c : Core) → after_read_begins c 3 ≡ c
+unfolding after_read_begins
 moves-nothing c = refl
 
 module _ (c : Chip) (d : ℕ) where
   accepted-where : (step_of c 1 3 d).number ≡ 0 → number_of (limits c.edition) c.phase 1 3 ≡ 0
   accepted-where ok = sym (step-number c 1 3 d) ∙ ok
 
-  bus-alone : (step_of c 1 3 d).number ≡ 0 → (step_of c 1 3 d).chip ≡ onBus (Reading 3) c.edition c.core
-  bus-alone ok = rw (step-accepts c 1 3 d (accepted-where ok)) (ap (λ (core : Core). onBus (Reading 3) c.edition core) (moves-nothing c.core))
+  bus-alone : (step_of c 1 3 d).number ≡ 0 → (step_of c 1 3 d).chip ≡ on_bus (Reading 3) c.edition c.core
+  bus-alone ok = rw (step-accepts c 1 3 d (accepted-where ok)) (ap (λ (core : Core). on_bus (Reading 3) c.edition core) (moves-nothing c.core))
 
   shows : ShowsAlike (step_of c 1 3 d).chip c
   shows = step-either (λ c'. ShowsAlike c' c) c 1 3 d
@@ -75,23 +75,23 @@ module _ (c : Chip) (d : ℕ) where
   pub control-read : ControlRead c d
   unfolding read_of step_of
   control-read = record {
-    older = λ old. ap asStepped (((facts c).at_place 3 d).notReadable (lit< tt) (rw (old) (omega arith)));
-    inCycle = λ new busy. ap asStepped (((facts c).at_place 3 d).readInCycle (lit< tt) (rw (new) (lit< tt)) busy);
-    begins = λ new. ((facts c).at_place 3 d).readBegins (lit< tt) (rw (new) (lit< tt));
+    older = λ old. ap as_stepped (((facts c).at_place 3 d).not_readable (lit< tt) (rw (old) (omega arith)));
+    in_cycle = λ new busy. ap as_stepped (((facts c).at_place 3 d).read_in_cycle (lit< tt) (rw (new) (lit< tt)) busy);
+    begins = λ new. ((facts c).at_place 3 d).read_begins (lit< tt) (rw (new) (lit< tt));
     answers = λ ok. subst (λ (b : ℕ). ReadBack b c.core.word) (sym (read-answers c 3 d ok)) (read_back c.core.word);
-    busAlone = bus-alone;
+    bus_alone = bus-alone;
     shows = shows;
   }
 
 -- No event is 3 in the newer edition.
 three-never : (ph : Phase) (k x : ℕ) → eqb (number_of (limits Newer) ph k x) 3 ≡ false
-unfolding number_of isKind
+unfolding number_of is_kind
 three-never ph k x =
     by_kind (λ k. eqb (number_of (limits Newer) ph k x) 3 ≡ false)
     refl
-    (reading (ltb x 4) (isBusy ph))
-    (ending (isBusy ph))
-    (writing (ltb x 4) (isBusy ph))
+    (reading (ltb x 4) (is_busy ph))
+    (ending (is_busy ph))
+    (writing (ltb x 4) (is_busy ph))
     (levels (ltb x 3))
     (λ k none. rw (none))
     k
@@ -124,6 +124,6 @@ pub control-read-ends : (c : Chip) (x d : ℕ) → c.phase ≡ Reading 3 → Con
 control-read-ends c x d phase =
     let ends = read-of-no-port-ends c 3 x d phase (lit< tt) in
     record {
-      busAlone = ends;
+      bus_alone = ends;
       shows = rw (ends) (shows_alike c.core Idle c.phase c.edition c.edition (λ g s. rw (phase) (sym (no-own-cycle g s))));
     }

@@ -4,9 +4,9 @@ use mathlib.Core.Path.{◌≡◌, ◌∙◌, refl, ap}
 use mathlib.Core.Bool.{true, false}
 use Prim.Native.Nat.{ℕ}
 use lib.ListN.{get_or}
-use Rattle.events.specs.Kinds.{noKind}
+use Rattle.events.specs.Kinds.{no_kind}
 use Rattle.bus.specs.declared.Phase.{Phase}
-use Rattle.bus.specs.Refusals.{limitsOf, row, rows, number_of}
+use Rattle.bus.specs.Refusals.{limits_of, row, rows, number_of}
 use Rattle.bus.specs.Facts.{Facts}
 use Rattle.bus.proofs.Facts as bus
 use Rattle.bus.proofs.Numbering as numbering
@@ -14,17 +14,17 @@ use Rattle.chip.specs.declared.Edition.{Edition}
 use Rattle.chip.specs.declared.Edition.TheVariants.{Older, Newer}
 use Rattle.chip.specs.declared.Chip.{Chip}
 use Rattle.ports.specs.Reads.{read_of}
-use Rattle.step.specs.Step.{limits, device, asStepped, refused, step_of}
+use Rattle.step.specs.Step.{limits, device, as_stepped, refused, step_of}
 use Rattle.step.proofs.Outcome.{step-refuses, step-number}
-use Rattle.laws.specs.Editions.{addressesRead}
+use Rattle.laws.specs.Editions.{addresses_read}
 
 -- There are four addresses and three ports; of the addresses three can be read, and of the newer edition all.
-in-numbers : (ed : Edition) → limits ed ≡ limitsOf 4 (addressesRead ed) 3
+in-numbers : (ed : Edition) → limits ed ≡ limits_of 4 (addresses_read ed) 3
 in-numbers Older = refl
 in-numbers Newer = refl
 
-pub facts : (c : Chip) → Facts device (limitsOf 4 (addressesRead c.edition) 3) c
-facts c = bus.facts device (limitsOf 4 (addressesRead c.edition) 3) c (in-numbers c.edition)
+pub facts : (c : Chip) → Facts device (limits_of 4 (addresses_read c.edition) 3) c
+facts c = bus.facts device (limits_of 4 (addresses_read c.edition) 3) c (in-numbers c.edition)
 
 -- In the step's own words: a refused event leaves the state as it was, and its byte is 00.
 pub refusal-changes-nothing : (c : Chip) (k x d : ℕ) → ¬ ((step_of c k x d).number ≡ 0) → step_of c k x d ≡ refused c (number_of (limits c.edition) c.phase k x)
@@ -33,13 +33,13 @@ refusal-changes-nothing c k x d h = step-refuses c k x d (λ e. h (step-number c
 -- A read that is accepted answers what a read there would have answered before it.
 pub read-answers : (c : Chip) (x d : ℕ) → (step_of c 1 x d).number ≡ 0 → (step_of c 1 x d).byte ≡ read_of c x
 unfolding step_of
-read-answers c x d = ((facts c).begins x d).readAnswers
+read-answers c x d = ((facts c).begins x d).read_answers
 
 -- An event that any row speaks of is refused.
 pub row-refuses : (ed : Edition) (ph : Phase) (k x j : ℕ) → (get_or (rows (limits ed) ph k x) j (row 0 false)).applies ≡ true → ¬ (number_of (limits ed) ph k x ≡ 0)
 row-refuses ed = numbering.row-refuses (limits ed)
 
 -- What is no kind is refused with 1, whatever its operands.
-pub no-kind-refused : (c : Chip) (k x d : ℕ) → noKind k ≡ true → step_of c k x d ≡ refused c 1
+pub no-kind-refused : (c : Chip) (k x d : ℕ) → no_kind k ≡ true → step_of c k x d ≡ refused c 1
 unfolding step_of
-no-kind-refused c k x d none = ap asStepped (numbering.no-kind-refused device c k x d none)
+no-kind-refused c k x d none = ap as_stepped (numbering.no-kind-refused device c k x d none)

@@ -6,43 +6,43 @@ use Prim.Native.Nat.{ℕ}
 use native.Mathlib.Omega.{arith}
 use lib.Dec.{eqb, ltb}
 use borrow.Author.Tests.{eqb-true, eqb-false, lt-ltb, ltb-true}
-use Rattle.events.specs.Kinds.{isKind}
+use Rattle.events.specs.Kinds.{is_kind}
 use Rattle.events.proofs.ByKind.{by_kind, no-kind-differs}
 use Rattle.bus.specs.declared.Phase.{Phase}
-use Rattle.bus.specs.Refusals.{isBusy, number_of}
-use Rattle.bus.specs.Device.{afterIn, byteIn}
+use Rattle.bus.specs.Refusals.{is_busy, number_of}
+use Rattle.bus.specs.Device.{after_in, byte_in}
 use Rattle.chip.specs.declared.Edition.{Edition}
 use Rattle.chip.specs.declared.Edition.TheVariants.{Older, Newer}
 use Rattle.chip.specs.declared.Chip.{Chip}
 use Rattle.step.specs.Step.{readable, limits, device, step_of}
 use Rattle.step.proofs.Outcome.{step-accepts, step-refuses, step-either}
-use Rattle.laws.specs.Editions.{asEdition, givenAs, readsControl, ShowsAlike}
+use Rattle.laws.specs.Editions.{as_edition, given_as, reads_control, ShowsAlike}
 use Rattle.laws.proofs.ShowsAlike.{shows_alike, read_same}
 
 -- The number of a read, by whether its address is there, whether it can be read, and whether a cycle runs.
-abbrev readNumber : Bool → Bool → Bool → ℕ
-readNumber there can busy = cond (not there || false) 2 (cond (not can) 3 (cond busy 4 0))
+abbrev read_number : Bool → Bool → Bool → ℕ
+read_number there can busy = cond (not there || false) 2 (cond (not can) 3 (cond busy 4 0))
 
 -- An address other than control can be read in the one edition where it can in the other, if it is there at all.
 same-readable : (ed other : Edition) (x : ℕ) (busy : Bool) → eqb x 3 ≡ false
-    → readNumber (ltb x 4) (ltb x (readable ed)) busy ≡ readNumber (ltb x 4) (ltb x (readable other)) busy
+    → read_number (ltb x 4) (ltb x (readable ed)) busy ≡ read_number (ltb x 4) (ltb x (readable other)) busy
 same-readable ed other x busy elsewhere = go (ltb x 4) refl
   where
     among : (ed : Edition) → ltb x 4 ≡ true → ltb x (readable ed) ≡ true
     among Older there = let below = ltb-true x 4 there in let off = eqb-false x 3 elsewhere in lt-ltb x 3 (omega (arith, below, off))
     among Newer there = there
 
-    go : (there : Bool) → ltb x 4 ≡ there → readNumber there (ltb x (readable ed)) busy ≡ readNumber there (ltb x (readable other)) busy
+    go : (there : Bool) → ltb x 4 ≡ there → read_number there (ltb x (readable ed)) busy ≡ read_number there (ltb x (readable other)) busy
     go true there = rw (among ed there, among other there)
     go false there = refl
 
 -- So the number of any event but the read of control is the same.
-same_number : (ed other : Edition) (ph : Phase) (k x : ℕ) → readsControl k x ≡ false → number_of (limits ed) ph k x ≡ number_of (limits other) ph k x
-unfolding number_of isKind
+same_number : (ed other : Edition) (ph : Phase) (k x : ℕ) → reads_control k x ≡ false → number_of (limits ed) ph k x ≡ number_of (limits other) ph k x
+unfolding number_of is_kind
 same_number ed other ph k x =
-    by_kind (λ k. readsControl k x ≡ false → number_of (limits ed) ph k x ≡ number_of (limits other) ph k x)
+    by_kind (λ k. reads_control k x ≡ false → number_of (limits ed) ph k x ≡ number_of (limits other) ph k x)
     (λ elsewhere. refl)
-    (λ elsewhere. same-readable ed other x (isBusy ph) elsewhere)
+    (λ elsewhere. same-readable ed other x (is_busy ph) elsewhere)
     (λ elsewhere. refl)
     (λ elsewhere. refl)
     (λ elsewhere. refl)
@@ -50,10 +50,10 @@ same_number ed other ph k x =
     k
 
 -- What an accepted event leaves, and the byte that it gives, do not ask for the edition.
-same_after : (ed : Edition) (c : Chip) (k x d : ℕ) → afterIn device (asEdition ed c) k x d ≡ asEdition ed (afterIn device c k x d)
-unfolding isKind
+same_after : (ed : Edition) (c : Chip) (k x d : ℕ) → after_in device (as_edition ed c) k x d ≡ as_edition ed (after_in device c k x d)
+unfolding is_kind
 same_after ed c k x d =
-    by_kind (λ k. afterIn device (asEdition ed c) k x d ≡ asEdition ed (afterIn device c k x d))
+    by_kind (λ k. after_in device (as_edition ed c) k x d ≡ as_edition ed (after_in device c k x d))
     refl
     refl
     refl
@@ -62,31 +62,31 @@ same_after ed c k x d =
     (λ k none. rw (no-kind-differs k 0 none refl, no-kind-differs k 1 none refl, no-kind-differs k 2 none refl, no-kind-differs k 3 none refl))
     k
 
-same_byte : (ed : Edition) (c : Chip) (k x : ℕ) → byteIn device (asEdition ed c) k x ≡ byteIn device c k x
+same_byte : (ed : Edition) (c : Chip) (k x : ℕ) → byte_in device (as_edition ed c) k x ≡ byte_in device c k x
 same_byte ed c k x = ap (λ (b : ℕ). cond (eqb k 1) b 0) (read_same c.core c.phase c.phase ed c.edition (λ g s. refl) x)
 
 -- In the one edition any event but the read of control gives what it gives in the other.
-pub editions-alike : (ed : Edition) (c : Chip) (k x d : ℕ) → readsControl k x ≡ false
-    → step_of (asEdition ed c) k x d ≡ givenAs ed (step_of c k x d)
+pub editions-alike : (ed : Edition) (c : Chip) (k x d : ℕ) → reads_control k x ≡ false
+    → step_of (as_edition ed c) k x d ≡ given_as ed (step_of c k x d)
 editions-alike ed c k x d elsewhere = go (eqb (number_of (limits c.edition) c.phase k x) 0) refl
   where
     same : number_of (limits ed) c.phase k x ≡ number_of (limits c.edition) c.phase k x
     same = same_number ed c.edition c.phase k x elsewhere
 
-    go : (ok : Bool) → eqb (number_of (limits c.edition) c.phase k x) 0 ≡ ok → step_of (asEdition ed c) k x d ≡ givenAs ed (step_of c k x d)
+    go : (ok : Bool) → eqb (number_of (limits c.edition) c.phase k x) 0 ≡ ok → step_of (as_edition ed c) k x d ≡ given_as ed (step_of c k x d)
     go true ok =
         let zero = eqb-true _ _ ok in
-        rw (step-accepts (asEdition ed c) k x d (same ∙ zero), step-accepts c k x d zero, same_after ed c k x d, same_byte ed c k x)
+        rw (step-accepts (as_edition ed c) k x d (same ∙ zero), step-accepts c k x d zero, same_after ed c k x d, same_byte ed c k x)
     go false ok =
-        rw (step-refuses (asEdition ed c) k x d (λ e. eqb-false _ _ ok (sym same ∙ e)), step-refuses c k x d (eqb-false _ _ ok), same)
+        rw (step-refuses (as_edition ed c) k x d (λ e. eqb-false _ _ ok (sym same ∙ e)), step-refuses c k x d (eqb-false _ _ ok), same)
 
 -- Nor is the edition seen at the pins, in the answers, in the tallies or in what is said of the interrupts.
-pub edition-unseen : (ed : Edition) (c : Chip) → ShowsAlike (asEdition ed c) c
+pub edition-unseen : (ed : Edition) (c : Chip) → ShowsAlike (as_edition ed c) c
 edition-unseen ed c = shows_alike c.core c.phase c.phase ed c.edition (λ g s. refl)
 
 -- No event changes it.
 pub edition-stays : (c : Chip) (k x d : ℕ) → (step_of c k x d).chip.edition ≡ c.edition
 edition-stays c k x d = step-either (λ c'. c'.edition ≡ c.edition) c k x d refl (λ ok. kept)
   where
-    kept : (afterIn device c k x d).edition ≡ c.edition
+    kept : (after_in device c k x d).edition ≡ c.edition
     kept = ap (λ (c' : Chip). c'.edition) (same_after c.edition c k x d)

@@ -15,14 +15,14 @@ pub enables-stay : (c : Chip) (k x d : ℕ) → ¬ (k ≡ 0) → (k ≡ 2 → co
 enables-stay c k x d reset command = by-event (λ c'. c'.core.inte ≡ c.core.inte) c k x d (record {
   stays = refl;
   reset = λ zero. absurd (reset zero);
-  readBegins = λ one ok. begun-enables c.core x;
+  read_begins = λ one ok. begun-enables c.core x;
   ends = λ two. record {
     read = λ p phase. ended-enables c.core p;
-    modeWord = λ w phase seven. absurd (contrary (commands c.phase) (command two) (ap commands phase));
-    bitWord = λ w phase seven. absurd (contrary (commands c.phase) (command two) (ap commands phase));
+    mode_word = λ w phase seven. absurd (contrary (commands c.phase) (command two) (ap commands phase));
+    bit_word = λ w phase seven. absurd (contrary (commands c.phase) (command two) (ap commands phase));
     lines = λ b phase. refl;
     port = λ a b phase c' stored. stored.enables;
   };
-  writeBegins = λ three ok. refl;
+  write_begins = λ three ok. refl;
   levels = λ five ok. levels-enables c.core x d;
 })

@@ -11,13 +11,13 @@ use Rattle.channel.specs.declared.Side.{Side}
 use Rattle.channel.specs.declared.Side.TheVariants.{Input, Output}
 use Rattle.channel.specs.declared.Fill.TheVariants.{Empty}
 use Rattle.channel.specs.declared.Channel.{Channel}
-use Rattle.channel.specs.Moves.{afterFollow, afterHandOver}
+use Rattle.channel.specs.Moves.{after_follow, after_hand_over}
 use Rattle.channel.proofs.ConditionsLeft.{follow-stays, follow-counts, hand-over-keeps}
 use Rattle.chip.specs.declared.Core.{Core}
 use Rattle.chip.specs.declared.Chip.{Chip}
-use Rattle.chip.specs.State.{channelOf}
-use Rattle.chip.specs.Handshakes.{strobed, linePin, ownAddress}
-use Rattle.levels.specs.Levels.{fallen, lineFalls, letsThrough, afterLevels}
+use Rattle.chip.specs.State.{channel_of}
+use Rattle.chip.specs.Handshakes.{strobed, line_pin, own_address}
+use Rattle.levels.specs.Levels.{fallen, line_falls, lets_through, after_levels}
 use Rattle.levels.proofs.PortsAfter.{levels-input, levels-output}
 use Rattle.step.specs.Step.{step_of}
 use Rattle.step.proofs.Outcome.{step-either}
@@ -28,14 +28,14 @@ pub kept : {before after : Channel} → after ≡ before → Kept before after
 kept same = record { fill = ap (λ ch. ch.fill) same; tally = ap (λ ch. ch.tally) same }
 
 -- So is one whose line does not fall, whether or not its latch follows.
-pub levels-kept : (c : Core) (g : Group) (s : Side) (x d : ℕ) → (eqb x 2 && lineFalls c d g s) ≡ false
-    → Kept (channelOf c g s) (channelOf (afterLevels c x d) g s)
-levels-kept c g Input x d still = rw (levels-input c x d g, still) (go (ownAddress x g && letsThrough c g))
+pub levels-kept : (c : Core) (g : Group) (s : Side) (x d : ℕ) → (eqb x 2 && line_falls c d g s) ≡ false
+    → Kept (channel_of c g s) (channel_of (after_levels c x d) g s)
+levels-kept c g Input x d still = rw (levels-input c x d g, still) (go (own_address x g && lets_through c g))
   where
     channel : Channel
-    channel = channelOf c g Input
+    channel = channel_of c g Input
 
-    go : (through : Bool) → Kept channel (cond through (afterFollow channel d) channel)
+    go : (through : Bool) → Kept channel (cond through (after_follow channel d) channel)
     go true = record { fill = follow-stays channel d; tally = follow-counts channel d }
     go false = kept refl
 levels-kept c g Output x d still = kept (levels-output c x d g ∙ rw (still))
@@ -45,22 +45,22 @@ unless : (lines on fell : Bool) → (lines && fell) ≡ false → (lines && (on 
 unless true on fell still = rw (still) (and-false on)
 unless false on fell still = refl
 
-pub only-a-fall : (c : Chip) (g : Group) (s : Side) (x d : ℕ) → (eqb x 2 && fallen c.core.c.outside d (linePin g s)) ≡ false
-    → Kept (channelOf c.core g s) (channelOf (step_of c 5 x d).chip.core g s)
+pub only-a-fall : (c : Chip) (g : Group) (s : Side) (x d : ℕ) → (eqb x 2 && fallen c.core.c.outside d (line_pin g s)) ≡ false
+    → Kept (channel_of c.core g s) (channel_of (step_of c 5 x d).chip.core g s)
 only-a-fall c g s x d still =
-    step-either (λ c'. Kept (channelOf c.core g s) (channelOf c'.core g s)) c 5 x d (kept refl)
-    (λ ok. levels-kept c.core g s x d (unless (eqb x 2) (strobed c.core.word g s) (fallen c.core.c.outside d (linePin g s)) still))
+    step-either (λ c'. Kept (channel_of c.core g s) (channel_of c'.core g s)) c 5 x d (kept refl)
+    (λ ok. levels-kept c.core g s x d (unless (eqb x 2) (strobed c.core.word g s) (fallen c.core.c.outside d (line_pin g s)) still))
 
 -- No levels touch an output's latch, nor does the fall of ACK.
-pub given-latch : (c : Core) (g : Group) (x d : ℕ) → (channelOf (afterLevels c x d) g Output).latch ≡ (channelOf c g Output).latch
+pub given-latch : (c : Core) (g : Group) (x d : ℕ) → (channel_of (after_levels c x d) g Output).latch ≡ (channel_of c g Output).latch
 given-latch c g x d =
-    let channel = channelOf c g Output in
+    let channel = channel_of c g Output in
     ap (λ ch. ch.latch) (levels-output c x d g)
-    ∙ either_way (λ ch. ch.latch) channel.latch (eqb x 2 && lineFalls c d g Output) (afterHandOver channel Empty) channel
+    ∙ either_way (λ ch. ch.latch) channel.latch (eqb x 2 && line_falls c d g Output) (after_hand_over channel Empty) channel
     (hand-over-keeps channel Empty) refl
 
 pub output-latch-stays : (c : Chip) (g : Group) (x d : ℕ)
-    → (channelOf (step_of c 5 x d).chip.core g Output).latch ≡ (channelOf c.core g Output).latch
+    → (channel_of (step_of c 5 x d).chip.core g Output).latch ≡ (channel_of c.core g Output).latch
 output-latch-stays c g x d =
-    step-either (λ c'. (channelOf c'.core g Output).latch ≡ (channelOf c.core g Output).latch) c 5 x d refl
+    step-either (λ c'. (channel_of c'.core g Output).latch ≡ (channel_of c.core g Output).latch) c 5 x d refl
     (λ ok. given-latch c.core g x d)

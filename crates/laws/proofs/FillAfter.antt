@@ -10,31 +10,31 @@ use Rattle.bits.proofs.Logic.{both}
 use Rattle.bus.specs.declared.Phase.{Phase}
 use Rattle.bus.specs.declared.Phase.TheVariants.{Reading, Writing}
 use Rattle.control.specs.declared.Group.{Group}
-use Rattle.control.specs.Mode.{strobedInput, strobedOutput, outputOf}
+use Rattle.control.specs.Mode.{strobed_input, strobed_output, output_of}
 use Rattle.channel.specs.declared.Side.{Side}
 use Rattle.channel.specs.declared.Side.TheVariants.{Input, Output}
 use Rattle.channel.specs.declared.Fill.{Fill}
 use Rattle.channel.specs.declared.Fill.TheVariants.{Empty, Waiting, Fetching}
 use Rattle.channel.specs.declared.Channel.{Channel}
-use Rattle.channel.specs.Moves.{afterOffer, afterFollow, afterHandOver, afterEndRead, afterForce}
-use Rattle.channel.proofs.ConditionsLeft.{leaves, forcedTo, offer-waits, follow-stays, hand-over-leaves, end-read-empties, clear-empties, force-leaves}
+use Rattle.channel.specs.Moves.{after_offer, after_follow, after_hand_over, after_end_read, after_force}
+use Rattle.channel.proofs.ConditionsLeft.{leaves, forced_to, offer-waits, follow-stays, hand-over-leaves, end-read-empties, clear-empties, force-leaves}
 use Rattle.chip.specs.declared.Core.{Core}
 use Rattle.chip.specs.declared.Chip.{Chip}
-use Rattle.chip.specs.State.{powerUpWord, portOf, channelOf}
-use Rattle.chip.specs.Handshakes.{ownAddress, strobed, flagPin, running}
+use Rattle.chip.specs.State.{power_up_word, port_of, channel_of}
+use Rattle.chip.specs.Handshakes.{own_address, strobed, flag_pin, running}
 use Rattle.chip.proofs.Surrounded.{Spared, latch-spares, spared-channel}
-use Rattle.settings.specs.ModeWord.{afterModeWord}
-use Rattle.settings.specs.ControlWord.{afterControlWord}
-use Rattle.settings.proofs.Flags.{flagAtPin}
+use Rattle.settings.specs.ModeWord.{after_mode_word}
+use Rattle.settings.specs.ControlWord.{after_control_word}
+use Rattle.settings.proofs.Flags.{flag_at_pin}
 use Rattle.settings.proofs.PortsAfter.{mode-word-channel, bit-put}
-use Rattle.reads.specs.Read.{afterReadBegins, afterReadEnds}
+use Rattle.reads.specs.Read.{after_read_begins, after_read_ends}
 use Rattle.reads.proofs.PortsAfter.{begun-input, begun-output, ended-input, ended-output}
-use Rattle.writes.specs.Write.{storedIn}
+use Rattle.writes.specs.Write.{stored_in}
 use Rattle.writes.proofs.PortsAfter.{Stored}
-use Rattle.levels.specs.Levels.{lineFalls, letsThrough, afterLevels}
+use Rattle.levels.specs.Levels.{line_falls, lets_through, after_levels}
 use Rattle.levels.proofs.PortsAfter.{levels-input, levels-output}
 use Rattle.step.specs.Step.{step_of}
-use Rattle.laws.specs.Seen.{makesAnew, puts}
+use Rattle.laws.specs.Seen.{makes_anew, puts}
 use Rattle.laws.proofs.ByEvent.{by-event}
 
 -- What the beginning of the port's read, the end of the channel's own cycle, and the fall of its line leave.
@@ -52,13 +52,13 @@ fell Output f = leaves f Empty
 
 -- What is so of the condition as it is, and of what each event that concerns the channel leaves.
 pub record FillThrough (P : Fill → Type 0) (c : Chip) (g : Group) (s : Side) (k x d : ℕ) : Type 0 where
-  pub stays : P (channelOf c.core g s).fill
+  pub stays : P (channel_of c.core g s).fill
   pub reset : k ≡ 0 → P Empty
-  pub renewal : k ≡ 2 → makesAnew c.phase ≡ true → P Empty
-  pub begins : k ≡ 1 → ownAddress x g ≡ true → P (begun s (channelOf c.core g s).fill)
+  pub renewal : k ≡ 2 → makes_anew c.phase ≡ true → P Empty
+  pub begins : k ≡ 1 → own_address x g ≡ true → P (begun s (channel_of c.core g s).fill)
   pub ends : k ≡ 2 → running c.phase g s ≡ true → P (done s)
-  pub forced : k ≡ 2 → (v : Bool) → puts c.phase (flagPin g s) v ≡ true → P (forcedTo s v (channelOf c.core g s).fill)
-  pub falls : k ≡ 5 → (eqb x 2 && lineFalls c.core d g s) ≡ true → P (fell s (channelOf c.core g s).fill)
+  pub forced : k ≡ 2 → (v : Bool) → puts c.phase (flag_pin g s) v ≡ true → P (forced_to s v (channel_of c.core g s).fill)
+  pub falls : k ≡ 5 → (eqb x 2 && line_falls c.core d g s) ≡ true → P (fell s (channel_of c.core g s).fill)
 
 -- It is so of what each kind of event leaves.
 module _ (P : Fill → Type 0) where
@@ -68,60 +68,60 @@ module _ (P : Fill → Type 0) where
 
   module _ (c : Core) (g : Group) where
     abbrev input : Channel
-    input = channelOf c g Input
+    input = channel_of c g Input
 
     abbrev output : Channel
-    output = channelOf c g Output
+    output = channel_of c g Output
 
-    after-mode-word : (s : Side) (w : ℕ) → P Empty → P (channelOf (afterModeWord c w) g s).fill
-    after-mode-word s w empty = rw (mode-word-channel c w g s, clear-empties (channelOf c g s)) (empty)
+    after-mode-word : (s : Side) (w : ℕ) → P Empty → P (channel_of (after_mode_word c w) g s).fill
+    after-mode-word s w empty = rw (mode-word-channel c w g s, clear-empties (channel_of c g s)) (empty)
 
-    pub after-begin : (s : Side) (x : ℕ) → P (channelOf c g s).fill → (ownAddress x g ≡ true → P (begun s (channelOf c g s).fill))
-        → P (channelOf (afterReadBegins c x) g s).fill
+    pub after-begin : (s : Side) (x : ℕ) → P (channel_of c g s).fill → (own_address x g ≡ true → P (begun s (channel_of c g s).fill))
+        → P (channel_of (after_read_begins c x) g s).fill
     after-begin Input x stays begins =
         rw (begun-input c x g)
-        (one_of (strobedInput c.word g && ownAddress x g) (afterHandOver input Fetching) input
-        (λ on. rw (hand-over-leaves input Fetching) (begins (both (strobedInput c.word g) (ownAddress x g) on).1)) stays)
+        (one_of (strobed_input c.word g && own_address x g) (after_hand_over input Fetching) input
+        (λ on. rw (hand-over-leaves input Fetching) (begins (both (strobed_input c.word g) (own_address x g) on).1)) stays)
     after-begin Output x stays begins = rw (begun-output c x g) (stays)
 
-    pub after_read : (s : Side) (x : ℕ) → P (channelOf c g s).fill → (running (Reading x) g s ≡ true → P (done s)) → P (channelOf (afterReadEnds c x) g s).fill
+    pub after_read : (s : Side) (x : ℕ) → P (channel_of c g s).fill → (running (Reading x) g s ≡ true → P (done s)) → P (channel_of (after_read_ends c x) g s).fill
     after_read Input x stays ends =
         rw (ended-input c x g)
-        (one_of (strobedInput c.word g && ownAddress x g) (afterEndRead input) input
-        (λ on. rw (end-read-empties input) (ends (both (strobedInput c.word g) (ownAddress x g) on).1)) stays)
+        (one_of (strobed_input c.word g && own_address x g) (after_end_read input) input
+        (λ on. rw (end-read-empties input) (ends (both (strobed_input c.word g) (own_address x g) on).1)) stays)
     after_read Output x stays ends = rw (ended-output c x g) (stays)
 
-    pub after_store : (s : Side) (x d : ℕ) (c' : Core) → Stored c' c x d → P (channelOf c g s).fill → (running (Writing x d) g s ≡ true → P (done s))
-        → P (channelOf c' g s).fill
+    pub after_store : (s : Side) (x d : ℕ) (c' : Core) → Stored c' c x d → P (channel_of c g s).fill → (running (Writing x d) g s ≡ true → P (done s))
+        → P (channel_of c' g s).fill
     after_store Input x d c' k stays ends = rw (k.input g) (stays)
     after_store Output x d c' k stays ends =
-        let stored = storedIn output (strobedOutput c.word g) d in
+        let stored = stored_in output (strobed_output c.word g) d in
         rw (k.output g)
-        (one_of (ownAddress x g) (cond (outputOf c.word g) stored output) output
-        (λ own. one_of (outputOf c.word g) stored output
-        (λ out. one_of (strobedOutput c.word g) (afterOffer output d) _ (λ on. rw (offer-waits output d) (ends own)) stays) stays) stays)
+        (one_of (own_address x g) (cond (output_of c.word g) stored output) output
+        (λ own. one_of (output_of c.word g) stored output
+        (λ out. one_of (strobed_output c.word g) (after_offer output d) _ (λ on. rw (offer-waits output d) (ends own)) stays) stays) stays)
 
-    after-spared : (s : Side) (c' : Core) → Spared c' c → P (channelOf c g s).fill → P (channelOf c' g s).fill
+    after-spared : (s : Side) (c' : Core) → Spared c' c → P (channel_of c g s).fill → P (channel_of c' g s).fill
     after-spared s c' k stays = rw (spared-channel k g s) (stays)
 
-    after-put : (s : Side) (w : ℕ) → bit_of w 7 ≡ false → P (channelOf c g s).fill
-        → (eqb (w / 2 % 8) (flagPin g s) ≡ true → P (forcedTo s (bit_of w 0) (channelOf c g s).fill)) → P (channelOf (afterControlWord c w) g s).fill
+    after-put : (s : Side) (w : ℕ) → bit_of w 7 ≡ false → P (channel_of c g s).fill
+        → (eqb (w / 2 % 8) (flag_pin g s) ≡ true → P (forced_to s (bit_of w 0) (channel_of c g s).fill)) → P (channel_of (after_control_word c w) g s).fill
     after-put s w seven stays forced =
         let n = w / 2 % 8 in
         rw ((bit-put c w seven).channel g s)
-        (one_of (flagAtPin c.word g s n) (afterForce s (bit_of w 0) (channelOf c g s)) (channelOf c g s)
-        (λ on. rw (force-leaves s (bit_of w 0) (channelOf c g s)) (forced (both (strobed c.word g s) (eqb n (flagPin g s)) on).1)) stays)
+        (one_of (flag_at_pin c.word g s n) (after_force s (bit_of w 0) (channel_of c g s)) (channel_of c g s)
+        (λ on. rw (force-leaves s (bit_of w 0) (channel_of c g s)) (forced (both (strobed c.word g s) (eqb n (flag_pin g s)) on).1)) stays)
 
-    after-levels : (s : Side) (x d : ℕ) → P (channelOf c g s).fill → ((eqb x 2 && lineFalls c d g s) ≡ true → P (fell s (channelOf c g s).fill))
-        → P (channelOf (afterLevels c x d) g s).fill
+    after-levels : (s : Side) (x d : ℕ) → P (channel_of c g s).fill → ((eqb x 2 && line_falls c d g s) ≡ true → P (fell s (channel_of c g s).fill))
+        → P (channel_of (after_levels c x d) g s).fill
     after-levels Input x d stays falls =
-        let levels = (portOf c g).outside in
+        let levels = (port_of c g).outside in
         rw (levels-input c x d g)
-        (one_of (eqb x 2 && lineFalls c d g Input) (afterOffer input levels) _ (λ on. rw (offer-waits input levels) (falls on))
-        (one_of (ownAddress x g && letsThrough c g) (afterFollow input d) input (λ on. rw (follow-stays input d) (stays)) stays))
+        (one_of (eqb x 2 && line_falls c d g Input) (after_offer input levels) _ (λ on. rw (offer-waits input levels) (falls on))
+        (one_of (own_address x g && lets_through c g) (after_follow input d) input (λ on. rw (follow-stays input d) (stays)) stays))
     after-levels Output x d stays falls =
         rw (levels-output c x d g)
-        (one_of (eqb x 2 && lineFalls c d g Output) (afterHandOver output Empty) output (λ on. rw (hand-over-leaves output Empty) (falls on)) stays)
+        (one_of (eqb x 2 && line_falls c d g Output) (after_hand_over output Empty) output (λ on. rw (hand-over-leaves output Empty) (falls on)) stays)
 
 -- A write of bit set/reset runs that names the pin.
 pub puts-here : (ph : Phase) (w : ℕ) → ph ≡ Writing 3 w → bit_of w 7 ≡ false → (n : ℕ) → eqb (w / 2 % 8) n ≡ true → puts ph n (bit_of w 0) ≡ true
@@ -133,18 +133,18 @@ puts-here ph w phase seven n named = rw (phase, seven, named) (same (bit_of w 0)
 
 -- So it is so after any event.
 pub fill-by-event : (P : Fill → Type 0) (c : Chip) (g : Group) (s : Side) (k x d : ℕ) → FillThrough P c g s k x d
-    → P (channelOf (step_of c k x d).chip.core g s).fill
-fill-by-event P c g s k x d t = by-event (λ c'. P (channelOf c'.core g s).fill) c k x d (record {
+    → P (channel_of (step_of c k x d).chip.core g s).fill
+fill-by-event P c g s k x d t = by-event (λ c'. P (channel_of c'.core g s).fill) c k x d (record {
   stays = t.stays;
-  reset = λ zero. after-mode-word P c.core g s powerUpWord (t.reset zero);
-  readBegins = λ one ok. after-begin P c.core g s x t.stays (t.begins one);
+  reset = λ zero. after-mode-word P c.core g s power_up_word (t.reset zero);
+  read_begins = λ one ok. after-begin P c.core g s x t.stays (t.begins one);
   ends = λ two. record {
     read = λ p phase. after_read P c.core g s p t.stays (λ own. t.ends two (ap (λ ph. running ph g s) phase ∙ own));
-    modeWord = λ w phase seven. after-mode-word P c.core g s w (t.renewal two (ap makesAnew phase ∙ seven));
-    bitWord = λ w phase seven. after-put P c.core g s w seven t.stays (λ named. t.forced two (bit_of w 0) (puts-here c.phase w phase seven (flagPin g s) named));
+    mode_word = λ w phase seven. after-mode-word P c.core g s w (t.renewal two (ap makes_anew phase ∙ seven));
+    bit_word = λ w phase seven. after-put P c.core g s w seven t.stays (λ named. t.forced two (bit_of w 0) (puts-here c.phase w phase seven (flag_pin g s) named));
     lines = λ b phase. after-spared P c.core g s _ (latch-spares c.core _) t.stays;
     port = λ a b phase c' stored. after_store P c.core g s a b c' stored t.stays (λ own. t.ends two (ap (λ ph. running ph g s) phase ∙ own));
   };
-  writeBegins = λ three ok. t.stays;
+  write_begins = λ three ok. t.stays;
   levels = λ five ok. after-levels P c.core g s x d t.stays (t.falls five);
 })

@@ -6,37 +6,37 @@ use mathlib.Core.Bool.{true, false, ◌&&◌}
 use Prim.Native.Nat.{ℕ}
 use lib.Dec.{eqb}
 use Rattle.bits.specs.Bit.{bit_of}
-use Rattle.events.specs.Kinds.{isKind}
+use Rattle.events.specs.Kinds.{is_kind}
 use Rattle.bus.specs.Refusals.{number_of}
 use Rattle.bus.specs.declared.Phase.{Phase}
 use Rattle.control.specs.declared.Group.{Group}
 use Rattle.channel.specs.declared.Side.{Side}
 use Rattle.chip.specs.declared.Edition.{Edition}
 use Rattle.chip.specs.declared.Chip.{Chip}
-use Rattle.chip.specs.Handshakes.{strobed, linePin, flagPin}
-use Rattle.status.specs.Status.{flagAt}
-use Rattle.levels.specs.Levels.{fallen, lineFalls}
+use Rattle.chip.specs.Handshakes.{strobed, line_pin, flag_pin}
+use Rattle.status.specs.Status.{flag_at}
+use Rattle.levels.specs.Levels.{fallen, line_falls}
 use Rattle.step.specs.Step.{limits}
 use Rattle.laws.specs.Seen.{pin, lowers}
 use Rattle.laws.proofs.ChannelPins.{flag-pin, line-pin}
 
 -- The flag of a chip whose mode word is that of another, which strobes the channel.
 pub flag-under : (c c' : Chip) (g : Group) (s : Side) → strobed c.core.word g s ≡ true
-    → c'.core.word ≡ c.core.word → pin c' (flagPin g s) ≡ flagAt c'.core g s
+    → c'.core.word ≡ c.core.word → pin c' (flag_pin g s) ≡ flag_at c'.core g s
 flag-under c c' g s on same =
     flag-pin c' g s (subst (λ (w : ℕ). strobed w g s ≡ true) (sym same) on)
 
 -- A line that falls, as the pins show it.
 pub line-falls : (c : Chip) (g : Group) (s : Side) (d : ℕ) → strobed c.core.word g s ≡ true
-    → pin c (linePin g s) ≡ true → bit_of d (linePin g s) ≡ false → lineFalls c.core d g s ≡ true
+    → pin c (line_pin g s) ≡ true → bit_of d (line_pin g s) ≡ false → line_falls c.core d g s ≡ true
 unfolding fallen
 line-falls c g s d on high low = rw (on, sym (line-pin c g s on) ∙ high, low)
 
 pub seen-falls : (c : Chip) (g : Group) (s : Side) (x d : ℕ) → strobed c.core.word g s ≡ true
-    → (eqb x 2 && lineFalls c.core d g s) ≡ lowers c g s x d
+    → (eqb x 2 && line_falls c.core d g s) ≡ lowers c g s x d
 unfolding fallen
 seen-falls c g s x d on = rw (on, line-pin c g s on)
 
 pub levels-accepted : (ed : Edition) (ph : Phase) → number_of (limits ed) ph 5 2 ≡ 0
-unfolding number_of isKind
+unfolding number_of is_kind
 levels-accepted ed ph = refl

@@ -13,24 +13,24 @@ use Rattle.channel.specs.declared.Side.TheVariants.{Input, Output}
 use Rattle.channel.specs.declared.Fill.{Fill}
 use Rattle.channel.specs.declared.Fill.TheVariants.{Empty, Waiting, Fetching}
 use Rattle.channel.specs.declared.Channel.{Channel}
-use Rattle.channel.specs.Channel.{flagOf, hasRoom}
-use Rattle.channel.specs.Moves.{afterPlant, afterStrike, afterForce}
-use Rattle.channel.proofs.ConditionsLeft.{forcedTo, force-leaves, force-keeps}
+use Rattle.channel.specs.Channel.{flag_of, has_room}
+use Rattle.channel.specs.Moves.{after_plant, after_strike, after_force}
+use Rattle.channel.proofs.ConditionsLeft.{forced_to, force-leaves, force-keeps}
 use Rattle.chip.specs.declared.Chip.{Chip}
-use Rattle.chip.specs.State.{channelOf}
-use Rattle.chip.specs.Handshakes.{strobed, flagPin}
-use Rattle.settings.specs.ControlWord.{afterControlWord}
+use Rattle.chip.specs.State.{channel_of}
+use Rattle.chip.specs.Handshakes.{strobed, flag_pin}
+use Rattle.settings.specs.ControlWord.{after_control_word}
 use Rattle.settings.proofs.PortsAfter.{bit-put}
-use Rattle.writes.specs.Write.{afterWriteEnds}
+use Rattle.writes.specs.Write.{after_write_ends}
 use Rattle.step.specs.Step.{step_of}
 use Rattle.step.proofs.Ends.{write-ends}
-use Rattle.laws.specs.Forcing.{forcedLevel, countedByFlag, Forced}
+use Rattle.laws.specs.Forcing.{forced_level, counted_by_flag, Forced}
 use Rattle.laws.proofs.ChannelPins.{flag-pin}
 use Rattle.laws.proofs.FlagAfter.{flag-under}
 
 -- The flag of a channel that was forced, by the condition that it had.
-pub forced-flag : (s : Side) (v : Bool) (f : Fill) → flagOf s (forcedTo s v f) ≡ forcedLevel s v f
-unfolding flagOf
+pub forced-flag : (s : Side) (v : Bool) (f : Fill) → flag_of s (forced_to s v f) ≡ forced_level s v f
+unfolding flag_of
 forced-flag Input true Empty = refl
 forced-flag Input true Waiting = refl
 forced-flag Input true Fetching = refl
@@ -45,12 +45,12 @@ forced-flag Output false Waiting = refl
 forced-flag Output false Fetching = refl
 
 -- What it counts.
-forced-counts : (s : Side) (v : Bool) (ch : Channel) → (afterForce s v ch).tally ≡ countedByFlag s (flagOf s ch.fill) (flagOf s (afterForce s v ch).fill) ch.tally
-unfolding afterForce afterPlant afterStrike hasRoom flagOf
+forced-counts : (s : Side) (v : Bool) (ch : Channel) → (after_force s v ch).tally ≡ counted_by_flag s (flag_of s ch.fill) (flag_of s (after_force s v ch).fill) ch.tally
+unfolding after_force after_plant after_strike has_room flag_of
 forced-counts s v ch = go s v ch.fill refl
   where
     Counts : Side → Bool → Type 0
-    Counts s v = (afterForce s v ch).tally ≡ countedByFlag s (flagOf s ch.fill) (flagOf s (afterForce s v ch).fill) ch.tally
+    Counts s v = (after_force s v ch).tally ≡ counted_by_flag s (flag_of s ch.fill) (flag_of s (after_force s v ch).fill) ch.tally
 
     go : (s : Side) (v : Bool) (f : Fill) → ch.fill ≡ f → Counts s v
     go Input true Empty e = rw (e)
@@ -68,18 +68,18 @@ forced-counts s v ch = go s v ch.fill refl
 
 module _ (c : Chip) (g : Group) (s : Side) (on : strobed c.core.word g s ≡ true) where
   abbrev channel : Channel
-  channel = channelOf c.core g s
+  channel = channel_of c.core g s
 
   -- The end of a write of bit set/reset that names the pin of the channel's flag.
-  pub forced : (b x d : ℕ) → c.phase ≡ Writing 3 b → bit_of b 7 ≡ false → eqb (b / 2 % 8) (flagPin g s) ≡ true
+  pub forced : (b x d : ℕ) → c.phase ≡ Writing 3 b → bit_of b 7 ≡ false → eqb (b / 2 % 8) (flag_pin g s) ≡ true
       → Forced c (step_of c 2 x d).chip g s (bit_of b 0)
-  unfolding afterWriteEnds
+  unfolding after_write_ends
   forced b x d phase seven named =
       let k = bit-put c.core b seven in
-      let here : channelOf (afterControlWord c.core b) g s ≡ afterForce s (bit_of b 0) channel = k.channel g s ∙ rw (on, named) in
-      let shown = flag-under c _ g s on k.surroundings.word ∙ ap (λ (ch : Channel). flagOf s ch.fill) here in
+      let here : channel_of (after_control_word c.core b) g s ≡ after_force s (bit_of b 0) channel = k.channel g s ∙ rw (on, named) in
+      let shown = flag-under c _ g s on k.surroundings.word ∙ ap (λ (ch : Channel). flag_of s ch.fill) here in
       rw (write-ends c 3 b x d phase) (record {
-        shows = shown ∙ ap (flagOf s) (force-leaves s (bit_of b 0) channel) ∙ forced-flag s (bit_of b 0) channel.fill;
+        shows = shown ∙ ap (flag_of s) (force-leaves s (bit_of b 0) channel) ∙ forced-flag s (bit_of b 0) channel.fill;
         counts = rw (shown, flag-pin c g s on) (ap (λ (ch : Channel). ch.tally) here ∙ forced-counts s (bit_of b 0) channel);
         latch = ap (λ (ch : Channel). ch.latch) here ∙ force-keeps s (bit_of b 0) channel;
       })

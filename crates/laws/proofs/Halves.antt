@@ -7,7 +7,7 @@ use Prim.Native.Nat.{ℕ}
 use borrow.Author.Tests.{not-true}
 use Rattle.bits.proofs.Logic.{contrary}
 use Rattle.events.specs.Kinds.{begins}
-use Rattle.bus.specs.Device.{afterIn}
+use Rattle.bus.specs.Device.{after_in}
 use Rattle.bus.specs.Refusals.{number_of}
 use Rattle.bus.specs.declared.Phase.{Phase}
 use Rattle.bus.specs.declared.Phase.TheVariants.{Idle, Reading, Writing}
@@ -17,10 +17,10 @@ use Rattle.channel.specs.declared.Side.TheVariants.{Input, Output}
 use Rattle.channel.specs.declared.Fill.{Fill}
 use Rattle.chip.specs.declared.Edition.{Edition}
 use Rattle.chip.specs.declared.Chip.{Chip}
-use Rattle.chip.specs.State.{channelOf}
-use Rattle.chip.specs.Handshakes.{ownAddress, running}
+use Rattle.chip.specs.State.{channel_of}
+use Rattle.chip.specs.Handshakes.{own_address, running}
 use Rattle.chip.proofs.Surrounded.{Surrounded, latch-spares, spared-channel, spared-surrounded}
-use Rattle.status.specs.Status.{requestOf, intrOf}
+use Rattle.status.specs.Status.{request_of, intr_of}
 use Rattle.reads.proofs.PortsAfter.{begun-surrounded, begun-enables, ended-surrounded, ended-enables}
 use Rattle.step.specs.declared.Stepped.{Stepped}
 use Rattle.step.specs.Step.{limits, device, step_of}
@@ -34,13 +34,13 @@ use Rattle.laws.proofs.Interrupts.{cycle-drops-half, none_runs}
 
 -- A half is the same where all that it is told by is the same.
 same_half : (c c' : Chip) (g : Group) (s : Side) → Surrounded c'.core c.core → c'.core.inte ≡ c.core.inte
-    → (channelOf c'.core g s).fill ≡ (channelOf c.core g s).fill → running c'.phase g s ≡ running c.phase g s
-    → requestOf c' g s ≡ requestOf c g s
-unfolding requestOf
+    → (channel_of c'.core g s).fill ≡ (channel_of c.core g s).fill → running c'.phase g s ≡ running c.phase g s
+    → request_of c' g s ≡ request_of c g s
+unfolding request_of
 same_half c c' g s surroundings enables fill runs = rw (fill, surroundings.word, enables, surroundings.lines, runs)
 
-begun-same : (f : Fill) (g : Group) (s : Side) (x : ℕ) → running (Reading x) g s ≡ false → ownAddress x g ≡ true → begun s f ≡ f
-begun-same f g Input x other own = absurd (contrary (ownAddress x g) other own)
+begun-same : (f : Fill) (g : Group) (s : Side) (x : ℕ) → running (Reading x) g s ≡ false → own_address x g ≡ true → begun s f ≡ f
+begun-same f g Input x other own = absurd (contrary (own_address x g) other own)
 begun-same f g Output x other own = refl
 
 -- What a cycle does not spare is its own.
@@ -60,10 +60,10 @@ begins-idle ed (Writing a d) k x b ok = absurd (row-refuses ed (Writing a d) k x
 -- A cycle that is not a half's own leaves it.
 module _ (c : Chip) (g : Group) (s : Side) where
   abbrev Same : Chip → Type 0
-  Same c' = requestOf c' g s ≡ requestOf c g s
+  Same c' = request_of c' g s ≡ request_of c g s
 
   abbrev SameFill : Fill → Type 0
-  SameFill f = f ≡ (channelOf c.core g s).fill
+  SameFill f = f ≡ (channel_of c.core g s).fill
 
   idle-runs : (k x : ℕ) → begins k ≡ true → number_of (limits c.edition) c.phase k x ≡ 0 → running c.phase g s ≡ false
   idle-runs k x b ok = rw (begins-idle c.edition c.phase k x b ok) (none_runs g s)
@@ -72,7 +72,7 @@ module _ (c : Chip) (g : Group) (s : Side) where
   read-leaves x d none =
       step-either Same c 1 x d refl
       (λ ok. same_half c _ g s (begun-surrounded c.core x) (begun-enables c.core x)
-      (after-begin SameFill c.core g s x refl (begun-same (channelOf c.core g s).fill g s x none)) (none ∙ sym (idle-runs 1 x refl ok)))
+      (after-begin SameFill c.core g s x refl (begun-same (channel_of c.core g s).fill g s x none)) (none ∙ sym (idle-runs 1 x refl ok)))
 
   write-leaves : (x d : ℕ) → running (Writing x d) g s ≡ false → Same (step_of c 3 x d).chip
   write-leaves x d none =
@@ -88,8 +88,8 @@ module _ (c : Chip) (g : Group) (s : Side) where
       by_end Same c x d refl (record {
         read = λ p phase. same_half c _ g s (ended-surrounded c.core p) (ended-enables c.core p)
             (after_read SameFill c.core g s p refl (elsewhere none (Reading p) phase)) idle;
-        modeWord = λ w phase seven. absurd (contrary (commands c.phase) other (ap commands phase));
-        bitWord = λ w phase seven. absurd (contrary (commands c.phase) other (ap commands phase));
+        mode_word = λ w phase seven. absurd (contrary (commands c.phase) other (ap commands phase));
+        bit_word = λ w phase seven. absurd (contrary (commands c.phase) other (ap commands phase));
         lines = λ b phase. let k = latch-spares c.core _ in
             same_half c _ g s (spared-surrounded k) refl (ap (λ ch. ch.fill) (spared-channel k g s)) idle;
         port = λ a b phase c' k. same_half c _ g s k.surroundings k.enables
@@ -98,28 +98,28 @@ module _ (c : Chip) (g : Group) (s : Side) where
 
   -- One that is its own drops it as it begins.
   begun-half : (k x d : ℕ) (ph : Phase) → (step_of c k x d).chip.phase ≡ ph → (running ph g s ≡ false → Same (step_of c k x d).chip)
-      → requestOf (step_of c k x d).chip g s ≡ (spares ph g s && requestOf c g s)
+      → request_of (step_of c k x d).chip g s ≡ (spares ph g s && request_of c g s)
   begun-half k x d ph phase leaves = rw (own-or-spared ph g s) (go (running ph g s) refl)
     where
-      go : (own : Bool) → running ph g s ≡ own → requestOf (step_of c k x d).chip g s ≡ (not own && requestOf c g s)
+      go : (own : Bool) → running ph g s ≡ own → request_of (step_of c k x d).chip g s ≡ (not own && request_of c g s)
       go true own = cycle-drops-half (step_of c k x d).chip g s (ap (λ ph. running ph g s) phase ∙ own)
       go false none = leaves none
 
 pub half-after : (c : Chip) (g : Group) (s : Side) (x d : ℕ) → HalfAfter c g s x d
 half-after c g s x d = record {
-  readBegins = λ ok. begun-half c g s 1 x d (Reading x) (accepted-phase 1 ok) (read-leaves c g s x d);
-  writeBegins = λ ok. begun-half c g s 3 x d (Writing x d) (accepted-phase 3 ok) (write-leaves c g s x d);
-  cycleEnds = λ spared. end_leaves c g s x d (not-true (running c.phase g s) (sym (own-or-spared c.phase g s) ∙ spared));
+  read_begins = λ ok. begun-half c g s 1 x d (Reading x) (accepted-phase 1 ok) (read-leaves c g s x d);
+  write_begins = λ ok. begun-half c g s 3 x d (Writing x d) (accepted-phase 3 ok) (write-leaves c g s x d);
+  cycle_ends = λ spared. end_leaves c g s x d (not-true (running c.phase g s) (sym (own-or-spared c.phase g s) ∙ spared));
 }
   where
-    accepted-phase : (k : ℕ) → (step_of c k x d).number ≡ 0 → (step_of c k x d).chip.phase ≡ (afterIn device c k x d).phase
+    accepted-phase : (k : ℕ) → (step_of c k x d).number ≡ 0 → (step_of c k x d).chip.phase ≡ (after_in device c k x d).phase
     accepted-phase k ok = ap (λ (r : Stepped). r.chip.phase) (step-accepts c k x d (sym (step-number c k x d) ∙ ok))
 
 pub intr-after : (c : Chip) (g : Group) (x d : ℕ) → IntrAfter c g x d
-unfolding intrOf
+unfolding intr_of
 intr-after c g x d = record {
-  readBegins = λ other. ap₂ (λ (i o : Bool). i || o) (read-leaves c g Input x d other) (read-leaves c g Output x d refl);
-  writeBegins = λ other. ap₂ (λ (i o : Bool). i || o) (write-leaves c g Input x d refl) (write-leaves c g Output x d other);
-  cycleEnds = λ spared other.
-      ap₂ (λ (i o : Bool). i || o) ((half-after c g Input x d).cycleEnds (spared Input) other) ((half-after c g Output x d).cycleEnds (spared Output) other);
+  read_begins = λ other. ap₂ (λ (i o : Bool). i || o) (read-leaves c g Input x d other) (read-leaves c g Output x d refl);
+  write_begins = λ other. ap₂ (λ (i o : Bool). i || o) (write-leaves c g Input x d refl) (write-leaves c g Output x d other);
+  cycle_ends = λ spared other.
+      ap₂ (λ (i o : Bool). i || o) ((half-after c g Input x d).cycle_ends (spared Input) other) ((half-after c g Output x d).cycle_ends (spared Output) other);
 }

@@ -9,31 +9,31 @@ use lib.Dec.{T, eqb}
 use Rattle.bits.specs.Bit.{bit_of}
 use Rattle.bits.proofs.Logic.{contrary, either_way}
 use Rattle.control.specs.declared.Group.{Group}
-use Rattle.control.specs.Mode.{strobedInput}
+use Rattle.control.specs.Mode.{strobed_input}
 use Rattle.channel.specs.declared.Side.TheVariants.{Input}
 use Rattle.channel.specs.declared.Fill.TheVariants.{Fetching}
 use Rattle.channel.specs.declared.Channel.{Channel}
-use Rattle.channel.specs.Moves.{afterOffer, afterFollow, afterHandOver, afterEndRead, afterForce}
+use Rattle.channel.specs.Moves.{after_offer, after_follow, after_hand_over, after_end_read, after_force}
 use Rattle.channel.proofs.ConditionsLeft.{offer-latches, follow-latches, hand-over-keeps, end-read-keeps, force-keeps}
 use Rattle.chip.specs.declared.Core.{Core}
 use Rattle.chip.specs.declared.Chip.{Chip}
-use Rattle.chip.specs.State.{portOf, channelOf}
-use Rattle.chip.specs.Handshakes.{strobed, linePin, ownAddress}
+use Rattle.chip.specs.State.{port_of, channel_of}
+use Rattle.chip.specs.Handshakes.{strobed, line_pin, own_address}
 use Rattle.chip.proofs.OnPort.{lines-not-own}
 use Rattle.chip.proofs.Surrounded.{Spared, latch-spares, spared-channel}
-use Rattle.settings.specs.ControlWord.{afterControlWord}
-use Rattle.settings.proofs.Flags.{flagAtPin}
+use Rattle.settings.specs.ControlWord.{after_control_word}
+use Rattle.settings.proofs.Flags.{flag_at_pin}
 use Rattle.settings.proofs.PortsAfter.{bit-put}
-use Rattle.reads.specs.Read.{afterReadBegins, afterReadEnds}
+use Rattle.reads.specs.Read.{after_read_begins, after_read_ends}
 use Rattle.reads.proofs.PortsAfter.{begun-input, ended-input}
-use Rattle.levels.specs.Levels.{fallen, lineFalls, letsThrough, afterLevels}
+use Rattle.levels.specs.Levels.{fallen, line_falls, lets_through, after_levels}
 use Rattle.levels.proofs.PortsAfter.{levels-input, levels-word}
 use Rattle.ports.specs.Reads.{read_of}
 use Rattle.ports.proofs.Strobed.{strobed-reads}
 use Rattle.step.specs.Step.{step_of}
 use Rattle.step.proofs.Outcome.{step-accepts}
-use Rattle.laws.specs.Seen.{pin, lowers, makesAnew}
-use Rattle.laws.specs.Loads.{comesUnderLow, loads}
+use Rattle.laws.specs.Seen.{pin, lowers, makes_anew}
+use Rattle.laws.specs.Loads.{comes_under_low, loads}
 use Rattle.laws.proofs.ByEvent.{not-anew, by-event}
 use Rattle.laws.proofs.ChannelPins.{line-pin}
 use Rattle.laws.proofs.FlagAfter.{line-falls, levels-accepted}
@@ -41,48 +41,48 @@ use Rattle.laws.proofs.OwnPort.{own-accepted, own_read}
 
 module _ (c : Core) (g : Group) where
   abbrev channel : Channel
-  channel = channelOf c g Input
+  channel = channel_of c g Input
 
   -- The latch in another core is the one in this.
   abbrev Same : Core → Type 0
-  Same c' = (channelOf c' g Input).latch ≡ channel.latch
+  Same c' = (channel_of c' g Input).latch ≡ channel.latch
 
   -- A cycle moves the channel only where it takes part.
   taking-part : (x : ℕ) (moved : Channel) → moved.latch ≡ channel.latch
-      → (cond (strobedInput c.word g && ownAddress x g) moved channel).latch ≡ channel.latch
-  taking-part x moved e = either_way (λ ch. ch.latch) channel.latch (strobedInput c.word g && ownAddress x g) moved channel e refl
+      → (cond (strobed_input c.word g && own_address x g) moved channel).latch ≡ channel.latch
+  taking-part x moved e = either_way (λ ch. ch.latch) channel.latch (strobed_input c.word g && own_address x g) moved channel e refl
 
-  begun : (x : ℕ) → Same (afterReadBegins c x)
+  begun : (x : ℕ) → Same (after_read_begins c x)
   begun x =
       ap (λ ch. ch.latch) (begun-input c x g)
-      ∙ taking-part x (afterHandOver channel Fetching) (hand-over-keeps channel Fetching)
+      ∙ taking-part x (after_hand_over channel Fetching) (hand-over-keeps channel Fetching)
 
-  ended : (x : ℕ) → Same (afterReadEnds c x)
+  ended : (x : ℕ) → Same (after_read_ends c x)
   ended x =
       ap (λ ch. ch.latch) (ended-input c x g)
-      ∙ taking-part x (afterEndRead channel) (end-read-keeps channel)
+      ∙ taking-part x (after_end_read channel) (end-read-keeps channel)
 
   -- A flag that is forced leaves the latch.
-  put : (w : ℕ) → bit_of w 7 ≡ false → Same (afterControlWord c w)
+  put : (w : ℕ) → bit_of w 7 ≡ false → Same (after_control_word c w)
   put w seven =
       ap (λ ch. ch.latch) ((bit-put c w seven).channel g Input)
-      ∙ either_way (λ ch. ch.latch) channel.latch (flagAtPin c.word g Input (w / 2 % 8)) (afterForce Input (bit_of w 0) channel) channel
+      ∙ either_way (λ ch. ch.latch) channel.latch (flag_at_pin c.word g Input (w / 2 % 8)) (after_force Input (bit_of w 0) channel) channel
       (force-keeps Input (bit_of w 0) channel) refl
 
   spared : {c' : Core} → Spared c' c → Same c'
   spared k = ap (λ ch. ch.latch) (spared-channel k g Input)
 
-  through-latch : (x d : ℕ) → ownAddress x g ≡ true → letsThrough c g ≡ true → (channelOf (afterLevels c x d) g Input).latch ≡ d
+  through-latch : (x d : ℕ) → own_address x g ≡ true → lets_through c g ≡ true → (channel_of (after_levels c x d) g Input).latch ≡ d
   through-latch x d own through = ap (λ ch. ch.latch) (levels-input c x d g) ∙ go (eqb x 2) refl
     where
       go : (two : Bool) → eqb x 2 ≡ two
-          → (cond (two && lineFalls c d g Input) (afterOffer channel (portOf c g).outside)
-          (cond (ownAddress x g && letsThrough c g) (afterFollow channel d) channel)).latch ≡ d
-      go true two = absurd (contrary (ownAddress x g) (lines-not-own x two g) own)
+          → (cond (two && line_falls c d g Input) (after_offer channel (port_of c g).outside)
+          (cond (own_address x g && lets_through c g) (after_follow channel d) channel)).latch ≡ d
+      go true two = absurd (contrary (own_address x g) (lines-not-own x two g) own)
       go false two = rw (own, through, follow-latches channel d)
 
-  fallen-latch : (d : ℕ) → lineFalls c d g Input ≡ true → (channelOf (afterLevels c 2 d) g Input).latch ≡ (portOf c g).outside
-  fallen-latch d fell = ap (λ ch. ch.latch) (levels-input c 2 d g) ∙ rw (fell, offer-latches channel (portOf c g).outside)
+  fallen-latch : (d : ℕ) → line_falls c d g Input ≡ true → (channel_of (after_levels c 2 d) g Input).latch ≡ (port_of c g).outside
+  fallen-latch d fell = ap (λ ch. ch.latch) (levels-input c 2 d g) ∙ rw (fell, offer-latches channel (port_of c g).outside)
 
 -- Levels that neither lower STB nor come while it is low move nothing.
 unmoved : (ch offered followed : Channel) (fell through : Bool) → (fell || through) ≡ false
@@ -94,68 +94,68 @@ unmoved ch offered followed false false none = refl
 module _ (c : Chip) (g : Group) where
   -- The line of STB, as the pins show it where the input is strobed.
   abbrev seen : Bool
-  seen = pin c (linePin g Input)
+  seen = pin c (line_pin g Input)
 
-  unloaded : (x d : ℕ) → loads c g x d ≡ false → Same c.core g (afterLevels c.core x d)
+  unloaded : (x d : ℕ) → loads c g x d ≡ false → Same c.core g (after_levels c.core x d)
   unfolding fallen
   unloaded x d none = ap (λ ch. ch.latch) (levels-input c.core x d g) ∙ go (strobed c.core.word g Input) refl none
     where
       ch : Channel
-      ch = channelOf c.core g Input
+      ch = channel_of c.core g Input
 
       was : Bool
-      was = bit_of c.core.c.outside (linePin g Input)
+      was = bit_of c.core.c.outside (line_pin g Input)
 
       low : Bool
-      low = not (bit_of d (linePin g Input))
+      low = not (bit_of d (line_pin g Input))
 
-      go : (on : Bool) → strobed c.core.word g Input ≡ on → (on && (lowers c g Input x d || comesUnderLow c g x)) ≡ false
-          → (cond (eqb x 2 && (strobed c.core.word g Input && (was && low))) (afterOffer ch (portOf c.core g).outside)
-          (cond (ownAddress x g && (strobed c.core.word g Input && not was)) (afterFollow ch d) ch)).latch ≡ ch.latch
+      go : (on : Bool) → strobed c.core.word g Input ≡ on → (on && (lowers c g Input x d || comes_under_low c g x)) ≡ false
+          → (cond (eqb x 2 && (strobed c.core.word g Input && (was && low))) (after_offer ch (port_of c.core g).outside)
+          (cond (own_address x g && (strobed c.core.word g Input && not was)) (after_follow ch d) ch)).latch ≡ ch.latch
       go true on none =
           rw (on)
-          (unmoved ch (afterOffer ch (portOf c.core g).outside) (afterFollow ch d) (eqb x 2 && (was && low)) (ownAddress x g && not was)
-          (subst (λ (b : Bool). ((eqb x 2 && (b && low)) || (ownAddress x g && not b)) ≡ false) (line-pin c g Input on) none))
-      go false off none = rw (off, and-false (eqb x 2), and-false (ownAddress x g))
+          (unmoved ch (after_offer ch (port_of c.core g).outside) (after_follow ch d) (eqb x 2 && (was && low)) (own_address x g && not was)
+          (subst (λ (b : Bool). ((eqb x 2 && (b && low)) || (own_address x g && not b)) ≡ false) (line-pin c g Input on) none))
+      go false off none = rw (off, and-false (eqb x 2), and-false (own_address x g))
 
   -- A port that the mode word strobes reads as its input latch, in every core that has this word.
-  latch-read : (x : ℕ) (c' : Core) → strobed c.core.word g Input ≡ true → c'.word ≡ c.core.word → ownAddress x g ≡ true
-      → read_of (record { phase = c.phase; edition = c.edition; core = c' }) x ≡ (channelOf c' g Input).latch
+  latch-read : (x : ℕ) (c' : Core) → strobed c.core.word g Input ≡ true → c'.word ≡ c.core.word → own_address x g ≡ true
+      → read_of (record { phase = c.phase; edition = c.edition; core = c' }) x ≡ (channel_of c' g Input).latch
   latch-read x c' on same own = own_read _ x g own ∙ strobed-reads _ g _ (rw (same) (on))
 
   -- Levels that come onto the port's own lines while the pins show STB low are what a read of the port then answers, whatever the channel's
   -- condition and whatever runs on the bus.
-  pub low-follows : (x d : ℕ) → strobed c.core.word g Input ≡ true → seen ≡ false → ownAddress x g ≡ true
+  pub low-follows : (x d : ℕ) → strobed c.core.word g Input ≡ true → seen ≡ false → own_address x g ≡ true
       → read_of (step_of c 5 x d).chip x ≡ d
   low-follows x d on low own =
-      let through : letsThrough c.core g ≡ true = rw (on, sym (line-pin c g Input on) ∙ low) in
+      let through : lets_through c.core g ≡ true = rw (on, sym (line-pin c g Input on) ∙ low) in
       rw (step-accepts c 5 x d (own-accepted c.edition c.phase x g own))
-      (latch-read x (afterLevels c.core x d) on (levels-word c.core x d) own ∙ through-latch c.core g x d own through)
+      (latch-read x (after_levels c.core x d) on (levels-word c.core x d) own ∙ through-latch c.core g x d own through)
 
   -- A fall of STB brings in what stands on the port's lines.
-  pub fall-loads : (x d : ℕ) → strobed c.core.word g Input ≡ true → seen ≡ true → bit_of d (linePin g Input) ≡ false → ownAddress x g ≡ true
-      → read_of (step_of c 5 2 d).chip x ≡ (portOf c.core g).outside
+  pub fall-loads : (x d : ℕ) → strobed c.core.word g Input ≡ true → seen ≡ true → bit_of d (line_pin g Input) ≡ false → own_address x g ≡ true
+      → read_of (step_of c 5 2 d).chip x ≡ (port_of c.core g).outside
   fall-loads x d on high low own =
       rw (step-accepts c 5 2 d (levels-accepted c.edition c.phase))
-      (latch-read x (afterLevels c.core 2 d) on (levels-word c.core 2 d) own
+      (latch-read x (after_levels c.core 2 d) on (levels-word c.core 2 d) own
       ∙ fallen-latch c.core g d (line-falls c g Input d on high low))
 
   -- Whatever is not said to load the latch leaves it, but for a mode word and a reset. So levels leave it while STB is high, and wherever the
   -- port is no strobed input; a rise of STB loads nothing; and a latch that a mode word zeroed while STB was low is 00 until the next levels
   -- or the next fall.
-  pub latch-stays : (k x d : ℕ) → ¬ (k ≡ 0) → (k ≡ 2 → makesAnew c.phase ≡ false) → (k ≡ 5 → loads c g x d ≡ false)
+  pub latch-stays : (k x d : ℕ) → ¬ (k ≡ 0) → (k ≡ 2 → makes_anew c.phase ≡ false) → (k ≡ 5 → loads c g x d ≡ false)
       → Same c.core g (step_of c k x d).chip.core
   latch-stays k x d reset renewal load = by-event (λ c'. Same c.core g c'.core) c k x d (record {
     stays = refl;
     reset = λ zero. absurd (reset zero);
-    readBegins = λ one ok. begun c.core g x;
+    read_begins = λ one ok. begun c.core g x;
     ends = λ two. record {
       read = λ p phase. ended c.core g p;
-      modeWord = λ w phase seven. not-anew (renewal two) phase seven;
-      bitWord = λ w phase seven. put c.core g w seven;
+      mode_word = λ w phase seven. not-anew (renewal two) phase seven;
+      bit_word = λ w phase seven. put c.core g w seven;
       lines = λ b phase. spared c.core g (latch-spares c.core _);
       port = λ a b phase c' stored. ap (λ ch. ch.latch) (stored.input g);
     };
-    writeBegins = λ three ok. refl;
+    write_begins = λ three ok. refl;
     levels = λ five ok. unloaded x d (load five);
   })

@@ -16,22 +16,22 @@ use Rattle.control.proofs.Strobed.{mode-1-takes, mode-1-gives}
 use Rattle.channel.specs.declared.Side.{Side}
 use Rattle.channel.specs.declared.Side.TheVariants.{Input, Output}
 use Rattle.chip.specs.declared.Chip.{Chip}
-use Rattle.chip.specs.Handshakes.{strobed, linePin, enableOf, ownAddress, running}
-use Rattle.status.specs.Status.{flagAt, requestOf, intrOf}
+use Rattle.chip.specs.Handshakes.{strobed, line_pin, enable_of, own_address, running}
+use Rattle.status.specs.Status.{flag_at, request_of, intr_of}
 use Rattle.status.proofs.ByReason.{quiet}
 use Rattle.step.specs.Step.{limits, step_of}
 use Rattle.step.proofs.Outcome.{step-accepts}
-use Rattle.laws.specs.Seen.{pin, intrPin}
+use Rattle.laws.specs.Seen.{pin, intr_pin}
 use Rattle.laws.specs.Halves.{half, other}
 use Rattle.laws.proofs.ChannelPins.{flag-pin, line-pin, intr-pin}
 
-pub half_is : (c : Chip) (g : Group) (s : Side) → strobed c.core.word g s ≡ true → requestOf c g s ≡ half c g s
-unfolding requestOf
+pub half_is : (c : Chip) (g : Group) (s : Side) → strobed c.core.word g s ≡ true → request_of c g s ≡ half c g s
+unfolding request_of
 half_is c g s on = rw (on, flag-pin c g s on, line-pin c g s on)
 
 -- Mode 2: the pin is either half.
 pub intr-in-mode-2 : (c : Chip) → mode_of c.core.word A ≡ 2 → pin c 3 ≡ (half c A Input || half c A Output)
-unfolding intrOf
+unfolding intr_of
 intr-in-mode-2 c two =
     let both = mode-2-both-ways c.core.word A two in
     intr-pin c A Input both.taking
@@ -49,25 +49,25 @@ one_side : (w : ℕ) (g : Group) (s : Side) → mode_of w g ≡ 1 → strobed w 
 one_side w g Input one on = mode-1-gives w g one ∙ ap not (sym (mode-1-takes w g one) ∙ on)
 one_side w g Output one on = mode-1-takes w g one ∙ not-true (input_of w g) (sym (mode-1-gives w g one) ∙ on)
 
-either-half : (c : Chip) (g : Group) (s : Side) → requestOf c g (other s) ≡ false → intrOf c g ≡ requestOf c g s
-unfolding intrOf
-either-half c g Input none = rw (none) (or-false (requestOf c g Input))
+either-half : (c : Chip) (g : Group) (s : Side) → request_of c g (other s) ≡ false → intr_of c g ≡ request_of c g s
+unfolding intr_of
+either-half c g Input none = rw (none) (or-false (request_of c g Input))
 either-half c g Output none = rw (none)
 
 pub intr-in-mode-1 : (c : Chip) (g : Group) (s : Side) → mode_of c.core.word g ≡ 1
-    → strobed c.core.word g s ≡ true → pin c (intrPin g) ≡ half c g s
+    → strobed c.core.word g s ≡ true → pin c (intr_pin g) ≡ half c g s
 intr-in-mode-1 c g s one on =
     intr-pin c g s on ∙ either-half c g s (quiet c g (other s) (one_side c.core.word g s one on)) ∙ half_is c g s on
 
 -- The own cycle drops its half, whatever else holds.
-pub cycle-drops-half : (c : Chip) (g : Group) (s : Side) → running c.phase g s ≡ true → requestOf c g s ≡ false
-unfolding requestOf
+pub cycle-drops-half : (c : Chip) (g : Group) (s : Side) → running c.phase g s ≡ true → request_of c g s ≡ false
+unfolding request_of
 cycle-drops-half c g s r =
-    rw (r) (dropped (strobed c.core.word g s) (enableOf c.core.inte g s) (flagAt c.core g s) (bit_of c.core.c.outside (linePin g s)))
+    rw (r) (dropped (strobed c.core.word g s) (enable_of c.core.inte g s) (flag_at c.core g s) (bit_of c.core.c.outside (line_pin g s)))
 
 -- So INTR is low in mode 1 while the own cycle runs, and in mode 2 it is the other half.
 pub intr-low-in-own-cycle : (c : Chip) (g : Group) (s : Side) → mode_of c.core.word g ≡ 1
-    → strobed c.core.word g s ≡ true → running c.phase g s ≡ true → pin c (intrPin g) ≡ false
+    → strobed c.core.word g s ≡ true → running c.phase g s ≡ true → pin c (intr_pin g) ≡ false
 intr-low-in-own-cycle c g s one on r =
     intr-pin c g s on ∙ either-half c g s (quiet c g (other s) (one_side c.core.word g s one on)) ∙ cycle-drops-half c g s r
 
@@ -91,8 +91,8 @@ none_runs g Input = refl
 none_runs g Output = refl
 
 -- The own cycle runs from its beginning: an accepted read for an input, an accepted write for an output.
-pub begun-read-runs : (c : Chip) (g : Group) (x d : ℕ) → number_of (limits c.edition) c.phase 1 x ≡ 0 → running (step_of c 1 x d).chip.phase g Input ≡ ownAddress x g
+pub begun-read-runs : (c : Chip) (g : Group) (x d : ℕ) → number_of (limits c.edition) c.phase 1 x ≡ 0 → running (step_of c 1 x d).chip.phase g Input ≡ own_address x g
 begun-read-runs c g x d ok = rw (step-accepts c 1 x d ok)
 
-pub begun-write-runs : (c : Chip) (g : Group) (x d : ℕ) → number_of (limits c.edition) c.phase 3 x ≡ 0 → running (step_of c 3 x d).chip.phase g Output ≡ ownAddress x g
+pub begun-write-runs : (c : Chip) (g : Group) (x d : ℕ) → number_of (limits c.edition) c.phase 3 x ≡ 0 → running (step_of c 3 x d).chip.phase g Output ≡ own_address x g
 begun-write-runs c g x d ok = rw (step-accepts c 3 x d ok)

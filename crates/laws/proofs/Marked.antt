@@ -3,25 +3,25 @@
 use mathlib.Core.Path.{◌≡◌, refl}
 use mathlib.Core.List.{List, [], ◌∷◌}
 use Prim.Native.Nat.{ℕ}
-use Rattle.bits.specs.Bit.{bit_of, value_of, withBit}
-use Rattle.events.specs.Kinds.{isKind}
-use Rattle.bus.specs.Device.{stepIn}
+use Rattle.bits.specs.Bit.{bit_of, value_of, with_bit}
+use Rattle.events.specs.Kinds.{is_kind}
+use Rattle.bus.specs.Device.{step_in}
 use Rattle.bus.specs.Refusals.{number_of}
-use Rattle.control.specs.Mode.{mode_of, input_of, upperInput, lowerInput, strobedInput, strobedOutput, outputOf}
-use Rattle.control.specs.Word.{controlOf}
-use Rattle.roles.specs.Role.{usesOf, freeRole, roleOf}
-use Rattle.channel.specs.Channel.{flagOf}
-use Rattle.channel.specs.Moves.{afterOffer, afterFollow, afterHandOver, afterEndRead, afterClear}
+use Rattle.control.specs.Mode.{mode_of, input_of, upper_input, lower_input, strobed_input, strobed_output, output_of}
+use Rattle.control.specs.Word.{control_of}
+use Rattle.roles.specs.Role.{uses_of, free_role, role_of}
+use Rattle.channel.specs.Channel.{flag_of}
+use Rattle.channel.specs.Moves.{after_offer, after_follow, after_hand_over, after_end_read, after_clear}
 use Rattle.chip.specs.declared.Edition.{Edition}
 use Rattle.chip.specs.declared.Edition.TheVariants.{Older, Newer}
-use Rattle.status.specs.Status.{requestOf, intrOf}
-use Rattle.settings.specs.ModeWord.{clearedPort, afterModeWord}
-use Rattle.settings.specs.ControlWord.{pinSet, afterControlWord}
-use Rattle.reads.specs.Read.{afterReadBegins, afterReadEnds}
-use Rattle.writes.specs.Write.{storedBy, latchWritten, afterWriteEnds}
-use Rattle.levels.specs.Levels.{fallen, edged, afterLevelsOnC, portAfterLevels, afterLevels}
-use Rattle.ports.specs.Reads.{readPort, readLines, read_of}
-use Rattle.ports.specs.Pins.{drivesPort, pinsOfPort, pinsOfLines, pinsOf}
+use Rattle.status.specs.Status.{request_of, intr_of}
+use Rattle.settings.specs.ModeWord.{cleared_port, after_mode_word}
+use Rattle.settings.specs.ControlWord.{pin_set, after_control_word}
+use Rattle.reads.specs.Read.{after_read_begins, after_read_ends}
+use Rattle.writes.specs.Write.{stored_by, latch_written, after_write_ends}
+use Rattle.levels.specs.Levels.{fallen, edged, after_levels_on_c, port_after_levels, after_levels}
+use Rattle.ports.specs.Reads.{read_port, read_lines, read_of}
+use Rattle.ports.specs.Pins.{drives_port, pins_of_port, pins_of_lines, pins_of}
 use Rattle.step.specs.Step.{step_of}
 use Rattle.laws.specs.Marked.{Case, given, cases}
 
@@ -35,6 +35,6 @@ stated [] = []
 stated (c ∷ cs) = c.results ∷ stated cs
 
 pub marked : (ed : Edition) → modelled ed cases ≡ stated cases
-unfolding bit_of value_of withBit mode_of input_of upperInput lowerInput strobedInput strobedOutput outputOf controlOf usesOf freeRole roleOf flagOf afterOffer afterFollow afterHandOver afterEndRead afterClear requestOf intrOf clearedPort afterModeWord pinSet afterControlWord afterReadBegins afterReadEnds storedBy latchWritten afterWriteEnds fallen edged afterLevelsOnC portAfterLevels afterLevels readPort readLines read_of drivesPort pinsOfPort pinsOfLines pinsOf number_of isKind step_of stepIn
+unfolding bit_of value_of with_bit mode_of input_of upper_input lower_input strobed_input strobed_output output_of control_of uses_of free_role role_of flag_of after_offer after_follow after_hand_over after_end_read after_clear request_of intr_of cleared_port after_mode_word pin_set after_control_word after_read_begins after_read_ends stored_by latch_written after_write_ends fallen edged after_levels_on_c port_after_levels after_levels read_port read_lines read_of drives_port pins_of_port pins_of_lines pins_of number_of is_kind step_of step_in
 marked Older = refl
 marked Newer = refl

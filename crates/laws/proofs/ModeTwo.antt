@@ -9,7 +9,7 @@ use Rattle.control.proofs.ModeTwo.{mode-2-both-ways}
 use Rattle.channel.specs.declared.Side.TheVariants.{Output}
 use Rattle.chip.specs.declared.Chip.{Chip}
 use Rattle.ports.specs.declared.Pins.{Pins}
-use Rattle.ports.specs.Pins.{drivesPort, pinsOfPort, pinsOf}
+use Rattle.ports.specs.Pins.{drives_port, pins_of_port, pins_of}
 use Rattle.ports.proofs.Strobed.{strobed-reads}
 use Rattle.laws.specs.Ports.{GivesAndTakes}
 use Rattle.laws.proofs.PlainBits.{mode-by-bits}
@@ -17,7 +17,7 @@ use Rattle.laws.proofs.ChannelPins.{line-pin}
 use Rattle.laws.proofs.OwnPort.{own_read}
 
 pub mode-2-drives : (c : Chip) → bit_of c.core.word 6 ≡ true → GivesAndTakes c
-unfolding pinsOf pinsOfPort drivesPort
+unfolding pins_of pins_of_port drives_port
 mode-2-drives c six =
     let w = c.core.word in
     let two : mode_of w A ≡ 2 = mode-by-bits w A ∙ rw (six) in

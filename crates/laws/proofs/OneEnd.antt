@@ -9,21 +9,21 @@ use native.Mathlib.Omega.{arith}
 use lib.Dec.{eqb}
 use Rattle.bits.specs.Bit.{bit_of}
 use Rattle.bits.proofs.Logic.{contrary}
-use Rattle.events.specs.Kinds.{isKind}
+use Rattle.events.specs.Kinds.{is_kind}
 use Rattle.bus.specs.declared.Phase.TheVariants.{Idle, Reading, Writing}
 use Rattle.control.specs.declared.Group.{Group}
 use Rattle.channel.specs.declared.Side.TheVariants.{Input, Output}
 use Rattle.chip.specs.declared.Core.{Core}
 use Rattle.chip.specs.declared.Chip.{Chip}
-use Rattle.chip.specs.State.{channelOf}
-use Rattle.chip.specs.Handshakes.{strobed, flagPin}
+use Rattle.chip.specs.State.{channel_of}
+use Rattle.chip.specs.Handshakes.{strobed, flag_pin}
 use Rattle.chip.proofs.Surrounded.{spared-channel}
 use Rattle.reads.proofs.PortsAfter.{ended-output}
-use Rattle.writes.specs.Write.{afterWriteEnds}
+use Rattle.writes.specs.Write.{after_write_ends}
 use Rattle.writes.proofs.PortsAfter.{by_address}
 use Rattle.step.specs.Step.{refused, step_of}
 use Rattle.step.proofs.Ends.{read-ends, write-ends}
-use Rattle.laws.specs.Seen.{makesAnew, puts}
+use Rattle.laws.specs.Seen.{makes_anew, puts}
 use Rattle.laws.specs.Anew.{Freed}
 use Rattle.laws.proofs.Cycles.{facts, no-kind-refused}
 use Rattle.laws.proofs.FillAfter.{puts-here}
@@ -32,43 +32,43 @@ use Rattle.laws.proofs.FillAfter.{puts-here}
 pub cycle-ends : (c : Chip) (x d : ℕ) → ¬ (c.phase ≡ Idle) → Freed (step_of c 2 x d)
 unfolding step_of
 cycle-ends c x d runs = record {
-  taken = ((facts c).ends x d).whileOneRuns runs;
-  silent = ((facts c).begins x d).othersSilent 2 (λ e. absurd (omega (arith, e)));
+  taken = ((facts c).ends x d).while_one_runs runs;
+  silent = ((facts c).begins x d).others_silent 2 (λ e. absurd (omega (arith, e)));
   idle = ((facts c).ends x d).over;
 }
 
 -- A read that ends leaves every output channel as it was.
 pub read-end-spares-outputs : (c : Chip) (p x d : ℕ) → c.phase ≡ Reading p → (g : Group)
-    → channelOf (step_of c 2 x d).chip.core g Output ≡ channelOf c.core g Output
+    → channel_of (step_of c 2 x d).chip.core g Output ≡ channel_of c.core g Output
 read-end-spares-outputs c p x d phase g = rw (read-ends c p x d phase) (ended-output c.core p g)
 
 -- A write that ends leaves every input channel as it was, unless it was of a mode word, or of a bit set/reset that puts the channel's flag.
-module _ (c : Core) (a b : ℕ) (g : Group) (other : makesAnew (Writing a b) ≡ false)
-    (unforced : (v : Bool) → puts (Writing a b) (flagPin g Input) v ≡ false) where
-  not_named : a ≡ 3 → eqb (b / 2 % 8) (flagPin g Input) ≡ false
-  not_named three = go (eqb (b / 2 % 8) (flagPin g Input)) refl
+module _ (c : Core) (a b : ℕ) (g : Group) (other : makes_anew (Writing a b) ≡ false)
+    (unforced : (v : Bool) → puts (Writing a b) (flag_pin g Input) v ≡ false) where
+  not_named : a ≡ 3 → eqb (b / 2 % 8) (flag_pin g Input) ≡ false
+  not_named three = go (eqb (b / 2 % 8) (flag_pin g Input)) refl
     where
       seven : bit_of b 7 ≡ false
       seven = sym (ap (λ (x : ℕ). eqb x 3 && bit_of b 7) three) ∙ other
 
-      go : (named : Bool) → eqb (b / 2 % 8) (flagPin g Input) ≡ named → named ≡ false
+      go : (named : Bool) → eqb (b / 2 % 8) (flag_pin g Input) ≡ named → named ≡ false
       go true named =
-          absurd (contrary _ (unforced (bit_of b 0)) (puts-here (Writing a b) b (ap (λ (x : ℕ). Writing x b) three) seven (flagPin g Input) named))
+          absurd (contrary _ (unforced (bit_of b 0)) (puts-here (Writing a b) b (ap (λ (x : ℕ). Writing x b) three) seven (flag_pin g Input) named))
       go false named = refl
 
-  spares-input : channelOf (afterWriteEnds c a b) g Input ≡ channelOf c g Input
+  spares-input : channel_of (after_write_ends c a b) g Input ≡ channel_of c g Input
   spares-input =
-      by_address (λ c'. channelOf c' g Input ≡ channelOf c g Input) c a b
-      (λ mode. absurd (contrary (makesAnew (Writing a b)) other mode))
+      by_address (λ c'. channel_of c' g Input ≡ channel_of c g Input) c a b
+      (λ mode. absurd (contrary (makes_anew (Writing a b)) other mode))
       (λ mode three c' k. k.channel g Input ∙ rw (not_named three, and-false (strobed c.word g Input)))
       (λ mode two c' k. spared-channel k g Input)
       (λ mode elsewhere c' k. k.input g)
 
-pub write-end-spares-inputs : (c : Chip) (a b x d : ℕ) (g : Group) → c.phase ≡ Writing a b → makesAnew (Writing a b) ≡ false
-    → ((v : Bool) → puts (Writing a b) (flagPin g Input) v ≡ false) → channelOf (step_of c 2 x d).chip.core g Input ≡ channelOf c.core g Input
+pub write-end-spares-inputs : (c : Chip) (a b x d : ℕ) (g : Group) → c.phase ≡ Writing a b → makes_anew (Writing a b) ≡ false
+    → ((v : Bool) → puts (Writing a b) (flag_pin g Input) v ≡ false) → channel_of (step_of c 2 x d).chip.core g Input ≡ channel_of c.core g Input
 write-end-spares-inputs c a b x d g phase other unforced = rw (write-ends c a b x d phase) (spares-input c.core a b g other unforced)
 
 -- 04, which stands between the kinds, is none, whatever its operands.
 pub four-is-no-kind : (c : Chip) (x d : ℕ) → step_of c 4 x d ≡ refused c 1
-unfolding isKind
+unfolding is_kind
 four-is-no-kind c x d = no-kind-refused c 4 x d refl

@@ -12,21 +12,21 @@ use Rattle.bus.specs.declared.Phase.TheVariants.{Writing}
 use Rattle.control.specs.declared.Group.{Group}
 use Rattle.control.specs.declared.Group.TheVariants.{A, B}
 use Rattle.roles.specs.Role.{input, output}
-use Rattle.roles.specs.Pins.{handshakeRole}
+use Rattle.roles.specs.Pins.{handshake_role}
 use Rattle.channel.specs.declared.Side.{Side}
 use Rattle.channel.specs.declared.Side.TheVariants.{Input, Output}
-use Rattle.channel.specs.Moves.{afterForce}
+use Rattle.channel.specs.Moves.{after_force}
 use Rattle.chip.specs.declared.Enables.{Enables}
 use Rattle.chip.specs.declared.Core.{Core}
 use Rattle.chip.specs.declared.Chip.{Chip}
-use Rattle.chip.specs.State.{channelOf}
-use Rattle.chip.specs.Handshakes.{linePin, flagPin, enableOf}
-use Rattle.settings.specs.ControlWord.{setAs, pinSet}
-use Rattle.settings.proofs.PortsAfter.{pin-put, bit_word}
-use Rattle.writes.specs.Write.{afterWriteEnds}
+use Rattle.chip.specs.State.{channel_of}
+use Rattle.chip.specs.Handshakes.{line_pin, flag_pin, enable_of}
+use Rattle.settings.specs.ControlWord.{set_as, pin_set}
+use Rattle.settings.proofs.PortsAfter.{pin-put, bit-word}
+use Rattle.writes.specs.Write.{after_write_ends}
 use Rattle.step.specs.Step.{step_of}
 use Rattle.step.proofs.Ends.{write-ends}
-use Rattle.laws.specs.PlainBits.{used, intoC, freeOutput, isLinePin, isFlagPin}
+use Rattle.laws.specs.PlainBits.{used, into_c, free_output, is_line_pin, is_flag_pin}
 use Rattle.laws.specs.OnePin.{OnePin}
 use Rattle.laws.proofs.PlainBits.{by-pin, strobed-by-bits, role-by-bits}
 
@@ -34,27 +34,27 @@ use Rattle.laws.proofs.PlainBits.{by-pin, strobed-by-bits, role-by-bits}
 abbrev put : Enables → ℕ → Bool → Enables
 put e n v = record { input = cond (eqb n 4) v e.input; output = cond (eqb n 6) v e.output; b = cond (eqb n 2) v e.b }
 
-put-enable : (e : Enables) (n : ℕ) (v : Bool) (g : Group) (s : Side) → enableOf (put e n v) g s ≡ cond (eqb n (linePin g s)) v (enableOf e g s)
+put-enable : (e : Enables) (n : ℕ) (v : Bool) (g : Group) (s : Side) → enable_of (put e n v) g s ≡ cond (eqb n (line_pin g s)) v (enable_of e g s)
 put-enable e n v A Input = refl
 put-enable e n v A Output = refl
 put-enable e n v B s = refl
 
 -- What is put besides the channels: a bit of the latch, an enable, or nothing at all.
-record Put (c : Core) (n : ℕ) (v free inUse : Bool) (after : Core) : Type 0 where
+record Put (c : Core) (n : ℕ) (v free in_use : Bool) (after : Core) : Type 0 where
   bits : (k : ℕ) → k < 8 → bit_of after.c.latch k ≡ cond (free && eqb k n) v (bit_of c.c.latch k)
-  enables : (g : Group) (s : Side) → enableOf after.inte g s ≡ cond (inUse && eqb n (linePin g s)) v (enableOf c.inte g s)
-  nothing : (free || (inUse && (isLinePin n || isFlagPin n))) ≡ false → after ≡ c
+  enables : (g : Group) (s : Side) → enable_of after.inte g s ≡ cond (in_use && eqb n (line_pin g s)) v (enable_of c.inte g s)
+  nothing : (free || (in_use && (is_line_pin n || is_flag_pin n))) ≡ false → after ≡ c
 
 module _ (c : Core) (v : Bool) where
   -- A pin that a handshake uses, by its number.
   abbrev InHandshake : Bool → ℕ → Type 0
-  InHandshake taking n = Put c n v false true (setAs c n v (handshakeRole taking n))
+  InHandshake taking n = Put c n v false true (set_as c n v (handshake_role taking n))
 
-  of-line : (taking : Bool) (n : ℕ) → (setAs c n v (handshakeRole taking n)).c ≡ c.c → (setAs c n v (handshakeRole taking n)).inte ≡ put c.inte n v
-      → ((isLinePin n || isFlagPin n) ≡ false → setAs c n v (handshakeRole taking n) ≡ c) → InHandshake taking n
+  of-line : (taking : Bool) (n : ℕ) → (set_as c n v (handshake_role taking n)).c ≡ c.c → (set_as c n v (handshake_role taking n)).inte ≡ put c.inte n v
+      → ((is_line_pin n || is_flag_pin n) ≡ false → set_as c n v (handshake_role taking n) ≡ c) → InHandshake taking n
   of-line taking n lines enables none = record {
     bits = λ k hk. ap (λ l. bit_of l.latch k) lines;
-    enables = λ g s. ap (λ e. enableOf e g s) enables ∙ put-enable c.inte n v g s;
+    enables = λ g s. ap (λ e. enable_of e g s) enables ∙ put-enable c.inte n v g s;
     nothing = none;
   }
 
@@ -72,36 +72,36 @@ module _ (c : Core) (v : Bool) where
       (of-line false 6 refl refl (λ none. absurd (subst T none tt))) (of-line false 7 refl refl (λ none. absurd (subst T none tt)))
 
   module _ (n : ℕ) (hn : n < 8) where
-    set : (inUse taking inward : Bool)
-        → Put c n v (not inUse && not inward) inUse (setAs c n v (cond inUse (handshakeRole taking n) (cond (not inUse && inward) input output)))
+    set : (in_use taking inward : Bool)
+        → Put c n v (not in_use && not inward) in_use (set_as c n v (cond in_use (handshake_role taking n) (cond (not in_use && inward) input output)))
     set true taking inward = in-handshake taking n hn
     set false taking true = record { bits = λ k hk. refl; enables = λ g s. refl; nothing = λ none. refl }
     set false taking false = record { bits = bit-of-with c.c.latch n v; enables = λ g s. refl; nothing = λ none. absurd (subst T none tt) }
 
-    put-so : Put c n v (freeOutput c.word n) (used c.word n) (pinSet c n v)
-    unfolding pinSet
-    put-so = rw (role-by-bits c.word n hn) (set (used c.word n) (bit_of c.word 1) (intoC c.word n))
+    put-so : Put c n v (free_output c.word n) (used c.word n) (pin_set c n v)
+    unfolding pin_set
+    put-so = rw (role-by-bits c.word n hn) (set (used c.word n) (bit_of c.word 1) (into_c c.word n))
 
-    one-pin : OnePin c n v (freeOutput c.word n) (used c.word n) (pinSet c n v)
+    one-pin : OnePin c n v (free_output c.word n) (used c.word n) (pin_set c n v)
     one-pin =
         let k = pin-put c n v hn in
         record {
           word = k.surroundings.word;
           levels = k.surroundings.ports;
-          linesLevels = k.surroundings.lines;
+          lines_levels = k.surroundings.lines;
           bits = put-so.bits;
           enables = put-so.enables;
           channels = λ g s. k.channel g s
-              ∙ ap (λ (on : Bool). cond (on && eqb n (flagPin g s)) (afterForce s v (channelOf c g s)) (channelOf c g s)) (strobed-by-bits c.word g s);
+              ∙ ap (λ (on : Bool). cond (on && eqb n (flag_pin g s)) (after_force s v (channel_of c g s)) (channel_of c g s)) (strobed-by-bits c.word g s);
           nothing = put-so.nothing;
         }
 
-set_word : (c : Core) (d : ℕ) → bit_of d 7 ≡ false → afterWriteEnds c 3 d ≡ pinSet c (d / 2 % 8) (bit_of d 0)
-unfolding afterWriteEnds
-set_word c d clear = bit_word c d clear
+set_word : (c : Core) (d : ℕ) → bit_of d 7 ≡ false → after_write_ends c 3 d ≡ pin_set c (d / 2 % 8) (bit_of d 0)
+unfolding after_write_ends
+set_word c d clear = bit-word c d clear
 
 -- The end of a write of a control word with bit 7 clear.
 pub bit-set-changes-one : (c : Chip) (b x d : ℕ) → c.phase ≡ Writing 3 b → bit_of b 7 ≡ false
-    → OnePin c.core (b / 2 % 8) (bit_of b 0) (freeOutput c.core.word (b / 2 % 8)) (used c.core.word (b / 2 % 8)) (step_of c 2 x d).chip.core
+    → OnePin c.core (b / 2 % 8) (bit_of b 0) (free_output c.core.word (b / 2 % 8)) (used c.core.word (b / 2 % 8)) (step_of c 2 x d).chip.core
 bit-set-changes-one c b x d phase clear =
     rw (write-ends c 3 b x d phase, set_word c.core b clear) (one-pin c.core (bit_of b 0) (b / 2 % 8) (omega arith))

@@ -9,23 +9,23 @@ use Rattle.bits.proofs.Logic.{both, either_way}
 use Rattle.bus.specs.declared.Phase.TheVariants.{Writing}
 use Rattle.control.specs.declared.Group.{Group}
 use Rattle.control.specs.declared.Group.TheVariants.{A, B}
-use Rattle.control.specs.Mode.{strobedOutput, outputOf}
+use Rattle.control.specs.Mode.{strobed_output, output_of}
 use Rattle.channel.specs.declared.Side.TheVariants.{Input, Output}
-use Rattle.channel.specs.Moves.{afterOffer}
+use Rattle.channel.specs.Moves.{after_offer}
 use Rattle.channel.proofs.ConditionsLeft.{offer-latches}
 use Rattle.chip.specs.declared.Core.{Core}
 use Rattle.chip.specs.declared.Chip.{Chip}
-use Rattle.chip.specs.State.{portOf, channelOf}
-use Rattle.chip.specs.Handshakes.{strobed, ownAddress}
-use Rattle.writes.specs.Write.{storedBy, afterWriteEnds}
+use Rattle.chip.specs.State.{port_of, channel_of}
+use Rattle.chip.specs.Handshakes.{strobed, own_address}
+use Rattle.writes.specs.Write.{stored_by, after_write_ends}
 use Rattle.writes.proofs.PortsAfter.{own-stored}
 use Rattle.levels.proofs.PortsAfter.{levels-word, levels-ports}
-use Rattle.ports.specs.Reads.{readPort, read_of}
-use Rattle.ports.specs.Pins.{drivesPort, pinsOfPort, pinsOf}
+use Rattle.ports.specs.Reads.{read_port, read_of}
+use Rattle.ports.specs.Pins.{drives_port, pins_of_port, pins_of}
 use Rattle.step.specs.Step.{step_of}
 use Rattle.step.proofs.Ends.{write-ends}
 use Rattle.step.proofs.Outcome.{step-accepts, step-either}
-use Rattle.laws.specs.PlainBits.{goesBothWays, handshake, into, outputOnly, inputOnly}
+use Rattle.laws.specs.PlainBits.{goes_both_ways, handshake, into, output_only, input_only}
 use Rattle.laws.specs.Ports.{Gives, Takes}
 use Rattle.laws.proofs.PlainBits.{two-by-bit, direction-by-bit, strobed-by-bits}
 use Rattle.laws.proofs.OwnPort.{own-accepted, own-pins, own_read}
@@ -33,27 +33,27 @@ use Rattle.laws.proofs.Falls.{given-latch}
 
 -- A port that is not in mode 2, and has a direction.
 record OneWay (w : ℕ) (g : Group) (inward : Bool) : Type 0 where
-  not-two : goesBothWays w g ≡ false
+  not-two : goes_both_ways w g ≡ false
   way : into w g ≡ inward
 
-goes-out : (w : ℕ) (g : Group) → outputOnly w g ≡ true → OneWay w g false
+goes-out : (w : ℕ) (g : Group) → output_only w g ≡ true → OneWay w g false
 goes-out w g out =
-    let e = both (not (goesBothWays w g)) (not (into w g)) out in record { not-two = not-true (goesBothWays w g) e.0; way = not-true (into w g) e.1 }
+    let e = both (not (goes_both_ways w g)) (not (into w g)) out in record { not-two = not-true (goes_both_ways w g) e.0; way = not-true (into w g) e.1 }
 
-goes_in : (w : ℕ) (g : Group) → inputOnly w g ≡ true → OneWay w g true
-goes_in w g taking = let e = both (not (goesBothWays w g)) (into w g) taking in record { not-two = not-true (goesBothWays w g) e.0; way = e.1 }
+goes_in : (w : ℕ) (g : Group) → input_only w g ≡ true → OneWay w g true
+goes_in w g taking = let e = both (not (goes_both_ways w g)) (into w g) taking in record { not-two = not-true (goes_both_ways w g) e.0; way = e.1 }
 
 -- What the definitions ask of it. Every port but one that is only an input stores what is written to it.
-stores : (w : ℕ) (g : Group) → outputOf w g ≡ not (inputOnly w g)
-unfolding outputOf
-stores w g = rw (two-by-bit w g, direction-by-bit w g) (go (goesBothWays w g) (into w g))
+stores : (w : ℕ) (g : Group) → output_of w g ≡ not (input_only w g)
+unfolding output_of
+stores w g = rw (two-by-bit w g, direction-by-bit w g) (go (goes_both_ways w g) (into w g))
   where
     go : (two way : Bool) → (two || not way) ≡ not (not two && way)
     go true way = refl
     go false way = refl
 
-drives : (c : Core) (g : Group) (inward : Bool) → OneWay c.word g inward → drivesPort c g ≡ not inward
-unfolding drivesPort
+drives : (c : Core) (g : Group) (inward : Bool) → OneWay c.word g inward → drives_port c g ≡ not inward
+unfolding drives_port
 drives c A inward one = rw (two-by-bit c.word A, one.not-two) (stores c.word A ∙ rw (one.not-two, one.way))
 drives c B inward one = stores c.word B ∙ rw one.way
 
@@ -61,8 +61,8 @@ strobes : (w : ℕ) (g : Group) (inward : Bool) → OneWay w g inward → strobe
 strobes w g inward one = strobed-by-bits w g Input ∙ rw (one.not-two, one.way)
 
 -- An output drives and answers its latch, whatever the lines of port C are.
-pub output-drives : (c : Chip) (g : Group) (a : ℕ) → ownAddress a g ≡ true → outputOnly c.core.word g ≡ true → Gives c g a
-unfolding pinsOfPort readPort
+pub output-drives : (c : Chip) (g : Group) (a : ℕ) → own_address a g ≡ true → output_only c.core.word g ≡ true → Gives c g a
+unfolding pins_of_port read_port
 output-drives c g a own out =
     let w = c.core.word in
     let one = goes-out w g out in
@@ -72,8 +72,8 @@ output-drives c g a own out =
     }
 
 -- An input drives nothing.
-pub input-undriven : (c : Chip) (g : Group) (a : ℕ) → ownAddress a g ≡ true → inputOnly c.core.word g ≡ true → Takes c g a
-unfolding pinsOfPort readPort
+pub input-undriven : (c : Chip) (g : Group) (a : ℕ) → own_address a g ≡ true → input_only c.core.word g ≡ true → Takes c g a
+unfolding pins_of_port read_port
 input-undriven c g a own taking =
     let w = c.core.word in
     let one = goes_in w g taking in
@@ -83,26 +83,26 @@ input-undriven c g a own taking =
     }
 
 -- The end of a write to an input changes nothing, and to any other port leaves the byte in its output latch.
-unwritten : (c : Core) (a b : ℕ) (g : Group) → ownAddress a g ≡ true → outputOf c.word g ≡ false → afterWriteEnds c a b ≡ c
-unfolding afterWriteEnds storedBy
+unwritten : (c : Core) (a b : ℕ) (g : Group) → own_address a g ≡ true → output_of c.word g ≡ false → after_write_ends c a b ≡ c
+unfolding after_write_ends stored_by
 unwritten c a b A own taking = rw (eqb-true a 0 own, taking)
 unwritten c a b B own taking = rw (eqb-true a 1 own, taking)
 
-stored-latch : (c : Core) (a b : ℕ) (g : Group) → ownAddress a g ≡ true → outputOf c.word g ≡ true → (portOf (afterWriteEnds c a b) g).output.latch ≡ b
+stored-latch : (c : Core) (a b : ℕ) (g : Group) → own_address a g ≡ true → output_of c.word g ≡ true → (port_of (after_write_ends c a b) g).output.latch ≡ b
 stored-latch c a b g own out =
-    let channel = channelOf c g Output in
+    let channel = channel_of c g Output in
     ap (λ ch. ch.latch) ((own-stored c a b g own).output g)
-    ∙ rw (own, out) (either_way (λ ch. ch.latch) b (strobedOutput c.word g) (afterOffer channel b) _ (offer-latches channel b) refl)
+    ∙ rw (own, out) (either_way (λ ch. ch.latch) b (strobed_output c.word g) (after_offer channel b) _ (offer-latches channel b) refl)
 
-module _ (c : Chip) (g : Group) (a b x d : ℕ) (phase : c.phase ≡ Writing a b) (own : ownAddress a g ≡ true) where
-  pub write-to-input : inputOnly c.core.word g ≡ true → (step_of c 2 x d).chip.core ≡ c.core
+module _ (c : Chip) (g : Group) (a b x d : ℕ) (phase : c.phase ≡ Writing a b) (own : own_address a g ≡ true) where
+  pub write-to-input : input_only c.core.word g ≡ true → (step_of c 2 x d).chip.core ≡ c.core
   write-to-input taking = rw (write-ends c a b x d phase) (unwritten c.core a b g own (stores c.core.word g ∙ rw (taking)))
 
-  pub write-to-output : inputOnly c.core.word g ≡ false → (portOf (step_of c 2 x d).chip.core g).output.latch ≡ b
+  pub write-to-output : input_only c.core.word g ≡ false → (port_of (step_of c 2 x d).chip.core g).output.latch ≡ b
   write-to-output giving = rw (write-ends c a b x d phase) (stored-latch c.core a b g own (stores c.core.word g ∙ rw (giving)))
 
   -- An output of mode 0 or 1 shows it from then on.
-  pub output-shows : outputOnly c.core.word g ≡ true → pinsOf (step_of c 2 x d).chip a ≡ record { levels = b; driven = 0xff }
+  pub output-shows : output_only c.core.word g ≡ true → pins_of (step_of c 2 x d).chip a ≡ record { levels = b; driven = 0xff }
   output-shows out =
       let one = goes-out c.core.word g out in
       rw (write-ends c a b x d phase)
@@ -110,16 +110,16 @@ module _ (c : Chip) (g : Group) (a b x d : ℕ) (phase : c.phase ≡ Writing a b
       ∙ ap (λ (l : ℕ). record { levels = l; driven = 0xff }) (stored-latch c.core a b g own (stores c.core.word g ∙ rw (one.not-two, one.way))))
 
 -- What is shown stays, whatever levels are put on any port from outside.
-pub output-held : (c : Chip) (g : Group) (a x d : ℕ) → ownAddress a g ≡ true → outputOnly c.core.word g ≡ true
-    → pinsOf (step_of c 5 x d).chip a ≡ pinsOf c a
+pub output-held : (c : Chip) (g : Group) (a x d : ℕ) → own_address a g ≡ true → output_only c.core.word g ≡ true
+    → pins_of (step_of c 5 x d).chip a ≡ pins_of c a
 output-held c g a x d own out =
-    step-either (λ c'. pinsOf c' a ≡ pinsOf c a) c 5 x d refl
+    step-either (λ c'. pins_of c' a ≡ pins_of c a) c 5 x d refl
     (λ ok. (output-drives _ g a own (rw (levels-word c.core x d) (out))).shows
     ∙ ap (λ (l : ℕ). record { levels = l; driven = 0xff }) (given-latch c.core g x d)
     ∙ sym (output-drives c g a own out).shows)
 
 -- Without a handshake new levels are read at once.
-pub input-follows : (c : Chip) (g : Group) (a d : ℕ) → ownAddress a g ≡ true → inputOnly c.core.word g ≡ true
+pub input-follows : (c : Chip) (g : Group) (a d : ℕ) → own_address a g ≡ true → input_only c.core.word g ≡ true
     → handshake c.core.word g ≡ false → read_of (step_of c 5 a d).chip a ≡ d
 input-follows c g a d own taking none =
     let same = levels-word c.core a d in

@@ -10,71 +10,71 @@ use Rattle.bits.specs.Bit.{bit_of}
 use Rattle.bus.specs.declared.Phase.TheVariants.{Idle, Writing}
 use Rattle.control.specs.declared.Group.{Group}
 use Rattle.control.specs.declared.Group.TheVariants.{A, B}
-use Rattle.roles.specs.Role.{Role, input, output, INTR, IBF, OBF, STB, ACK, roleOf}
+use Rattle.roles.specs.Role.{Role, input, output, INTR, IBF, OBF, STB, ACK, role_of}
 use Rattle.channel.specs.declared.Side.{Side}
 use Rattle.channel.specs.declared.Side.TheVariants.{Input, Output}
 use Rattle.chip.specs.declared.Core.{Core}
 use Rattle.chip.specs.declared.Chip.{Chip}
-use Rattle.chip.specs.State.{withLatch}
-use Rattle.chip.specs.Handshakes.{groupAt, strobed, linePin, enableOf, ownAddress}
-use Rattle.status.specs.Status.{flagAt, requestOf, intrOf}
-use Rattle.writes.specs.Write.{latchWritten, afterWriteEnds}
-use Rattle.ports.specs.Pins.{levelAs}
-use Rattle.step.specs.Step.{onBus, step_of}
+use Rattle.chip.specs.State.{with_latch}
+use Rattle.chip.specs.Handshakes.{group_at, strobed, line_pin, enable_of, own_address}
+use Rattle.status.specs.Status.{flag_at, request_of, intr_of}
+use Rattle.writes.specs.Write.{latch_written, after_write_ends}
+use Rattle.ports.specs.Pins.{level_as}
+use Rattle.step.specs.Step.{on_bus, step_of}
 use Rattle.step.proofs.Ends.{write-ends}
 use Rattle.laws.specs.Seen.{pin, told}
-use Rattle.laws.specs.PlainBits.{handshake, freeOutput}
+use Rattle.laws.specs.PlainBits.{handshake, free_output}
 use Rattle.laws.proofs.ChannelPins.{told-enable, pin-by-role}
 use Rattle.laws.proofs.PortC.{bits-written}
 use Rattle.laws.proofs.Halves.{intr-after}
 
 -- A port C read tells the enable, whatever level STB or ACK has.
 pub read-tells-enable : (c : Chip) (g : Group) (s : Side) → strobed c.core.word g s ≡ true
-    → told c (linePin g s) ≡ enableOf c.core.inte g s
+    → told c (line_pin g s) ≡ enable_of c.core.inte g s
 read-tells-enable c g s on = told-enable c g s on
 
 -- A port C write beside a handshake of group A leaves bits 7 to 4 of the latch.
-upper-stays : (w x d n : ℕ) → handshake w A ≡ true → 4 ≤ n → n < 8 → bit_of (latchWritten w x d) n ≡ bit_of x n
+upper-stays : (w x d n : ℕ) → handshake w A ≡ true → 4 ≤ n → n < 8 → bit_of (latch_written w x d) n ≡ bit_of x n
 upper-stays w x d n beside above below =
     let none : (ltb n 4 || not (handshake w A)) ≡ false = rw (le-ltb _ _ above, beside) in
-    bits-written w x d n below ∙ rw (none, and-false (freeOutput w n))
+    bits-written w x d n below ∙ rw (none, and-false (free_output w n))
 
 pub write-leaves-upper : (c : Chip) (b x d n : ℕ) → c.phase ≡ Writing 2 b → handshake c.core.word A ≡ true → 4 ≤ n → n < 8
     → bit_of (step_of c 2 x d).chip.core.c.latch n ≡ bit_of c.core.c.latch n
-unfolding afterWriteEnds
+unfolding after_write_ends
 write-leaves-upper c b x d n phase beside above below =
     rw (write-ends c 2 b x d phase) (upper-stays c.core.word c.core.c.latch b n beside above below)
 
 -- So do the pins that show them.
-flag_same : (c : Core) (x : ℕ) (g : Group) (s : Side) → flagAt (withLatch c x) g s ≡ flagAt c g s
+flag_same : (c : Core) (x : ℕ) (g : Group) (s : Side) → flag_at (with_latch c x) g s ≡ flag_at c g s
 flag_same c x A s = refl
 flag_same c x B s = refl
 
-intr-same : (c : Chip) (b x : ℕ) (g : Group) → c.phase ≡ Writing 2 b → intrOf (onBus Idle c.edition (withLatch c.core x)) g ≡ intrOf c g
-unfolding intrOf requestOf
+intr-same : (c : Chip) (b x : ℕ) (g : Group) → c.phase ≡ Writing 2 b → intr_of (on_bus Idle c.edition (with_latch c.core x)) g ≡ intr_of c g
+unfolding intr_of request_of
 intr-same c b x A phase = rw (phase)
 intr-same c b x B phase = rw (phase)
 
 level-same : (c : Chip) (b x n : ℕ) (r : Role) → c.phase ≡ Writing 2 b → bit_of x n ≡ bit_of c.core.c.latch n
-    → levelAs (onBus Idle c.edition (withLatch c.core x)) n r ≡ levelAs c n r
+    → level_as (on_bus Idle c.edition (with_latch c.core x)) n r ≡ level_as c n r
 level-same c b x n input phase same = refl
 level-same c b x n output phase same = same
-level-same c b x n INTR phase same = intr-same c b x (groupAt n) phase
-level-same c b x n IBF phase same = flag_same c.core x (groupAt n) Input
-level-same c b x n OBF phase same = flag_same c.core x (groupAt n) Output
+level-same c b x n INTR phase same = intr-same c b x (group_at n) phase
+level-same c b x n IBF phase same = flag_same c.core x (group_at n) Input
+level-same c b x n OBF phase same = flag_same c.core x (group_at n) Output
 level-same c b x n STB phase same = refl
 level-same c b x n ACK phase same = refl
 
 pub write-leaves-upper-pins : (c : Chip) (b x d n : ℕ) → c.phase ≡ Writing 2 b → handshake c.core.word A ≡ true → 4 ≤ n → n < 8
     → pin (step_of c 2 x d).chip n ≡ pin c n
-unfolding afterWriteEnds
+unfolding after_write_ends
 write-leaves-upper-pins c b x d n phase beside above below =
-    let latch = latchWritten c.core.word c.core.c.latch b in
+    let latch = latch_written c.core.word c.core.c.latch b in
     rw (write-ends c 2 b x d phase)
-    (pin-by-role (onBus Idle c.edition (withLatch c.core latch)) n below
-    ∙ level-same c b latch n (roleOf c.core.word n) phase (upper-stays c.core.word c.core.c.latch b n beside above below)
+    (pin-by-role (on_bus Idle c.edition (with_latch c.core latch)) n below
+    ∙ level-same c b latch n (role_of c.core.word n) phase (upper-stays c.core.word c.core.c.latch b n beside above below)
     ∙ sym (pin-by-role c n below))
 
 -- A read of another port leaves a group's INTR as it was: of reads, only the own port's drops it. What every cycle leaves is in Halves.
-pub read-elsewhere-keeps-intr : (c : Chip) (g : Group) (x d : ℕ) → ownAddress x g ≡ false → intrOf (step_of c 1 x d).chip g ≡ intrOf c g
-read-elsewhere-keeps-intr c g x d = (intr-after c g x d).readBegins
+pub read-elsewhere-keeps-intr : (c : Chip) (g : Group) (x d : ℕ) → own_address x g ≡ false → intr_of (step_of c 1 x d).chip g ≡ intr_of c g
+read-elsewhere-keeps-intr c g x d = (intr-after c g x d).read_begins

@@ -10,16 +10,16 @@ use Rattle.bits.specs.Bit.{bit_of}
 use Rattle.bits.proofs.Tested.{numbers, numbers-of-two}
 use Rattle.control.specs.declared.Group.{Group}
 use Rattle.control.specs.declared.Group.TheVariants.{A, B}
-use Rattle.control.specs.Mode.{mode_of, input_of, upperInput, lowerInput}
+use Rattle.control.specs.Mode.{mode_of, input_of, upper_input, lower_input}
 use Rattle.control.proofs.AsByte.{as_byte}
 use Rattle.control.proofs.ByBits.{a-takes, a-gives, b-takes, b-gives}
-use Rattle.roles.specs.Role.{number, usesOf, freeRole, roleOf}
+use Rattle.roles.specs.Role.{number, uses_of, free_role, role_of}
 use Rattle.roles.proofs.SameWords.{role-as-byte}
 use Rattle.roles.proofs.PinByMasks.{number-one}
 use Rattle.channel.specs.declared.Side.{Side}
 use Rattle.channel.specs.declared.Side.TheVariants.{Input, Output}
 use Rattle.chip.specs.Handshakes.{strobed}
-use Rattle.laws.specs.PlainBits.{goesBothWays, handshake, into, handshakeOn, roleBy}
+use Rattle.laws.specs.PlainBits.{goes_both_ways, handshake, into, handshake_on, role_by}
 
 -- What holds of each of the eight pins holds of every number below 8.
 pub by-pin : (P : ℕ → Type 0) → P 0 → P 1 → P 2 → P 3 → P 4 → P 5 → P 6 → P 7 → (n : ℕ) → n < 8 → P n
@@ -42,18 +42,18 @@ bit-as-byte w n below =
     (omega arith) (omega arith) (omega arith) (omega arith) (omega arith) (omega arith) (omega arith) (omega arith) n below)
 
 -- The mode of a group.
-pub mode-by-bits : (w : ℕ) (g : Group) → mode_of w g ≡ cond (goesBothWays w g) 2 (cond (handshake w g) 1 0)
+pub mode-by-bits : (w : ℕ) (g : Group) → mode_of w g ≡ cond (goes_both_ways w g) 2 (cond (handshake w g) 1 0)
 unfolding mode_of bit_of
 mode-by-bits w A =
     rw (← (as_byte w).mode A, ← bit-as-byte w 6 (lit< tt), ← bit-as-byte w 5 (lit< tt))
-    (numbers 256 (λ w. mode_of w A) (λ w. cond (goesBothWays w A) 2 (cond (handshake w A) 1 0)) tt (w % 256) (omega arith))
+    (numbers 256 (λ w. mode_of w A) (λ w. cond (goes_both_ways w A) 2 (cond (handshake w A) 1 0)) tt (w % 256) (omega arith))
 mode-by-bits w B =
     rw (← (as_byte w).mode B)
-    (numbers 256 (λ w. mode_of w B) (λ w. cond (goesBothWays w B) 2 (cond (handshake w B) 1 0)) tt (w % 256) (omega arith))
+    (numbers 256 (λ w. mode_of w B) (λ w. cond (goes_both_ways w B) 2 (cond (handshake w B) 1 0)) tt (w % 256) (omega arith))
 
 -- Mode 2 is bit 6, and mode 0 of group A is neither 6 nor 5.
-pub two-by-bit : (w : ℕ) (g : Group) → eqb (mode_of w g) 2 ≡ goesBothWays w g
-two-by-bit w g = ap (λ (m : ℕ). eqb m 2) (mode-by-bits w g) ∙ go (goesBothWays w g) (handshake w g)
+pub two-by-bit : (w : ℕ) (g : Group) → eqb (mode_of w g) 2 ≡ goes_both_ways w g
+two-by-bit w g = ap (λ (m : ℕ). eqb m 2) (mode-by-bits w g) ∙ go (goes_both_ways w g) (handshake w g)
   where
     go : (two one : Bool) → eqb (cond two 2 (cond one 1 0)) 2 ≡ two
     go true one = refl
@@ -78,15 +78,15 @@ absorbs : (six five way : Bool) → (six || (five && way)) ≡ (six || ((six || 
 absorbs true five way = refl
 absorbs false five way = refl
 
-pub strobed-by-bits : (w : ℕ) (g : Group) (s : Side) → strobed w g s ≡ handshakeOn w g s
+pub strobed-by-bits : (w : ℕ) (g : Group) (s : Side) → strobed w g s ≡ handshake_on w g s
 strobed-by-bits w A Input = a-takes w ∙ absorbs (bit_of w 6) (bit_of w 5) (bit_of w 4)
 strobed-by-bits w A Output = a-gives w ∙ absorbs (bit_of w 6) (bit_of w 5) (not (bit_of w 4))
 strobed-by-bits w B Input = b-takes w
 strobed-by-bits w B Output = b-gives w
 
 -- The role of a pin.
-pub role-by-bits : (w n : ℕ) → n < 8 → roleOf w n ≡ roleBy w n
-unfolding roleOf usesOf freeRole mode_of input_of upperInput lowerInput bit_of
+pub role-by-bits : (w n : ℕ) → n < 8 → role_of w n ≡ role_by w n
+unfolding role_of uses_of free_role mode_of input_of upper_input lower_input bit_of
 role-by-bits w n below =
     rw (
       ← role-as-byte w n,
@@ -100,6 +100,6 @@ role-by-bits w n below =
     )
     (of-byte (w % 256) n (omega arith) below)
   where
-    of-byte : (w n : ℕ) → w < 256 → n < 8 → roleOf w n ≡ roleBy w n
+    of-byte : (w n : ℕ) → w < 256 → n < 8 → role_of w n ≡ role_by w n
     of-byte w n hw hn =
-        number-one (roleOf w n) (roleBy w n) (numbers-of-two 256 8 (λ w n. number (roleOf w n)) (λ w n. number (roleBy w n)) tt w n hw hn)
+        number-one (role_of w n) (role_by w n) (numbers-of-two 256 8 (λ w n. number (role_of w n)) (λ w n. number (role_by w n)) tt w n hw hn)

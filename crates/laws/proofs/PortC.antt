@@ -8,56 +8,56 @@ use Rattle.bits.specs.Bit.{bit_of}
 use Rattle.bits.proofs.Tested.{bits}
 use Rattle.bits.proofs.BitLaws.{bit-of-assembled}
 use Rattle.bus.specs.declared.Phase.TheVariants.{Writing}
-use Rattle.roles.specs.Role.{input, output, roleOf}
-use Rattle.roles.specs.Pins.{isOutput, handshakeRole}
+use Rattle.roles.specs.Role.{input, output, role_of}
+use Rattle.roles.specs.Pins.{is_output, handshake_role}
 use Rattle.chip.specs.declared.Chip.{Chip}
-use Rattle.writes.specs.Write.{writable, latchWritten, afterWriteEnds}
-use Rattle.ports.specs.Pins.{isDriven, pinsOfLines, pinsOf}
+use Rattle.writes.specs.Write.{writable, latch_written, after_write_ends}
+use Rattle.ports.specs.Pins.{is_driven, pins_of_lines, pins_of}
 use Rattle.step.specs.Step.{step_of}
 use Rattle.step.proofs.Ends.{write-ends}
 use Rattle.laws.specs.Seen.{driven}
-use Rattle.laws.specs.PlainBits.{used, intoC, freeOutput, isLinePin}
-use Rattle.laws.specs.PortC.{reached, LinesWritten, drivenBy, LineShown}
+use Rattle.laws.specs.PlainBits.{used, into_c, free_output, is_line_pin}
+use Rattle.laws.specs.PortC.{reached, LinesWritten, driven_by, LineShown}
 use Rattle.laws.proofs.PlainBits.{zero-by-bits, role-by-bits}
 use Rattle.laws.proofs.ChannelPins.{pin-by-role, told-by-role}
 
 -- No role of a handshake is free output, and all but those on pins 2, 4 and 6 are driven.
-not_free : (taking : Bool) (n : ℕ) → n < 8 → isOutput (handshakeRole taking n) ≡ false
-not_free true = bits 8 (λ n. isOutput (handshakeRole true n)) (λ n. false) tt
-not_free false = bits 8 (λ n. isOutput (handshakeRole false n)) (λ n. false) tt
+not_free : (taking : Bool) (n : ℕ) → n < 8 → is_output (handshake_role taking n) ≡ false
+not_free true = bits 8 (λ n. is_output (handshake_role true n)) (λ n. false) tt
+not_free false = bits 8 (λ n. is_output (handshake_role false n)) (λ n. false) tt
 
-but-lines : (taking : Bool) (n : ℕ) → n < 8 → isDriven (handshakeRole taking n) ≡ not (isLinePin n)
-but-lines true = bits 8 (λ n. isDriven (handshakeRole true n)) (λ n. not (isLinePin n)) tt
-but-lines false = bits 8 (λ n. isDriven (handshakeRole false n)) (λ n. not (isLinePin n)) tt
+but-lines : (taking : Bool) (n : ℕ) → n < 8 → is_driven (handshake_role taking n) ≡ not (is_line_pin n)
+but-lines true = bits 8 (λ n. is_driven (handshake_role true n)) (λ n. not (is_line_pin n)) tt
+but-lines false = bits 8 (λ n. is_driven (handshake_role false n)) (λ n. not (is_line_pin n)) tt
 
 module _ (w n : ℕ) (below : n < 8) where
-  free-by-bits : isOutput (roleOf w n) ≡ freeOutput w n
-  free-by-bits = ap isOutput (role-by-bits w n below) ∙ go (used w n) (intoC w n)
+  free-by-bits : is_output (role_of w n) ≡ free_output w n
+  free-by-bits = ap is_output (role-by-bits w n below) ∙ go (used w n) (into_c w n)
     where
-      go : (inUse inward : Bool)
-          → isOutput (cond inUse (handshakeRole (bit_of w 1) n) (cond (not inUse && inward) input output)) ≡ (not inUse && not inward)
+      go : (in_use inward : Bool)
+          → is_output (cond in_use (handshake_role (bit_of w 1) n) (cond (not in_use && inward) input output)) ≡ (not in_use && not inward)
       go true inward = not_free (bit_of w 1) n below
       go false true = refl
       go false false = refl
 
-  driven-by-bits : isDriven (roleOf w n) ≡ drivenBy w n
-  driven-by-bits = ap isDriven (role-by-bits w n below) ∙ go (used w n) (intoC w n)
+  driven-by-bits : is_driven (role_of w n) ≡ driven_by w n
+  driven-by-bits = ap is_driven (role-by-bits w n below) ∙ go (used w n) (into_c w n)
     where
-      go : (inUse inward : Bool)
-          → isDriven (cond inUse (handshakeRole (bit_of w 1) n) (cond (not inUse && inward) input output))
-          ≡ not ((not inUse && inward) || (inUse && isLinePin n))
+      go : (in_use inward : Bool)
+          → is_driven (cond in_use (handshake_role (bit_of w 1) n) (cond (not in_use && inward) input output))
+          ≡ not ((not in_use && inward) || (in_use && is_line_pin n))
       go true inward = but-lines (bit_of w 1) n below
       go false true = refl
       go false false = refl
 
 -- The end of a write to port C.
-pub bits-written : (w x d n : ℕ) → n < 8 → bit_of (latchWritten w x d) n ≡ cond (reached w n) (bit_of d n) (bit_of x n)
-unfolding latchWritten
+pub bits-written : (w x d n : ℕ) → n < 8 → bit_of (latch_written w x d) n ≡ cond (reached w n) (bit_of d n) (bit_of x n)
+unfolding latch_written
 bits-written w x d n below =
     bit-of-assembled (λ n. cond (writable w n) (bit_of d n) (bit_of x n)) n below ∙ rw (free-by-bits w n below, zero-by-bits w)
 
 pub write-to-lines : (c : Chip) (b x d : ℕ) → c.phase ≡ Writing 2 b → LinesWritten c.core b (step_of c 2 x d).chip.core
-unfolding afterWriteEnds
+unfolding after_write_ends
 write-to-lines c b x d phase = rw (write-ends c 2 b x d phase) (record {
   bits = bits-written c.core.word c.core.c.latch b;
   word = refl;
@@ -68,11 +68,11 @@ write-to-lines c b x d phase = rw (write-ends c 2 b x d phase) (record {
 })
 
 -- Which pins are driven, and what each shows.
-pub driven-by-role : (c : Chip) (n : ℕ) → n < 8 → driven c n ≡ isDriven (roleOf c.core.word n)
-unfolding pinsOf pinsOfLines
-driven-by-role c = bit-of-assembled (λ n. isDriven (roleOf c.core.word n))
+pub driven-by-role : (c : Chip) (n : ℕ) → n < 8 → driven c n ≡ is_driven (role_of c.core.word n)
+unfolding pins_of pins_of_lines
+driven-by-role c = bit-of-assembled (λ n. is_driven (role_of c.core.word n))
 
-pub line-driven : (c : Chip) (n : ℕ) → n < 8 → driven c n ≡ drivenBy c.core.word n
+pub line-driven : (c : Chip) (n : ℕ) → n < 8 → driven c n ≡ driven_by c.core.word n
 line-driven c n below = driven-by-role c n below ∙ driven-by-bits c.core.word n below
 
 pub line-shown : (c : Chip) (n : ℕ) → n < 8 → LineShown c n

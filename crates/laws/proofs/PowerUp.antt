@@ -5,26 +5,26 @@ use mathlib.Core.Bool.{true}
 use mathlib.Core.List.{◌++◌}
 use Prim.Native.Nat.{ℕ}
 use Rattle.bits.specs.Bit.{bit_of, value_of}
-use Rattle.events.specs.Kinds.{isKind}
+use Rattle.events.specs.Kinds.{is_kind}
 use Rattle.events.specs.Histories.{levels, write}
-use Rattle.bus.specs.Device.{stepIn}
+use Rattle.bus.specs.Device.{step_in}
 use Rattle.bus.specs.Refusals.{number_of}
 use Rattle.bus.specs.declared.Phase.TheVariants.{Writing}
 use Rattle.control.specs.declared.Group.{Group}
 use Rattle.control.specs.declared.Group.TheVariants.{A, B}
-use Rattle.control.specs.Mode.{mode_of, input_of, upperInput, lowerInput, strobedInput, strobedOutput, outputOf}
-use Rattle.roles.specs.Role.{usesOf, freeRole, roleOf}
+use Rattle.control.specs.Mode.{mode_of, input_of, upper_input, lower_input, strobed_input, strobed_output, output_of}
+use Rattle.roles.specs.Role.{uses_of, free_role, role_of}
 use Rattle.channel.specs.declared.Side.{Side}
 use Rattle.channel.specs.declared.Side.TheVariants.{Input, Output}
-use Rattle.channel.specs.Moves.{afterClear}
+use Rattle.channel.specs.Moves.{after_clear}
 use Rattle.chip.specs.declared.Edition.{Edition}
 use Rattle.chip.specs.declared.Chip.{Chip}
 use Rattle.chip.specs.declared.Levels.{Levels}
-use Rattle.chip.specs.State.{noTally, noByte, powerUpAs, channelOf}
-use Rattle.chip.specs.Handshakes.{strobed, linePin}
-use Rattle.settings.specs.ModeWord.{clearedPort, afterModeWord}
-use Rattle.levels.specs.Levels.{edged, afterLevelsOnC, portAfterLevels, afterLevels}
-use Rattle.ports.specs.Pins.{levelAs, drivesPort, pinsOfPort, pinsOfLines, pinsOf}
+use Rattle.chip.specs.State.{no_tally, no_byte, power_up_as, channel_of}
+use Rattle.chip.specs.Handshakes.{strobed, line_pin}
+use Rattle.settings.specs.ModeWord.{cleared_port, after_mode_word}
+use Rattle.levels.specs.Levels.{edged, after_levels_on_c, port_after_levels, after_levels}
+use Rattle.ports.specs.Pins.{level_as, drives_port, pins_of_port, pins_of_lines, pins_of}
 use Rattle.step.specs.Step.{accepted, step_of}
 use Rattle.laws.specs.Anew.{Anew}
 use Rattle.laws.specs.PowerUp.{AsNamed, Starts}
@@ -33,46 +33,46 @@ use Rattle.laws.proofs.ChannelPins.{pin-by-role, line-pin}
 use Rattle.laws.proofs.ModeWords.{mode-word-renews, reset-roles}
 
 -- Each port shows the levels that were named for it, and nothing is driven.
-pub power-up-shows : (ed : Edition) (l : Levels) → AsNamed l (powerUpAs ed l)
-unfolding pinsOf pinsOfPort pinsOfLines drivesPort outputOf mode_of input_of roleOf usesOf freeRole upperInput lowerInput bit_of value_of
+pub power-up-shows : (ed : Edition) (l : Levels) → AsNamed l (power_up_as ed l)
+unfolding pins_of pins_of_port pins_of_lines drives_port output_of mode_of input_of role_of uses_of free_role upper_input lower_input bit_of value_of
 power-up-shows ed l = record {
   a = refl;
   b = refl;
-  lines = λ n small. pin-by-role (powerUpAs ed l) n small ∙ ap (levelAs (powerUpAs ed l) n) (reset-roles n small);
-  linesDriven = refl;
+  lines = λ n small. pin-by-role (power_up_as ed l) n small ∙ ap (level_as (power_up_as ed l) n) (reset-roles n small);
+  lines_driven = refl;
 }
 
 -- A reset right after a power-up changes nothing: it goes back to what the chip was then, in every field.
-pub reset-as-power-up : (ed : Edition) (l : Levels) (x d : ℕ) → (step_of (powerUpAs ed l) 0 x d).chip ≡ powerUpAs ed l
-unfolding step_of stepIn number_of isKind afterModeWord clearedPort afterClear
+pub reset-as-power-up : (ed : Edition) (l : Levels) (x d : ℕ) → (step_of (power_up_as ed l) 0 x d).chip ≡ power_up_as ed l
+unfolding step_of step_in number_of is_kind after_mode_word cleared_port after_clear
 reset-as-power-up ed l x d = refl
 
 -- To name levels is to put them on the ports right after a power-up under any others: in mode 0 none of them is an edge, and none goes
 -- through to a latch.
 pub named-is-put : (ed : Edition) (k l : Levels)
-    → (after (accepted (powerUpAs ed k) 0) (levels 0 l.a ++ levels 1 l.b ++ levels 2 l.c)).chip ≡ powerUpAs ed l
-unfolding step_of stepIn number_of isKind afterLevels afterLevelsOnC portAfterLevels edged strobedInput strobedOutput mode_of input_of bit_of
+    → (after (accepted (power_up_as ed k) 0) (levels 0 l.a ++ levels 1 l.b ++ levels 2 l.c)).chip ≡ power_up_as ed l
+unfolding step_of step_in number_of is_kind after_levels after_levels_on_c port_after_levels edged strobed_input strobed_output mode_of input_of bit_of
 named-is-put ed k l = refl
 
 -- A mode word finds the lines as they were named, and no byte.
-no-byte-yet : (ed : Edition) (l : Levels) (g : Group) (s : Side) → channelOf (powerUpAs ed l).core g s ≡ noByte
+no-byte-yet : (ed : Edition) (l : Levels) (g : Group) (s : Side) → channel_of (power_up_as ed l).core g s ≡ no_byte
 no-byte-yet ed l A Input = refl
 no-byte-yet ed l A Output = refl
 no-byte-yet ed l B Input = refl
 no-byte-yet ed l B Output = refl
 
-starts-anew : (ed : Edition) (l : Levels) (w : ℕ) (c : Chip) → Anew (powerUpAs ed l).core w c.core → Starts l w c
+starts-anew : (ed : Edition) (l : Levels) (w : ℕ) (c : Chip) → Anew (power_up_as ed l).core w c.core → Starts l w c
 starts-anew ed l w c anew = record {
   line = λ g s on.
       line-pin c g s (subst (λ (v : ℕ). strobed v g s ≡ true) (sym anew.word) on)
-      ∙ ap (λ (d : ℕ). bit_of d (linePin g s)) anew.linesLevels;
+      ∙ ap (λ (d : ℕ). bit_of d (line_pin g s)) anew.lines_levels;
   none = λ g s.
-      let tally : (channelOf c.core g s).tally ≡ noTally = anew.tallies g s ∙ rw (no-byte-yet ed l g s) in
+      let tally : (channel_of c.core g s).tally ≡ no_tally = anew.tallies g s ∙ rw (no-byte-yet ed l g s) in
       λ i. record { fill = anew.empty g s i; latch = anew.latches g s i; tally = tally i };
 }
 
-pub starts : (ed : Edition) (l : Levels) (w : ℕ) → bit_of w 7 ≡ true → Starts l w (after (accepted (powerUpAs ed l) 0) (write 3 w)).chip
-unfolding step_of stepIn number_of isKind
+pub starts : (ed : Edition) (l : Levels) (w : ℕ) → bit_of w 7 ≡ true → Starts l w (after (accepted (power_up_as ed l) 0) (write 3 w)).chip
+unfolding step_of step_in number_of is_kind
 starts ed l w set =
-    let writing : Chip = record { phase = Writing 3 w; edition = ed; core = (powerUpAs ed l).core } in
+    let writing : Chip = record { phase = Writing 3 w; edition = ed; core = (power_up_as ed l).core } in
     starts-anew ed l w (step_of writing 2 0 0).chip (mode-word-renews writing w 0 0 refl set).core

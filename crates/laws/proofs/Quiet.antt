@@ -14,20 +14,20 @@ use Rattle.channel.specs.declared.Side.TheVariants.{Input, Output}
 use Rattle.chip.specs.declared.Chip.{Chip}
 use Rattle.chip.specs.Handshakes.{strobed}
 use Rattle.status.specs.declared.reasons.Reason.TheVariants.{EnableOff, FlagWrong, LineLow, High}
-use Rattle.status.specs.Status.{requestOf, intrOf}
-use Rattle.status.specs.Reasons.{holds, reasonOf, explainedIn, explainedOf, isHigh, saysHigh, numbersOf}
+use Rattle.status.specs.Status.{request_of, intr_of}
+use Rattle.status.specs.Reasons.{holds, reason_of, explained_in, explained_of, is_high, says_high, numbers_of}
 use Rattle.status.proofs.ByReason.{by-reason, none-asks, named-high, quiet}
 use Rattle.status.proofs.ByMode.{by_mode, says-high}
-use Rattle.laws.specs.Seen.{pin, intrPin}
-use Rattle.laws.specs.Quiet.{seen, TrueOf, TrueOfGroup, intrSeen}
+use Rattle.laws.specs.Seen.{pin, intr_pin}
+use Rattle.laws.specs.Quiet.{seen, TrueOf, TrueOfGroup, intr_seen}
 use Rattle.laws.specs.Halves.{half}
 use Rattle.laws.proofs.ChannelPins.{intr-where, flag-pin, line-pin, intr-pin, told-enable}
 use Rattle.laws.proofs.Interrupts.{half_is}
 
-either-raises : (c : Chip) (g : Group) (s : Side) → requestOf c g s ≡ true → intrOf c g ≡ true
-unfolding intrOf
+either-raises : (c : Chip) (g : Group) (s : Side) → request_of c g s ≡ true → intr_of c g ≡ true
+unfolding intr_of
 either-raises c g Input asks = rw (asks)
-either-raises c g Output asks = rw (asks) (or-true (requestOf c g Input))
+either-raises c g Output asks = rw (asks) (or-true (request_of c g Input))
 
 -- Of a half that is there, each reason is seen exactly where it holds, and a half that asks is seen.
 module _ (c : Chip) (g : Group) (s : Side) (there : strobed c.core.word g s ≡ true) where
@@ -40,23 +40,23 @@ module _ (c : Chip) (g : Group) (s : Side) (there : strobed c.core.word g s ≡ 
   pub low-seen : seen c g s LineLow ≡ holds c g s LineLow
   low-seen = ap not (line-pin c g s there)
 
-  pub asked-seen : requestOf c g s ≡ true → seen c g s High ≡ true
+  pub asked-seen : request_of c g s ≡ true → seen c g s High ≡ true
   asked-seen asks = intr-pin c g s there ∙ either-raises c g s asks
 
-  true_of : TrueOf c g s (reasonOf c g s)
+  true_of : TrueOf c g s (reason_of c g s)
   true_of = by-reason c g s (λ r. TrueOf c g s r)
-      (λ off. record { there = there; isSo = off-seen ∙ off; isFirst = tt })
-      (λ on wrong. record { there = there; isSo = wrong-seen ∙ wrong; isFirst = (off-seen ∙ on, tt) })
-      (λ on right low. record { there = there; isSo = low-seen ∙ low; isFirst = (off-seen ∙ on, (wrong-seen ∙ right, tt)) })
-      (λ on right up runs. record { there = there; isSo = runs; isFirst = (off-seen ∙ on, (wrong-seen ∙ right, (low-seen ∙ up, tt))) })
+      (λ off. record { there = there; is_so = off-seen ∙ off; is_first = tt })
+      (λ on wrong. record { there = there; is_so = wrong-seen ∙ wrong; is_first = (off-seen ∙ on, tt) })
+      (λ on right low. record { there = there; is_so = low-seen ∙ low; is_first = (off-seen ∙ on, (wrong-seen ∙ right, tt)) })
+      (λ on right up runs. record { there = there; is_so = runs; is_first = (off-seen ∙ on, (wrong-seen ∙ right, (low-seen ∙ up, tt))) })
       (λ none. record {
         there = there;
-        isSo = asked-seen (none-asks c g s there none);
-        isFirst = (off-seen ∙ none.on, (wrong-seen ∙ none.right, (low-seen ∙ none.up, (none.idle, tt))));
+        is_so = asked-seen (none-asks c g s there none);
+        is_first = (off-seen ∙ none.on, (wrong-seen ∙ none.right, (low-seen ∙ none.up, (none.idle, tt))));
       })
 
 -- The reason given is true of the state, and the first that is.
-pub explained-true : (c : Chip) (g : Group) → TrueOfGroup c g (explainedIn c g)
+pub explained-true : (c : Chip) (g : Group) → TrueOfGroup c g (explained_in c g)
 explained-true c g = by_mode c g (λ r. TrueOfGroup c g r)
     (λ mode i o. mode)
     (λ mode i o. (mode, true_of c g Input i))
@@ -64,27 +64,27 @@ explained-true c g = by_mode c g (λ r. TrueOfGroup c g r)
     (λ mode i o. (mode, (true_of c g Input i, true_of c g Output o)))
 
 -- A half is named high exactly where the pins say that it is, in mode 2 each by itself.
-pub half-named : (c : Chip) (g : Group) (s : Side) → strobed c.core.word g s ≡ true → isHigh (reasonOf c g s) ≡ half c g s
+pub half-named : (c : Chip) (g : Group) (s : Side) → strobed c.core.word g s ≡ true → is_high (reason_of c g s) ≡ half c g s
 half-named c g s there = named-high c g s there ∙ half_is c g s there
 
 -- High is said of a group exactly where the pin view shows its INTR high.
-pub high-as-shown : (c : Chip) (g : Group) → saysHigh (explainedIn c g) ≡ intrSeen c g
-unfolding intrOf
+pub high-as-shown : (c : Chip) (g : Group) → says_high (explained_in c g) ≡ intr_seen c g
+unfolding intr_of
 high-as-shown c g =
     says-high c g ∙ rw (intr-where c.core.word g) (go (strobed c.core.word g Input) (strobed c.core.word g Output) refl refl)
   where
     go : (i o : Bool) → strobed c.core.word g Input ≡ i → strobed c.core.word g Output ≡ o
-        → intrOf c g ≡ ((i || o) && pin c (intrPin g))
+        → intr_of c g ≡ ((i || o) && pin c (intr_pin g))
     go true o there _ = sym (intr-pin c g Input there)
     go false true _ there = sym (intr-pin c g Output there)
     go false false i o = rw (quiet c g Input i, quiet c g Output o)
 
-accepted : (c : Chip) (g : Group) → (numbersOf (explainedIn c g)).number ≡ 0
-accepted c g = by_mode c g (λ r. (numbersOf r).number ≡ 0) (λ mode i o. refl) (λ mode i o. refl) (λ mode i o. refl) (λ mode i o. refl)
+accepted : (c : Chip) (g : Group) → (numbers_of (explained_in c g)).number ≡ 0
+accepted c g = by_mode c g (λ r. (numbers_of r).number ≡ 0) (λ mode i o. refl) (λ mode i o. refl) (λ mode i o. refl) (λ mode i o. refl)
 
 -- Every state has an answer for groups 0 and 1, and 2 is given for every other number.
-pub refused-above-1 : (c : Chip) (n : ℕ) → (numbersOf (explainedOf c n)).number ≡ cond (ltb 1 n) 2 0
-unfolding explainedOf
+pub refused-above-1 : (c : Chip) (n : ℕ) → (numbers_of (explained_of c n)).number ≡ cond (ltb 1 n) 2 0
+unfolding explained_of
 refused-above-1 c zero = accepted c A
 refused-above-1 c (suc zero) = accepted c B
 refused-above-1 c (suc (suc n)) =

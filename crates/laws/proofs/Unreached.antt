@@ -7,13 +7,13 @@ use Rattle.chip.specs.declared.Core.{Core}
 use Rattle.chip.specs.declared.Chip.{Chip}
 use Rattle.reads.proofs.PortsAfter.{ended-nowhere}
 use Rattle.writes.proofs.PortsAfter.{written-nowhere}
-use Rattle.step.specs.Step.{onBus, accepted, step_of}
+use Rattle.step.specs.Step.{on_bus, accepted, step_of}
 use Rattle.step.proofs.Ends.{read-ends, write-ends}
 
-pub read-of-no-port-ends : (c : Chip) (p x d : ℕ) → c.phase ≡ Reading p → 1 < p → step_of c 2 x d ≡ accepted (onBus Idle c.edition c.core) 0
+pub read-of-no-port-ends : (c : Chip) (p x d : ℕ) → c.phase ≡ Reading p → 1 < p → step_of c 2 x d ≡ accepted (on_bus Idle c.edition c.core) 0
 read-of-no-port-ends c p x d phase none =
-    read-ends c p x d phase ∙ ap (λ (core : Core). accepted (onBus Idle c.edition core) 0) (ended-nowhere c.core p none)
+    read-ends c p x d phase ∙ ap (λ (core : Core). accepted (on_bus Idle c.edition core) 0) (ended-nowhere c.core p none)
 
-pub write-to-no-address-ends : (c : Chip) (a b x d : ℕ) → c.phase ≡ Writing a b → 3 < a → step_of c 2 x d ≡ accepted (onBus Idle c.edition c.core) 0
+pub write-to-no-address-ends : (c : Chip) (a b x d : ℕ) → c.phase ≡ Writing a b → 3 < a → step_of c 2 x d ≡ accepted (on_bus Idle c.edition c.core) 0
 write-to-no-address-ends c a b x d phase none =
-    write-ends c a b x d phase ∙ ap (λ (core : Core). accepted (onBus Idle c.edition core) 0) (written-nowhere c.core a b none)
+    write-ends c a b x d phase ∙ ap (λ (core : Core). accepted (on_bus Idle c.edition core) 0) (written-nowhere c.core a b none)

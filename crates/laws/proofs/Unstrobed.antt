@@ -6,59 +6,59 @@ use mathlib.Core.Bool.{Bool, true, false, cond, and-false}
 use Prim.Native.Nat.{ℕ}
 use lib.Dec.{eqb}
 use Rattle.control.specs.declared.Group.{Group}
-use Rattle.control.specs.Mode.{outputOf}
+use Rattle.control.specs.Mode.{output_of}
 use Rattle.channel.specs.declared.Side.{Side}
 use Rattle.channel.specs.declared.Side.TheVariants.{Input, Output}
 use Rattle.chip.specs.declared.Core.{Core}
 use Rattle.chip.specs.declared.Chip.{Chip}
-use Rattle.chip.specs.State.{channelOf}
-use Rattle.chip.specs.Handshakes.{strobed, ownAddress}
+use Rattle.chip.specs.State.{channel_of}
+use Rattle.chip.specs.Handshakes.{strobed, own_address}
 use Rattle.chip.proofs.Surrounded.{latch-spares, spared-channel}
 use Rattle.settings.proofs.PortsAfter.{bit-put}
-use Rattle.reads.specs.Read.{afterReadBegins, afterReadEnds}
+use Rattle.reads.specs.Read.{after_read_begins, after_read_ends}
 use Rattle.reads.proofs.PortsAfter.{begun-input, begun-output, ended-input, ended-output}
-use Rattle.writes.specs.Write.{storedIn}
+use Rattle.writes.specs.Write.{stored_in}
 use Rattle.writes.proofs.PortsAfter.{Stored}
 use Rattle.step.specs.Step.{step_of}
-use Rattle.laws.specs.Seen.{makesAnew}
+use Rattle.laws.specs.Seen.{makes_anew}
 use Rattle.laws.specs.Kept.{Kept}
 use Rattle.laws.proofs.ByEvent.{not-anew, by-event}
 use Rattle.laws.proofs.Falls.{kept, levels-kept}
 
 module _ (c : Core) (g : Group) where
   abbrev Still : Side → Core → Type 0
-  Still s c' = Kept (channelOf c g s) (channelOf c' g s)
+  Still s c' = Kept (channel_of c g s) (channel_of c' g s)
 
-  begun : (s : Side) → strobed c.word g s ≡ false → (x : ℕ) → Still s (afterReadBegins c x)
+  begun : (s : Side) → strobed c.word g s ≡ false → (x : ℕ) → Still s (after_read_begins c x)
   begun Input off x = kept (begun-input c x g ∙ rw (off))
   begun Output off x = kept (begun-output c x g)
 
-  ended : (s : Side) → strobed c.word g s ≡ false → (x : ℕ) → Still s (afterReadEnds c x)
+  ended : (s : Side) → strobed c.word g s ≡ false → (x : ℕ) → Still s (after_read_ends c x)
   ended Input off x = kept (ended-input c x g ∙ rw (off))
   ended Output off x = kept (ended-output c x g)
 
   written : (s : Side) → strobed c.word g s ≡ false → (x d : ℕ) (c' : Core) → Stored c' c x d → Still s c'
   written Input off x d c' k = kept (k.input g)
-  written Output off x d c' k = rw (k.output g, off) (go (outputOf c.word g) (ownAddress x g))
+  written Output off x d c' k = rw (k.output g, off) (go (output_of c.word g) (own_address x g))
     where
-      go : (out own : Bool) → Kept (channelOf c g Output) (cond own (cond out (storedIn (channelOf c g Output) false d) (channelOf c g Output)) (channelOf c g Output))
+      go : (out own : Bool) → Kept (channel_of c g Output) (cond own (cond out (stored_in (channel_of c g Output) false d) (channel_of c g Output)) (channel_of c g Output))
       go true true = record { fill = refl; tally = refl }
       go false true = kept refl
       go out false = kept refl
 
 pub unstrobed-stays : (c : Chip) (g : Group) (s : Side) → strobed c.core.word g s ≡ false → (k x d : ℕ) → ¬ (k ≡ 0)
-    → (k ≡ 2 → makesAnew c.phase ≡ false) → Kept (channelOf c.core g s) (channelOf (step_of c k x d).chip.core g s)
+    → (k ≡ 2 → makes_anew c.phase ≡ false) → Kept (channel_of c.core g s) (channel_of (step_of c k x d).chip.core g s)
 unstrobed-stays c g s off k x d reset renewal = by-event (λ c'. Still c.core g s c'.core) c k x d (record {
   stays = kept refl;
   reset = λ zero. absurd (reset zero);
-  readBegins = λ one ok. begun c.core g s off x;
+  read_begins = λ one ok. begun c.core g s off x;
   ends = λ two. record {
     read = λ p phase. ended c.core g s off p;
-    modeWord = λ w phase seven. not-anew (renewal two) phase seven;
-    bitWord = λ w phase seven. kept ((bit-put c.core w seven).channel g s ∙ rw (off));
+    mode_word = λ w phase seven. not-anew (renewal two) phase seven;
+    bit_word = λ w phase seven. kept ((bit-put c.core w seven).channel g s ∙ rw (off));
     lines = λ b phase. kept (spared-channel (latch-spares c.core _) g s);
     port = λ a b phase. written c.core g s off a b;
   };
-  writeBegins = λ three ok. kept refl;
+  write_begins = λ three ok. kept refl;
   levels = λ five ok. levels-kept c.core g s x d (rw (off) (and-false (eqb x 2)));
 })

@@ -4,11 +4,11 @@ use Rattle.bus.specs.declared.Phase.TheVariants.{Idle}
 use Rattle.control.specs.declared.Group.{Group}
 use Rattle.channel.specs.declared.Side.{Side}
 use Rattle.channel.specs.declared.Fill.TheVariants.{Empty}
-use Rattle.channel.specs.Channel.{isWaiting, counted, cleared}
+use Rattle.channel.specs.Channel.{is_waiting, counted, cleared}
 use Rattle.chip.specs.declared.Core.{Core}
 use Rattle.chip.specs.declared.Chip.{Chip}
-use Rattle.chip.specs.State.{portOf, channelOf}
-use Rattle.chip.specs.Handshakes.{enableOf}
+use Rattle.chip.specs.State.{port_of, channel_of}
+use Rattle.chip.specs.Handshakes.{enable_of}
 use Rattle.step.specs.declared.Stepped.{Stepped}
 
 -- An event is accepted, has no byte to give, and leaves the bus idle.
@@ -20,14 +20,14 @@ pub record Freed (r : Stepped) : Type 0 where
 -- What a chip made anew is, beside the one that it was.
 pub record Anew (before : Core) (w : ℕ) (after : Core) : Type 0 where
   pub word : after.word ≡ w
-  pub empty : (g : Group) (s : Side) → (channelOf after g s).fill ≡ Empty
-  pub latches : (g : Group) (s : Side) → (channelOf after g s).latch ≡ 0
+  pub empty : (g : Group) (s : Side) → (channel_of after g s).fill ≡ Empty
+  pub latches : (g : Group) (s : Side) → (channel_of after g s).latch ≡ 0
   pub lines : after.c.latch ≡ 0
-  pub enables : (g : Group) (s : Side) → enableOf after.inte g s ≡ false
+  pub enables : (g : Group) (s : Side) → enable_of after.inte g s ≡ false
   pub tallies : (g : Group) (s : Side)
-      → (channelOf after g s).tally ≡ counted cleared (isWaiting (channelOf before g s).fill) (channelOf before g s).tally
-  pub levels : (g : Group) → (portOf after g).outside ≡ (portOf before g).outside
-  pub linesLevels : after.c.outside ≡ before.c.outside
+      → (channel_of after g s).tally ≡ counted cleared (is_waiting (channel_of before g s).fill) (channel_of before g s).tally
+  pub levels : (g : Group) → (port_of after g).outside ≡ (port_of before g).outside
+  pub lines_levels : after.c.outside ≡ before.c.outside
 
 -- A mode word or a reset, which is the word 9B, obeyed.
 pub record Obeyed (c : Chip) (w : ℕ) (r : Stepped) : Type 0 where

@@ -1,10 +1,10 @@
 -- What a read of control gives after a history, in numbers: of the newer edition and of the older ("The 82C55A").
 use Rattle.std.specs.Prelude.{List, [], ◌∷◌, ◌++◌, ℕ}
 use Rattle.events.specs.Event.{Event, event}
-use Rattle.events.specs.Histories.{write, readFrom, cycleEnd}
+use Rattle.events.specs.Histories.{write, read_from, cycle_end}
 use Rattle.chip.specs.declared.Edition.{Edition}
 use Rattle.chip.specs.declared.Edition.TheVariants.{Older, Newer}
-use Rattle.chip.specs.State.{allHigh, powerUpAs}
+use Rattle.chip.specs.State.{all_high, power_up_as}
 use Rattle.step.specs.declared.Stepped.{Stepped}
 use Rattle.step.specs.Step.{accepted, stepped}
 use Rattle.laws.specs.Marked.{after}
@@ -22,8 +22,8 @@ abbrev pub ◌past◌gives◌with◌ : Edition → List Event → ℕ → ℕ �
 ed past es gives n with b = record { edition = ed; history = es; number = n; byte = b }
 
 -- What the step gives.
-abbrev pub readOfControl : Edition → List Event → Stepped
-readOfControl ed es = stepped (after (accepted (powerUpAs ed allHigh) 0) es).chip (event 1 3 0)
+abbrev pub read_of_control : Edition → List Event → Stepped
+read_of_control ed es = stepped (after (accepted (power_up_as ed all_high) 0) es).chip (event 1 3 0)
 
 -- The newer edition, in the first row at power-up: a mode word is read back, also after a bit set/reset word and after a read of control, and 9B
 -- after a reset. While a cycle runs, be it the write of a mode word or a read of control, the read is 4; and a word that a reset drops is never
@@ -33,11 +33,11 @@ examples =
     (Newer past [] gives 0 with 0x9b)
     ∷ (Newer past write 3 0xb4 gives 0 with 0xb4)
     ∷ (Newer past (write 3 0xb4 ++ write 3 0x09) gives 0 with 0xb4)
-    ∷ (Newer past (write 3 0xb4 ++ readFrom 3 ++ cycleEnd) gives 0 with 0xb4)
+    ∷ (Newer past (write 3 0xb4 ++ read_from 3 ++ cycle_end) gives 0 with 0xb4)
     ∷ (Newer past (write 3 0xb4 ++ event 0 0 0 ∷ []) gives 0 with 0x9b)
     ∷ (Newer past (write 3 0xb4 ++ event 3 3 0x80 ∷ []) gives 4 with 0)
     ∷ (Newer past (write 3 0xb4 ++ event 3 3 0x80 ∷ event 0 0 0 ∷ []) gives 0 with 0x9b)
-    ∷ (Newer past readFrom 3 gives 4 with 0)
+    ∷ (Newer past read_from 3 gives 4 with 0)
     ∷ (Older past write 3 0xb4 gives 3 with 0)
     ∷ (Older past (event 3 3 0xb4 ∷ []) gives 3 with 0)
     ∷ []

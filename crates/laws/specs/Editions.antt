@@ -8,52 +8,52 @@ use Rattle.chip.specs.declared.Edition.{Edition}
 use Rattle.chip.specs.declared.Edition.TheVariants.{Older, Newer}
 use Rattle.chip.specs.declared.Chip.{Chip}
 use Rattle.chip.specs.State.{tally_of}
-use Rattle.status.specs.Reasons.{explainedOf}
+use Rattle.status.specs.Reasons.{explained_of}
 use Rattle.ports.specs.Reads.{read_of}
-use Rattle.ports.specs.Pins.{pinsOf}
+use Rattle.ports.specs.Pins.{pins_of}
 use Rattle.step.specs.declared.Stepped.{Stepped}
-use Rattle.step.specs.Step.{onBus, accepted, refused, step_of}
+use Rattle.step.specs.Step.{on_bus, accepted, refused, step_of}
 
 -- How many addresses a program can read: A, B and C, and of the newer edition control.
-abbrev pub addressesRead : Edition → ℕ
-addressesRead Older = 3
-addressesRead Newer = 4
+abbrev pub addresses_read : Edition → ℕ
+addresses_read Older = 3
+addresses_read Newer = 4
 
 -- The same chip in another edition.
-abbrev pub asEdition : Edition → Chip → Chip
-asEdition ed c = record { phase = c.phase; edition = ed; core = c.core }
+abbrev pub as_edition : Edition → Chip → Chip
+as_edition ed c = record { phase = c.phase; edition = ed; core = c.core }
 
 -- What a step gives, with the chip so.
-abbrev pub givenAs : Edition → Stepped → Stepped
-givenAs ed s = record { chip = asEdition ed s.chip; number = s.number; byte = s.byte }
+abbrev pub given_as : Edition → Stepped → Stepped
+given_as ed s = record { chip = as_edition ed s.chip; number = s.number; byte = s.byte }
 
 -- An event of kind k with the first operand x begins a read of control.
-abbrev pub readsControl : ℕ → ℕ → Bool
-readsControl k x = eqb k 1 && eqb x 3
+abbrev pub reads_control : ℕ → ℕ → Bool
+reads_control k x = eqb k 1 && eqb x 3
 
 -- Two chips show the same: their pins, what reads of their ports would answer, their tallies, and why their interrupts are quiet.
 pub record ShowsAlike (c c' : Chip) : Type 0 where
-  pub pins : (p : ℕ) → pinsOf c p ≡ pinsOf c' p
+  pub pins : (p : ℕ) → pins_of c p ≡ pins_of c' p
   pub reads : (p : ℕ) → p < 3 → read_of c p ≡ read_of c' p
   pub tallies : (g : Group) (s : Side) → tally_of c g s ≡ tally_of c' g s
-  pub explained : (g : ℕ) → explainedOf c g ≡ explainedOf c' g
+  pub explained : (g : ℕ) → explained_of c g ≡ explained_of c' g
 
 -- A byte is the mode word w with bit 7 set.
 pub record ReadBack (byte w : ℕ) : Type 0 where
-  pub modeBit : bit_of byte 7 ≡ true
+  pub mode_bit : bit_of byte 7 ≡ true
   pub others : (n : ℕ) → n < 7 → bit_of byte n ≡ bit_of w n
 
 -- A read of control, by the edition: the older refuses it with 3, whatever the bus does. The newer refuses it with 4 while a cycle runs; on an idle
 -- bus it begins, with the mode word read back, and nothing but the bus has changed. In either it shows nowhere.
 pub record ControlRead (c : Chip) (d : ℕ) : Type 0 where
   pub older : c.edition ≡ Older → step_of c 1 3 d ≡ refused c 3
-  pub inCycle : c.edition ≡ Newer → ¬ (c.phase ≡ Idle) → step_of c 1 3 d ≡ refused c 4
+  pub in_cycle : c.edition ≡ Newer → ¬ (c.phase ≡ Idle) → step_of c 1 3 d ≡ refused c 4
   pub begins : c.edition ≡ Newer → c.phase ≡ Idle → (step_of c 1 3 d).number ≡ 0
   pub answers : (step_of c 1 3 d).number ≡ 0 → ReadBack (step_of c 1 3 d).byte c.core.word
-  pub busAlone : (step_of c 1 3 d).number ≡ 0 → (step_of c 1 3 d).chip ≡ onBus (Reading 3) c.edition c.core
+  pub bus_alone : (step_of c 1 3 d).number ≡ 0 → (step_of c 1 3 d).chip ≡ on_bus (Reading 3) c.edition c.core
   pub shows : ShowsAlike (step_of c 1 3 d).chip c
 
 -- Its end frees the bus and has no other effect.
 pub record ControlReadEnds (c : Chip) (x d : ℕ) : Type 0 where
-  pub busAlone : step_of c 2 x d ≡ accepted (onBus Idle c.edition c.core) 0
+  pub bus_alone : step_of c 2 x d ≡ accepted (on_bus Idle c.edition c.core) 0
   pub shows : ShowsAlike (step_of c 2 x d).chip c

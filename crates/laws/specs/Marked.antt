@@ -2,13 +2,13 @@
 -- results ("Marked cases").
 use Rattle.std.specs.Prelude.{List, [], ◌∷◌, ◌++◌, ℕ}
 use Rattle.events.specs.Event.{Event, event}
-use Rattle.events.specs.Histories.{write, levels, readFrom, cycleEnd}
+use Rattle.events.specs.Histories.{write, levels, read_from, cycle_end}
 use Rattle.control.specs.declared.Group.TheVariants.{A}
 use Rattle.channel.specs.declared.Side.TheVariants.{Input}
 use Rattle.chip.specs.declared.Edition.{Edition}
-use Rattle.chip.specs.State.{allHigh, powerUpAs, tally_of}
+use Rattle.chip.specs.State.{all_high, power_up_as, tally_of}
 use Rattle.ports.specs.Reads.{read_of}
-use Rattle.ports.specs.Pins.{pinsOf}
+use Rattle.ports.specs.Pins.{pins_of}
 use Rattle.step.specs.declared.Stepped.{Stepped}
 use Rattle.step.specs.Step.{accepted, stepped}
 
@@ -24,13 +24,13 @@ after s (e ∷ es) = after (stepped s.chip e) es
 -- What may be asked: the levels and the driven mask of a port, a read of port C, the byte of the last event, two tallies of A in.
 pub data Asked : Type 0 where
   pins driven : ℕ → Asked
-  readC byte offered overwritten : Asked
+  read_c byte offered overwritten : Asked
 
 -- What is answered.
 abbrev pub answer : Stepped → Asked → ℕ
-answer s (pins p) = (pinsOf s.chip p).levels
-answer s (driven p) = (pinsOf s.chip p).driven
-answer s readC = read_of s.chip 2
+answer s (pins p) = (pins_of s.chip p).levels
+answer s (driven p) = (pins_of s.chip p).driven
+answer s read_c = read_of s.chip 2
 answer s byte = s.byte
 answer s offered = (tally_of s.chip A Input).offered
 answer s overwritten = (tally_of s.chip A Input).overwritten
@@ -48,7 +48,7 @@ answers s (q ∷ later) = answer s q ∷ answers s later
 
 -- What the model gives, of either edition: each case begins at a power-up with every line high.
 abbrev pub given : Edition → Case → List ℕ
-given ed c = answers (after (accepted (powerUpAs ed allHigh) 0) c.history) c.asked
+given ed c = answers (after (accepted (power_up_as ed all_high) 0) c.history) c.asked
 
 -- A case, written in one line.
 infixl 60 ◌asks◌gives◌
@@ -66,7 +66,7 @@ abbrev pub P4 : List Event
 P4 = P3 ++ levels 2 0xff
 
 abbrev pub P5 : List Event
-P5 = P4 ++ readFrom 0
+P5 = P4 ++ read_from 0
 
 abbrev pub P7 : List Event
 P7 = write 3 0xc0
@@ -85,17 +85,17 @@ abbrev pub cases : List Case
 cases =
     ([] asks (pins 0 ∷ pins 1 ∷ pins 2 ∷ driven 0 ∷ driven 1 ∷ driven 2 ∷ []) gives (0xff ∷ 0xff ∷ 0xff ∷ 0 ∷ 0 ∷ 0 ∷ []))
     ∷ (P2 asks (pins 2 ∷ []) gives (0x10 ∷ []))
-    ∷ (P3 asks (pins 2 ∷ readC ∷ []) gives (0x20 ∷ 0x30 ∷ []))
-    ∷ (P4 asks (pins 2 ∷ readC ∷ []) gives (0x38 ∷ 0x38 ∷ []))
+    ∷ (P3 asks (pins 2 ∷ read_c ∷ []) gives (0x20 ∷ 0x30 ∷ []))
+    ∷ (P4 asks (pins 2 ∷ read_c ∷ []) gives (0x38 ∷ 0x38 ∷ []))
     ∷ (P5 asks (byte ∷ pins 2 ∷ []) gives (0x41 ∷ 0x30 ∷ []))
-    ∷ ((P5 ++ cycleEnd) asks (pins 2 ∷ []) gives (0x10 ∷ []))
-    ∷ (P7 asks (pins 2 ∷ readC ∷ []) gives (0xd0 ∷ 0x80 ∷ []))
-    ∷ (P8 asks (pins 2 ∷ readC ∷ []) gives (0xd8 ∷ 0xc8 ∷ []))
+    ∷ ((P5 ++ cycle_end) asks (pins 2 ∷ []) gives (0x10 ∷ []))
+    ∷ (P7 asks (pins 2 ∷ read_c ∷ []) gives (0xd0 ∷ 0x80 ∷ []))
+    ∷ (P8 asks (pins 2 ∷ read_c ∷ []) gives (0xd8 ∷ 0xc8 ∷ []))
     ∷ ((P8 ++ (event 3 0 0x55 ∷ [])) asks (pins 2 ∷ []) gives (0xd0 ∷ []))
     ∷ (P9 asks (pins 2 ∷ []) gives (0x50 ∷ []))
     ∷ ((P9 ++ levels 2 0xbf) asks (pins 0 ∷ driven 0 ∷ pins 2 ∷ []) gives (0x55 ∷ 0xff ∷ 0x90 ∷ []))
-    ∷ (write 3 0x9c asks (pins 2 ∷ readC ∷ []) gives (0xf6 ∷ 0xf2 ∷ []))
+    ∷ (write 3 0x9c asks (pins 2 ∷ read_c ∷ []) gives (0xf6 ∷ 0xf2 ∷ []))
     ∷ ((write 3 0xb0 ++ write 2 0xff) asks (pins 2 ∷ []) gives (0x17 ∷ []))
     ∷ (P13 asks (offered ∷ overwritten ∷ []) gives (2 ∷ 1 ∷ []))
-    ∷ ((P13 ++ readFrom 0) asks (byte ∷ []) gives (0x42 ∷ []))
+    ∷ ((P13 ++ read_from 0) asks (byte ∷ []) gives (0x42 ∷ []))
     ∷ []

@@ -4,11 +4,11 @@ use Rattle.bits.specs.Bit.{bit_of}
 use Rattle.chip.specs.declared.Core.{Core}
 use Rattle.chip.specs.declared.Chip.{Chip}
 use Rattle.laws.specs.Seen.{pin, told, driven}
-use Rattle.laws.specs.PlainBits.{freeInput, freeOutput, listens}
+use Rattle.laws.specs.PlainBits.{free_input, free_output, listens}
 
 -- A write reaches pin n: it is a free output, and one of 3 to 0, or bits 6 and 5 of the word are clear.
 abbrev pub reached : ℕ → ℕ → Bool
-reached w n = freeOutput w n && (ltb n 4 || not (bit_of w 6 || bit_of w 5))
+reached w n = free_output w n && (ltb n 4 || not (bit_of w 6 || bit_of w 5))
 
 -- After a write of d the latch has its bits where it reaches, and nothing else has changed.
 pub record LinesWritten (before : Core) (d : ℕ) (after : Core) : Type 0 where
@@ -20,8 +20,8 @@ pub record LinesWritten (before : Core) (d : ℕ) (after : Core) : Type 0 where
   pub enables : after.inte ≡ before.inte
 
 -- The chip drives pin n unless it is a free input, or a line to which the chip listens.
-abbrev pub drivenBy : ℕ → ℕ → Bool
-drivenBy w n = not (freeInput w n || listens w n)
+abbrev pub driven_by : ℕ → ℕ → Bool
+driven_by w n = not (free_input w n || listens w n)
 
 -- A driven pin shows what a read tells of it, and another the level outside.
 pub record LineShown (c : Chip) (n : ℕ) : Type 0 where

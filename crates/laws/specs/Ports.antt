@@ -2,24 +2,24 @@
 use Rattle.std.specs.Prelude.{◌≡◌, cond, ℕ}
 use Rattle.control.specs.declared.Group.{Group}
 use Rattle.chip.specs.declared.Chip.{Chip}
-use Rattle.chip.specs.State.{portOf}
+use Rattle.chip.specs.State.{port_of}
 use Rattle.ports.specs.Reads.{read_of}
-use Rattle.ports.specs.Pins.{pinsOf}
+use Rattle.ports.specs.Pins.{pins_of}
 use Rattle.laws.specs.Seen.{pin}
 use Rattle.laws.specs.PlainBits.{handshake}
 
 -- An output in mode 0 or 1, at its address a: the chip drives all eight lines with the output latch, and a read answers it.
 pub record Gives (c : Chip) (g : Group) (a : ℕ) : Type 0 where
-  pub shows : pinsOf c a ≡ record { levels = (portOf c.core g).output.latch; driven = 0xff }
-  pub answers : read_of c a ≡ (portOf c.core g).output.latch
+  pub shows : pins_of c a ≡ record { levels = (port_of c.core g).output.latch; driven = 0xff }
+  pub answers : read_of c a ≡ (port_of c.core g).output.latch
 
 -- An input in mode 0 or 1: the lines are the outside's, and a read answers the input latch where there is a handshake, and the lines where there is none.
 pub record Takes (c : Chip) (g : Group) (a : ℕ) : Type 0 where
-  pub shows : pinsOf c a ≡ record { levels = (portOf c.core g).outside; driven = 0 }
-  pub answers : read_of c a ≡ cond (handshake c.core.word g) (portOf c.core g).input.latch (portOf c.core g).outside
+  pub shows : pins_of c a ≡ record { levels = (port_of c.core g).outside; driven = 0 }
+  pub answers : read_of c a ≡ cond (handshake c.core.word g) (port_of c.core g).input.latch (port_of c.core g).outside
 
 -- Port A both ways, in mode 2: the chip drives the lines with the output latch while the pins show ACK low, and only then; a read answers the
 -- input latch.
 pub record GivesAndTakes (c : Chip) : Type 0 where
-  pub shows : pinsOf c 0 ≡ cond (pin c 6) (record { levels = c.core.a.outside; driven = 0 }) (record { levels = c.core.a.output.latch; driven = 0xff })
+  pub shows : pins_of c 0 ≡ cond (pin c 6) (record { levels = c.core.a.outside; driven = 0 }) (record { levels = c.core.a.output.latch; driven = 0xff })
   pub answers : read_of c 0 ≡ c.core.a.input.latch

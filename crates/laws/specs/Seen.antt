@@ -7,13 +7,13 @@ use Rattle.control.specs.declared.Group.{Group}
 use Rattle.control.specs.declared.Group.TheVariants.{A, B}
 use Rattle.channel.specs.declared.Side.{Side}
 use Rattle.chip.specs.declared.Chip.{Chip}
-use Rattle.chip.specs.Handshakes.{linePin}
+use Rattle.chip.specs.Handshakes.{line_pin}
 use Rattle.ports.specs.Reads.{read_of}
-use Rattle.ports.specs.Pins.{pinsOf}
+use Rattle.ports.specs.Pins.{pins_of}
 
 -- The level of pin n of port C in the pin view.
 abbrev pub pin : Chip → ℕ → Bool
-pin c n = bit_of (pinsOf c 2).levels n
+pin c n = bit_of (pins_of c 2).levels n
 
 -- Bit n of a read of port C.
 abbrev pub told : Chip → ℕ → Bool
@@ -21,22 +21,22 @@ told c n = bit_of (read_of c 2) n
 
 -- The chip drives pin n of port C.
 abbrev pub driven : Chip → ℕ → Bool
-driven c n = bit_of (pinsOf c 2).driven n
+driven c n = bit_of (pins_of c 2).driven n
 
 -- The pin of a group's INTR ("Port C roles").
-abbrev pub intrPin : Group → ℕ
-intrPin A = 3
-intrPin B = 0
+abbrev pub intr_pin : Group → ℕ
+intr_pin A = 3
+intr_pin B = 0
 
 -- Levels d on port x lower a channel's STB or ACK, which the pins show high.
 abbrev pub lowers : Chip → Group → Side → ℕ → ℕ → Bool
-lowers c g s x d = eqb x 2 && (pin c (linePin g s) && not (bit_of d (linePin g s)))
+lowers c g s x d = eqb x 2 && (pin c (line_pin g s) && not (bit_of d (line_pin g s)))
 
 -- A write of a mode word runs, which will make the chip anew at its end.
-abbrev pub makesAnew : Phase → Bool
-makesAnew Idle = false
-makesAnew (Reading p) = false
-makesAnew (Writing a d) = eqb a 3 && bit_of d 7
+abbrev pub makes_anew : Phase → Bool
+makes_anew Idle = false
+makes_anew (Reading p) = false
+makes_anew (Writing a d) = eqb a 3 && bit_of d 7
 
 -- A write to control runs, be it of a mode word or of bit set/reset.
 abbrev pub commands : Phase → Bool

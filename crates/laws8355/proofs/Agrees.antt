@@ -6,22 +6,22 @@ use Prim.Native.Nat.{ℕ, zero, suc}
 use native.Mathlib.Omega.{arith}
 use lib.Dec.{eqb, lit<}
 use borrow.Author.Tests.{ne_eqb}
-use Rattle.events.specs.Kinds.{isKind}
+use Rattle.events.specs.Kinds.{is_kind}
 use Rattle.events.specs.Event.{Event, event}
 use Rattle.events.proofs.ByKind.{by_kind}
 use Rattle.bus.specs.declared.Phase.{Phase}
 use Rattle.bus.specs.declared.Phase.TheVariants.{Idle, Reading, Writing}
 use Rattle.bus.specs.Refusals.{number_of}
-use Rattle.bus.specs.Device.{Given, afterIn, stepIn}
+use Rattle.bus.specs.Device.{Given, after_in, step_in}
 use Rattle.bus.proofs.Outcomes.{outcomes}
 use Rattle.i8355.specs.declared.Ports.{Ports}
 use Rattle.i8355.specs.declared.Chip8355.{Chip8355}
-use Rattle.i8355.specs.State.{powerUp}
-use Rattle.i8355.specs.Registers.{afterReset, afterWriteEnds, afterLevels}
+use Rattle.i8355.specs.State.{power_up}
+use Rattle.i8355.specs.Registers.{after_reset, after_write_ends, after_levels}
 use Rattle.i8355.specs.Step.{limits, after_end, device}
 use Rattle.laws8355.specs.Table.{Act, reset, written, levels, ended, row_of}
-use Rattle.laws8355.specs.Account.{Account, registerAfter, linesAfter, accountAfter, accountNext, opened}
-use Rattle.laws8355.specs.Promise.{accountOf}
+use Rattle.laws8355.specs.Account.{Account, register_after, lines_after, account_after, account_next, opened}
+use Rattle.laws8355.specs.Promise.{account_of}
 use Rattle.laws8355.proofs.Ports.{above}
 use Rattle.laws8355.proofs.Numbers.{number_same}
 
@@ -37,23 +37,23 @@ pub record Agrees (c : Chip8355) (a : Account) : Type 0 where
   pub phase : a.phase ≡ c.phase
   pub holds : Holds c.ports a.register a.lines
 
-pub agrees-of : (c : Chip8355) → Agrees c (accountOf c)
+pub agrees-of : (c : Chip8355) → Agrees c (account_of c)
 agrees-of c = record { phase = refl; holds = ((refl, refl), ((refl, refl), (refl, refl))) }
 
-pub agrees-opened : Agrees powerUp opened
+pub agrees-opened : Agrees power_up opened
 agrees-opened = record { phase = refl; holds = ((refl, refl), ((refl, refl), (refl, refl))) }
 
 -- Each act does to registers and lines what the device's rules do to the ports.
 module _ (s : Ports) (r l : ℕ → ℕ) (h : Holds s r l) where
   abbrev After : Act → Ports → Type 0
-  After t s' = Holds s' (λ x. registerAfter x (r x) t) (λ p. linesAfter p (l p) t)
+  After t s' = Holds s' (λ x. register_after x (r x) t) (λ p. lines_after p (l p) t)
 
-  reset-holds : After reset (afterReset s)
-  unfolding afterReset
+  reset-holds : After reset (after_reset s)
+  unfolding after_reset
   reset-holds = (h.0, ((refl, refl), h.1.1))
 
-  written-holds : (x d : ℕ) → After (written x d) (afterWriteEnds s x d)
-  unfolding afterWriteEnds
+  written-holds : (x d : ℕ) → After (written x d) (after_write_ends s x d)
+  unfolding after_write_ends
   written-holds zero d = ((refl, h.0.1), h.1)
   written-holds (suc zero) d = ((h.0.0, refl), h.1)
   written-holds (suc (suc zero)) d = (h.0, ((refl, h.1.0.1), h.1.1))
@@ -67,8 +67,8 @@ module _ (s : Ports) (r l : ℕ → ℕ) (h : Holds s r l) where
         ne_eqb n 3 (λ e. omega (arith, e)),
       ) h
 
-  levels-hold : (x d : ℕ) → After (levels x d) (afterLevels s x d)
-  unfolding afterLevels
+  levels-hold : (x d : ℕ) → After (levels x d) (after_levels s x d)
+  unfolding after_levels
   levels-hold zero d = (h.0, (h.1.0, (refl, h.1.1.1)))
   levels-hold (suc zero) d = (h.0, (h.1.0, (h.1.1.0, refl)))
   levels-hold (suc (suc x)) d = rw (above x 0 (lit< tt), above x 1 (lit< tt)) h
@@ -85,12 +85,12 @@ module _ (c : Chip8355) (r l : ℕ → ℕ) (h : Holds c.ports r l) where
 
   -- The account after an accepted event.
   abbrev accepted : Event → Account
-  accepted e = accountAfter before (row_of c.phase e).leaves (row_of c.phase e).act
+  accepted e = account_after before (row_of c.phase e).leaves (row_of c.phase e).act
 
-  goes : (k x d : ℕ) → number_of limits c.phase k x ≡ 0 → Agrees (afterIn device c k x d) (accepted (event k x d))
-  unfolding number_of isKind
+  goes : (k x d : ℕ) → number_of limits c.phase k x ≡ 0 → Agrees (after_in device c k x d) (accepted (event k x d))
+  unfolding number_of is_kind
   goes k x d =
-      by_kind (λ k. number_of limits c.phase k x ≡ 0 → Agrees (afterIn device c k x d) (accepted (event k x d)))
+      by_kind (λ k. number_of limits c.phase k x ≡ 0 → Agrees (after_in device c k x d) (accepted (event k x d)))
       (λ ok. record { phase = refl; holds = reset-holds c.ports r l h })
       (λ ok. record { phase = refl; holds = h })
       (λ ok. record { phase = idle-after c.phase; holds = ending-holds c.ports r l h c.phase })
@@ -104,7 +104,7 @@ module _ (c : Chip8355) (r l : ℕ → ℕ) (h : Holds c.ports r l) where
       idle-after (Reading x) = refl
       idle-after (Writing x d) = refl
 
-  next : (k x d : ℕ) → Agrees (stepIn device c k x d).state (accountNext before (event k x d))
+  next : (k x d : ℕ) → Agrees (step_in device c k x d).state (account_next before (event k x d))
   next k x d =
       outcomes device c k x d
       (λ (o : Given Chip8355). Agrees o.state (cond (eqb (row_of c.phase (event k x d)).number 0) (accepted (event k x d)) before))
@@ -112,9 +112,9 @@ module _ (c : Chip8355) (r l : ℕ → ℕ) (h : Holds c.ports r l) where
       (λ ok. rw (← number_same c.phase k x d, ok) (goes k x d ok))
 
 pub agrees-next : (c : Chip8355) (a : Account) (e : Event) → Agrees c a
-    → Agrees (stepIn device c e.kind e.first e.second).state (accountNext a e)
+    → Agrees (step_in device c e.kind e.first e.second).state (account_next a e)
 agrees-next c a e k =
     subst
-    (λ (ph : Phase). Agrees (stepIn device c e.kind e.first e.second).state (accountNext (record { phase = ph; register = a.register; lines = a.lines }) e))
+    (λ (ph : Phase). Agrees (step_in device c e.kind e.first e.second).state (account_next (record { phase = ph; register = a.register; lines = a.lines }) e))
     (sym k.phase)
     (next c a.register a.lines k.holds e.kind e.first e.second)

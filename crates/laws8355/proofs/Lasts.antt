@@ -15,11 +15,11 @@ use Rattle.bus.specs.declared.Phase.TheVariants.{Idle, Writing}
 use Rattle.i8355.specs.declared.Port.{Port}
 use Rattle.i8355.specs.declared.Ports.{Ports}
 use Rattle.i8355.specs.declared.Chip8355.{Chip8355}
-use Rattle.i8355.specs.Registers.{withDirection, withLatch, withOutside, afterWriteEnds, afterLevels}
-use Rattle.i8355.specs.Step.{onBus}
+use Rattle.i8355.specs.Registers.{with_direction, with_latch, with_outside, after_write_ends, after_levels}
+use Rattle.i8355.specs.Step.{on_bus}
 use Rattle.laws8355.specs.Promise.{run}
 use Rattle.laws8355.specs.Lasts.{NoneWritten, NonePut, Lasts}
-use Rattle.laws8355.proofs.Ports.{portAt, written_at, levels-at, at-write, at-levels, levels-elsewhere}
+use Rattle.laws8355.proofs.Ports.{port_at, written_at, levels-at, at-write, at-levels, levels-elsewhere}
 use Rattle.laws8355.proofs.ByEvent.{by-event}
 use Rattle.laws8355.proofs.Pins.{write-runs, levels-run, input-shows, output-shows}
 
@@ -27,53 +27,53 @@ module _ (p : ℕ) (there : p < 2) where
   -- A latch is reached by writes to its port alone, and lines by levels on theirs alone.
   module _ (s : Ports) where
     abbrev port : Port
-    port = portAt s p
+    port = port_at s p
 
-    latch-by-write : (d y : ℕ) → ¬ (y ≡ p) → (portAt (afterWriteEnds s y d) p).latch ≡ port.latch
+    latch-by-write : (d y : ℕ) → ¬ (y ≡ p) → (port_at (after_write_ends s y d) p).latch ≡ port.latch
     latch-by-write d y own =
         ap (λ (q : Port). q.latch) (written_at s d y p there)
-        ∙ rw (ne_eqb y p own) (either_way (λ (q : Port). q.latch) port.latch (eqb y (p + 2)) (withDirection port d) port refl refl)
+        ∙ rw (ne_eqb y p own) (either_way (λ (q : Port). q.latch) port.latch (eqb y (p + 2)) (with_direction port d) port refl refl)
 
-    latch-by-levels : (v x : ℕ) → (portAt (afterLevels s x v) p).latch ≡ port.latch
+    latch-by-levels : (v x : ℕ) → (port_at (after_levels s x v) p).latch ≡ port.latch
     latch-by-levels v x =
         ap (λ (q : Port). q.latch) (levels-at s v x p there)
-        ∙ either_way (λ (q : Port). q.latch) port.latch (eqb x p) (withOutside port v) port refl refl
+        ∙ either_way (λ (q : Port). q.latch) port.latch (eqb x p) (with_outside port v) port refl refl
 
-    lines-by-write : (d y : ℕ) → (portAt (afterWriteEnds s y d) p).outside ≡ port.outside
+    lines-by-write : (d y : ℕ) → (port_at (after_write_ends s y d) p).outside ≡ port.outside
     lines-by-write d y =
         ap (λ (q : Port). q.outside) (written_at s d y p there)
-        ∙ either_way (λ (q : Port). q.outside) port.outside (eqb y p) (withLatch port d) _ refl
-        (either_way (λ (q : Port). q.outside) port.outside (eqb y (p + 2)) (withDirection port d) port refl refl)
+        ∙ either_way (λ (q : Port). q.outside) port.outside (eqb y p) (with_latch port d) _ refl
+        (either_way (λ (q : Port). q.outside) port.outside (eqb y (p + 2)) (with_direction port d) port refl refl)
 
   -- Over a history.
-  latch-over : (es : List Event) (c : Chip8355) → NoneWritten p c es → (portAt (run c es).ports p).latch ≡ (portAt c.ports p).latch
+  latch-over : (es : List Event) (c : Chip8355) → NoneWritten p c es → (port_at (run c es).ports p).latch ≡ (port_at c.ports p).latch
   latch-over [] c none = refl
   latch-over (e ∷ es) c none =
       latch-over es (run c (e ∷ [])) none.1
-      ∙ by-event p there (λ (q : Port). q.latch ≡ (portAt c.ports p).latch) c refl e
+      ∙ by-event p there (λ (q : Port). q.latch ≡ (port_at c.ports p).latch) c refl e
       (λ reset. refl)
       (λ end y d phase. latch-by-write c.ports d y (λ own. none.0 end d (phase ∙ ap (λ (y : ℕ). Writing y d) own)))
       (λ levels. latch-by-levels c.ports e.second e.first)
 
-  lines-over : (es : List Event) (c : Chip8355) → NonePut p es → (portAt (run c es).ports p).outside ≡ (portAt c.ports p).outside
+  lines-over : (es : List Event) (c : Chip8355) → NonePut p es → (port_at (run c es).ports p).outside ≡ (port_at c.ports p).outside
   lines-over [] c none = refl
   lines-over (e ∷ es) c none =
       lines-over es (run c (e ∷ [])) none.1
-      ∙ by-event p there (λ (q : Port). q.outside ≡ (portAt c.ports p).outside) c refl e
+      ∙ by-event p there (λ (q : Port). q.outside ≡ (port_at c.ports p).outside) c refl e
       (λ reset. refl)
       (λ end y d phase. lines-by-write c.ports d y)
       (λ levels. ap (λ (q : Port). q.outside) (levels-elsewhere c.ports e.second p there e.first (λ own. none.0 (levels, own))))
 
   -- What a whole write on an idle bus, and levels, leave there.
-  written-there : (d : ℕ) (c : Chip8355) → c.phase ≡ Idle → (portAt (run c (write p d)).ports p).latch ≡ d
+  written-there : (d : ℕ) (c : Chip8355) → c.phase ≡ Idle → (port_at (run c (write p d)).ports p).latch ≡ d
   written-there d c idle =
-      subst (λ (ph : Phase). (portAt (run (onBus ph c.ports) (write p d)).ports p).latch ≡ d) (sym idle)
-      (ap (λ (c : Chip8355). (portAt c.ports p).latch) (write-runs c.ports p d [] (omega (arith, there)))
+      subst (λ (ph : Phase). (port_at (run (on_bus ph c.ports) (write p d)).ports p).latch ≡ d) (sym idle)
+      (ap (λ (c : Chip8355). (port_at c.ports p).latch) (write-runs c.ports p d [] (omega (arith, there)))
       ∙ ap (λ (q : Port). q.latch) (at-write c.ports d p there))
 
-  put-there : (v : ℕ) (c : Chip8355) → (portAt (run c (levels p v)).ports p).outside ≡ v
+  put-there : (v : ℕ) (c : Chip8355) → (port_at (run c (levels p v)).ports p).outside ≡ v
   put-there v c =
-      ap (λ (c : Chip8355). (portAt c.ports p).outside) (levels-run c p v [] there)
+      ap (λ (c : Chip8355). (port_at c.ports p).outside) (levels-run c p v [] there)
       ∙ ap (λ (q : Port). q.outside) (at-levels c.ports v p there)
 
   pub lasts : (n : ℕ) → n < 8 → (c : Chip8355) (es : List Event) → Lasts c p n es

@@ -5,17 +5,17 @@ use mathlib.Core.Bool.{true, cond}
 use Prim.Native.Nat.{ℕ, zero, suc}
 use native.Mathlib.Omega.{arith}
 use borrow.Author.Tests.{le-ltb}
-use Rattle.events.specs.Kinds.{isKind, noKind}
+use Rattle.events.specs.Kinds.{is_kind, no_kind}
 use Rattle.events.specs.Event.{event}
 use Rattle.events.proofs.ByKind.{by_kind, no_row}
 use Rattle.bus.specs.declared.Phase.{Phase}
 use Rattle.bus.specs.declared.Phase.TheVariants.{Idle, Reading, Writing}
-use Rattle.bus.specs.Refusals.{isBusy, number_of}
+use Rattle.bus.specs.Refusals.{is_busy, number_of}
 use Rattle.i8355.specs.Step.{limits}
 use Rattle.laws8355.specs.Table.{begun, unknown, row_of}
 
 -- A cycle that begins, on an idle bus or not.
-on-bus : (ph : Phase) → ◌≡◌ {A = ℕ} (cond (isBusy ph) 4 0) (begun ph)
+on-bus : (ph : Phase) → ◌≡◌ {A = ℕ} (cond (is_busy ph) 4 0) (begun ph)
 on-bus Idle = refl
 on-bus (Reading x) = refl
 on-bus (Writing x d) = refl
@@ -24,16 +24,16 @@ on-bus (Writing x d) = refl
 abbrev Numbered : Phase → ℕ → ℕ → ℕ → Type 0
 Numbered ph k x d = number_of limits ph k x ≡ (row_of ph (event k x d)).number
 
-read_number : (ph : Phase) (x d : ℕ) → Numbered ph 1 x d
-unfolding number_of isKind
-read_number ph zero d = on-bus ph
-read_number ph (suc zero) d = on-bus ph
-read_number ph (suc (suc zero)) d = refl
-read_number ph (suc (suc (suc zero))) d = refl
-read_number ph (suc (suc (suc (suc x)))) d = rw (le-ltb (suc (suc (suc (suc x)))) 4 (omega arith))
+read-number : (ph : Phase) (x d : ℕ) → Numbered ph 1 x d
+unfolding number_of is_kind
+read-number ph zero d = on-bus ph
+read-number ph (suc zero) d = on-bus ph
+read-number ph (suc (suc zero)) d = refl
+read-number ph (suc (suc (suc zero))) d = refl
+read-number ph (suc (suc (suc (suc x)))) d = rw (le-ltb (suc (suc (suc (suc x)))) 4 (omega arith))
 
 write-number : (ph : Phase) (x d : ℕ) → Numbered ph 3 x d
-unfolding number_of isKind
+unfolding number_of is_kind
 write-number ph zero d = on-bus ph
 write-number ph (suc zero) d = on-bus ph
 write-number ph (suc (suc zero)) d = on-bus ph
@@ -41,27 +41,27 @@ write-number ph (suc (suc (suc zero))) d = on-bus ph
 write-number ph (suc (suc (suc (suc x)))) d = rw (le-ltb (suc (suc (suc (suc x)))) 4 (omega arith))
 
 levels-number : (ph : Phase) (x d : ℕ) → Numbered ph 5 x d
-unfolding number_of isKind
+unfolding number_of is_kind
 levels-number ph zero d = refl
 levels-number ph (suc zero) d = refl
 levels-number ph (suc (suc x)) d = rw (le-ltb (suc (suc x)) 2 (omega arith))
 
 end-number : (ph : Phase) (x d : ℕ) → Numbered ph 2 x d
-unfolding number_of isKind
+unfolding number_of is_kind
 end-number Idle x d = refl
 end-number (Reading p) x d = refl
 end-number (Writing p b) x d = refl
 
 -- What is no kind has the row of what is none.
-unknown-row : (ph : Phase) (k x d : ℕ) → noKind k ≡ true → row_of ph (event k x d) ≡ unknown ph
+unknown-row : (ph : Phase) (k x d : ℕ) → no_kind k ≡ true → row_of ph (event k x d) ≡ unknown ph
 unknown-row ph k x d none = no_row _ _ _ _ _ _ k none
 
 pub number_same : (ph : Phase) (k x d : ℕ) → Numbered ph k x d
-unfolding number_of isKind
+unfolding number_of is_kind
 number_same ph k x d =
     by_kind (λ k. Numbered ph k x d)
     refl
-    (read_number ph x d)
+    (read-number ph x d)
     (end-number ph x d)
     (write-number ph x d)
     (levels-number ph x d)

@@ -9,11 +9,11 @@ use borrow.Author.Tests.{eq-eqb, ne_eqb}
 use Rattle.i8355.specs.declared.Port.{Port}
 use Rattle.i8355.specs.declared.Ports.{Ports}
 use Rattle.i8355.specs.declared.Chip8355.{Chip8355}
-use Rattle.i8355.specs.Registers.{withDirection, withLatch, withOutside, afterReset, afterWriteEnds, afterLevels}
-use Rattle.i8355.specs.Views.{pinsOfPort, pinsOf}
+use Rattle.i8355.specs.Registers.{with_direction, with_latch, with_outside, after_reset, after_write_ends, after_levels}
+use Rattle.i8355.specs.Views.{pins_of_port, pins_of}
 
-abbrev pub portAt : Ports → ℕ → Port
-portAt s p = cond (eqb p 0) s.a s.b
+abbrev pub port_at : Ports → ℕ → Port
+port_at s p = cond (eqb p 0) s.a s.b
 
 -- What holds of A and of B holds of every port.
 pub by-port : (P : ℕ → Type 0) → P 0 → P 1 → (p : ℕ) → p < 2 → P p
@@ -26,8 +26,8 @@ pub above : (q k : ℕ) → k < 2 → eqb (suc (suc q)) k ≡ false
 above q k low = ne_eqb (suc (suc q)) k (λ e. omega (arith, low, e))
 
 -- Above 3 there is nothing to write to.
-pub written-nowhere : (s : Ports) (x d : ℕ) → 3 < x → afterWriteEnds s x d ≡ s
-unfolding afterWriteEnds
+pub written-nowhere : (s : Ports) (x d : ℕ) → 3 < x → after_write_ends s x d ≡ s
+unfolding after_write_ends
 written-nowhere s x d none =
     rw (
       ne_eqb x 0 (λ e. omega (arith, none, e)),
@@ -36,54 +36,54 @@ written-nowhere s x d none =
       ne_eqb x 3 (λ e. omega (arith, none, e)),
     )
 
-pub at-pins : (c : Chip8355) (p : ℕ) → p < 2 → pinsOf c p ≡ pinsOfPort (portAt c.ports p)
-unfolding pinsOf
-at-pins c = by-port (λ p. pinsOf c p ≡ pinsOfPort (portAt c.ports p)) refl refl
+pub at-pins : (c : Chip8355) (p : ℕ) → p < 2 → pins_of c p ≡ pins_of_port (port_at c.ports p)
+unfolding pins_of
+at-pins c = by-port (λ p. pins_of c p ≡ pins_of_port (port_at c.ports p)) refl refl
 
 module _ (s : Ports) where
-  pub at-reset : (p : ℕ) → p < 2 → portAt (afterReset s) p ≡ withDirection (portAt s p) 0
-  unfolding afterReset
-  at-reset = by-port (λ p. portAt (afterReset s) p ≡ withDirection (portAt s p) 0) refl refl
+  pub at-reset : (p : ℕ) → p < 2 → port_at (after_reset s) p ≡ with_direction (port_at s p) 0
+  unfolding after_reset
+  at-reset = by-port (λ p. port_at (after_reset s) p ≡ with_direction (port_at s p) 0) refl refl
 
   -- What a write to y leaves of port p: another latch where y is the port, another direction where it is the register two above, and else all.
   abbrev WrittenAt : ℕ → ℕ → ℕ → Type 0
   WrittenAt d y p =
-      portAt (afterWriteEnds s y d) p ≡ cond (eqb y p) (withLatch (portAt s p) d) (cond (eqb y (p + 2)) (withDirection (portAt s p) d) (portAt s p))
+      port_at (after_write_ends s y d) p ≡ cond (eqb y p) (with_latch (port_at s p) d) (cond (eqb y (p + 2)) (with_direction (port_at s p) d) (port_at s p))
 
   pub written_at : (d y p : ℕ) → p < 2 → WrittenAt d y p
-  unfolding afterWriteEnds
+  unfolding after_write_ends
   written_at d zero = by-port (WrittenAt d 0) refl refl
   written_at d (suc zero) = by-port (WrittenAt d 1) refl refl
   written_at d (suc (suc zero)) = by-port (WrittenAt d 2) refl refl
   written_at d (suc (suc (suc zero))) = by-port (WrittenAt d 3) refl refl
   written_at d (suc (suc (suc (suc y)))) =
       let n = suc (suc (suc (suc y))) in
-      λ p there. ap (λ (s : Ports). portAt s p) (written-nowhere s n d (omega arith))
+      λ p there. ap (λ (s : Ports). port_at s p) (written-nowhere s n d (omega arith))
       ∙ rw (ne_eqb n p (λ e. omega (arith, there, e)), ne_eqb n (p + 2) (λ e. omega (arith, there, e)))
 
   -- What levels on x leave of it.
   abbrev LevelsAt : ℕ → ℕ → ℕ → Type 0
-  LevelsAt v x p = portAt (afterLevels s x v) p ≡ cond (eqb x p) (withOutside (portAt s p) v) (portAt s p)
+  LevelsAt v x p = port_at (after_levels s x v) p ≡ cond (eqb x p) (with_outside (port_at s p) v) (port_at s p)
 
   pub levels-at : (v x p : ℕ) → p < 2 → LevelsAt v x p
-  unfolding afterLevels
+  unfolding after_levels
   levels-at v zero = by-port (LevelsAt v 0) refl refl
   levels-at v (suc zero) = by-port (LevelsAt v 1) refl refl
   levels-at v (suc (suc x)) = by-port (LevelsAt v (suc (suc x))) (rw (above x 0 (lit< tt), above x 1 (lit< tt))) (rw (above x 0 (lit< tt), above x 1 (lit< tt)))
 
   -- So the port's own registers and lines change, and what is done elsewhere leaves it.
   module _ (d p : ℕ) (there : p < 2) where
-    pub at-write : portAt (afterWriteEnds s p d) p ≡ withLatch (portAt s p) d
+    pub at-write : port_at (after_write_ends s p d) p ≡ with_latch (port_at s p) d
     at-write = written_at d p p there ∙ rw (eq-eqb p p refl)
 
-    pub at-direction : portAt (afterWriteEnds s (p + 2) d) p ≡ withDirection (portAt s p) d
+    pub at-direction : port_at (after_write_ends s (p + 2) d) p ≡ with_direction (port_at s p) d
     at-direction = written_at d (p + 2) p there ∙ rw (ne_eqb (p + 2) p (λ e. omega (arith, e)), eq-eqb (p + 2) (p + 2) refl)
 
-    pub at-levels : portAt (afterLevels s p d) p ≡ withOutside (portAt s p) d
+    pub at-levels : port_at (after_levels s p d) p ≡ with_outside (port_at s p) d
     at-levels = levels-at d p p there ∙ rw (eq-eqb p p refl)
 
-    pub written-elsewhere : (y : ℕ) → ¬ (y ≡ p) → ¬ (y ≡ p + 2) → portAt (afterWriteEnds s y d) p ≡ portAt s p
+    pub written-elsewhere : (y : ℕ) → ¬ (y ≡ p) → ¬ (y ≡ p + 2) → port_at (after_write_ends s y d) p ≡ port_at s p
     written-elsewhere y own direction = written_at d y p there ∙ rw (ne_eqb y p own, ne_eqb y (p + 2) direction)
 
-    pub levels-elsewhere : (x : ℕ) → ¬ (x ≡ p) → portAt (afterLevels s x d) p ≡ portAt s p
+    pub levels-elsewhere : (x : ℕ) → ¬ (x ≡ p) → port_at (after_levels s x d) p ≡ port_at s p
     levels-elsewhere x own = levels-at d x p there ∙ rw (ne_eqb x p own)

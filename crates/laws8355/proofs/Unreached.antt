@@ -7,18 +7,18 @@ use Rattle.bus.proofs.ByPhase as bus
 use Rattle.i8355.specs.declared.Ports.{Ports}
 use Rattle.i8355.specs.declared.Chip8355.{Chip8355}
 use Rattle.i8355.specs.declared.step.Stepped.{Stepped}
-use Rattle.i8355.specs.Step.{onBus, device, asStepped, step_of}
+use Rattle.i8355.specs.Step.{on_bus, device, as_stepped, step_of}
 use Rattle.laws8355.proofs.Ports.{written-nowhere}
 
 -- Accepted, with the bus idle and the ports as these.
 abbrev ends_with : Ports → Stepped
-ends_with s = record { chip = onBus Idle s; number = 0; byte = 0 }
+ends_with s = record { chip = on_bus Idle s; number = 0; byte = 0 }
 
 pub every-read-ends : (c : Chip8355) (p x d : ℕ) → c.phase ≡ Reading p → step_of c 2 x d ≡ ends_with c.ports
 unfolding step_of
-every-read-ends c p x d phase = ap asStepped (bus.read-ends device c x d p phase)
+every-read-ends c p x d phase = ap as_stepped (bus.read-ends device c x d p phase)
 
 pub write-to-no-address-ends : (c : Chip8355) (a b x d : ℕ) → c.phase ≡ Writing a b → 3 < a → step_of c 2 x d ≡ ends_with c.ports
 unfolding step_of
 write-to-no-address-ends c a b x d phase none =
-    ap asStepped (bus.write-ends device c x d a b phase) ∙ ap ends_with (written-nowhere c.ports a b none)
+    ap as_stepped (bus.write-ends device c x d a b phase) ∙ ap ends_with (written-nowhere c.ports a b none)

@@ -2,7 +2,7 @@
 -- events alone ("The 8355 ports").
 use Rattle.std.specs.Prelude.{Bool, cond, ◌&&◌, [], ◌∷◌, ℕ, ◌+◌, eqb, ltb, get_or}
 use Rattle.bits.specs.Bit.{bit_of}
-use Rattle.bits.specs.Sum.{byteBy}
+use Rattle.bits.specs.Sum.{byte_by}
 use Rattle.events.specs.Event.{Event}
 use Rattle.bus.specs.declared.Phase.{Phase}
 use Rattle.bus.specs.declared.Phase.TheVariants.{Idle}
@@ -16,30 +16,30 @@ pub record Account : Type 0 where
   pub lines : ℕ → ℕ
 
 -- The register at x, which holds v. The byte of a write goes whole into the register that it is for. A reset clears those from 2 on, and no latch.
-abbrev pub registerAfter : ℕ → ℕ → Act → ℕ
-registerAfter x v nothing = v
-registerAfter x v reset = cond (ltb x 2) v 0
-registerAfter x v (written y d) = cond (eqb y x) d v
-registerAfter x v (levels y d) = v
+abbrev pub register_after : ℕ → ℕ → Act → ℕ
+register_after x v nothing = v
+register_after x v reset = cond (ltb x 2) v 0
+register_after x v (written y d) = cond (eqb y x) d v
+register_after x v (levels y d) = v
 
 -- The lines of port p, at the levels v, which the outside alone changes.
-abbrev pub linesAfter : ℕ → ℕ → Act → ℕ
-linesAfter p v nothing = v
-linesAfter p v reset = v
-linesAfter p v (written y d) = v
-linesAfter p v (levels y d) = cond (eqb y p) d v
+abbrev pub lines_after : ℕ → ℕ → Act → ℕ
+lines_after p v nothing = v
+lines_after p v reset = v
+lines_after p v (written y d) = v
+lines_after p v (levels y d) = cond (eqb y p) d v
 
 -- All of it after an act that leaves the phase ph.
-abbrev pub accountAfter : Account → Phase → Act → Account
-accountAfter a ph t = record {
+abbrev pub account_after : Account → Phase → Act → Account
+account_after a ph t = record {
   phase = ph;
-  register = λ x. registerAfter x (a.register x) t;
-  lines = λ p. linesAfter p (a.lines p) t;
+  register = λ x. register_after x (a.register x) t;
+  lines = λ p. lines_after p (a.lines p) t;
 }
 
 -- After an event: a refused one changes nothing.
-abbrev pub accountNext : Account → Event → Account
-accountNext a e = let r = row_of a.phase e in cond (eqb r.number 0) (accountAfter a r.leaves r.act) a
+abbrev pub account_next : Account → Event → Account
+account_next a e = let r = row_of a.phase e in cond (eqb r.number 0) (account_after a r.leaves r.act) a
 
 -- At power-up every register holds 00, and every line is high.
 abbrev pub opened : Account
@@ -50,15 +50,15 @@ abbrev pub pin : Account → ℕ → ℕ → Bool
 pin a p n = cond (bit_of (a.register (p + 2)) n) (bit_of (a.register p) n) (bit_of (a.lines p) n)
 
 -- Ports A and B: the levels of the pins, and the mask of those whose buffer is enabled. There is no other port.
-abbrev pub levelsShown : Account → ℕ → ℕ
-levelsShown a p = get_or (byteBy (pin a 0) ∷ byteBy (pin a 1) ∷ []) p 0
+abbrev pub levels_shown : Account → ℕ → ℕ
+levels_shown a p = get_or (byte_by (pin a 0) ∷ byte_by (pin a 1) ∷ []) p 0
 
-abbrev pub maskShown : Account → ℕ → ℕ
-maskShown a p = get_or (a.register 2 ∷ a.register 3 ∷ []) p 0
+abbrev pub mask_shown : Account → ℕ → ℕ
+mask_shown a p = get_or (a.register 2 ∷ a.register 3 ∷ []) p 0
 
 -- The number and the byte of an event. Only a read that is accepted has a byte: what the pins show, inputs and outputs.
-abbrev pub numberBy : Account → Event → ℕ
-numberBy a e = (row_of a.phase e).number
+abbrev pub number_by : Account → Event → ℕ
+number_by a e = (row_of a.phase e).number
 
-abbrev pub byteAnswered : Account → Event → ℕ
-byteAnswered a e = cond (eqb e.kind 1 && eqb (numberBy a e) 0) (levelsShown a e.first) 0
+abbrev pub byte_answered : Account → Event → ℕ
+byte_answered a e = cond (eqb e.kind 1 && eqb (number_by a e) 0) (levels_shown a e.first) 0

@@ -1,7 +1,7 @@
 // Levels put on the pins from outside: a fall of STB offers a byte, and a fall of ACK hands one over. While STB is low, levels on the
 // port itself go through to its input latch.
 ghost use Rattle.std.specs.Prelude.{◌≡◌};
-ghost use Rattle.levels.specs.Levels.{fallen, strobedWith, acknowledged, edged, afterLevelsOnC, letsThrough, portAfterLevels, afterLevels};
+ghost use Rattle.levels.specs.Levels.{fallen, strobed_with, acknowledged, edged, after_levels_on_c, lets_through, port_after_levels, after_levels};
 
 use channel::{Channel, Fill, Side};
 use chip::{Core, Port, handshakes};
@@ -15,7 +15,7 @@ fn falls(before: u8, after: u8, pin: u8) -> bool
 }
 
 fn strobe(channel: Channel, on: bool, levels: u8) -> Channel
-    ensures { result ≡ strobedWith channel on levels }
+    ensures { result ≡ strobed_with channel on levels }
 {
     if on {
         return channel::offer(channel, levels);
@@ -43,7 +43,7 @@ fn edges(mut port: Port, strobed: bool, taken: bool) -> Port
 
 // The levels of port C: its falling edges act on both ports. The fall of group B's line is either edge.
 fn lines(mut core: Core, levels: u8) -> Core
-    ensures { result ≡ afterLevelsOnC core levels }
+    ensures { result ≡ after_levels_on_c core levels }
 {
     let before = core.c.outside;
     let word = core.word;
@@ -64,7 +64,7 @@ fn lines(mut core: Core, levels: u8) -> Core
 
 // Whether the group's input lets levels through to its latch: it is strobed, and its STB is low.
 fn lets_through(core: Core, group: Group) -> bool
-    ensures { result ≡ letsThrough core group }
+    ensures { result ≡ lets_through core group }
 {
     let stb = bits::bit(core.c.outside, handshakes::line_pin(group, Side::Input));
     handshakes::strobed(core.word, group, Side::Input) & !stb
@@ -72,7 +72,7 @@ fn lets_through(core: Core, group: Group) -> bool
 
 // The port after new levels on its own lines, whether or not they go through to its input latch.
 fn put(mut port: Port, through: bool, levels: u8) -> Port
-    ensures { result ≡ portAfterLevels port through levels }
+    ensures { result ≡ port_after_levels port through levels }
 {
     port.input = channel::follow(port.input, through, levels);
     port.outside = levels;
@@ -81,7 +81,7 @@ fn put(mut port: Port, through: bool, levels: u8) -> Port
 
 // The outside levels of a port become these; on a number that is no port nothing happens.
 pub fn set(mut core: Core, port: u8, levels: u8) -> Core
-    ensures { result ≡ afterLevels core port levels }
+    ensures { result ≡ after_levels core port levels }
 {
     match port {
         chip::PORT_A => {

@@ -1,10 +1,10 @@
 // The lookup of a pin's role under a mode word: what the published table says, worked out and not read.
 ghost use Rattle.std.specs.Prelude.{◌≡◌, ◌<◌};
-ghost use Rattle.control.specs.Mode.{strobedInput};
+ghost use Rattle.control.specs.Mode.{strobed_input};
 ghost use Rattle.control.specs.declared.Group.TheVariants.{B};
 ghost use Rattle.roles.specs.Role.{number};
-ghost use Rattle.roles.specs.Pins.{handshakeRole};
-ghost use Rattle.lookup.specs.Lookup.{lookupOf};
+ghost use Rattle.roles.specs.Pins.{handshake_role};
+ghost use Rattle.lookup.specs.Lookup.{lookup_of};
 
 use control::Group;
 
@@ -16,7 +16,7 @@ const HANDSHAKE: u64 = 0x4635_2642_4635_2532;
 // The number of the role that a handshake gives to the pin.
 fn handshake_role(word: u8, pin: u8) -> u8
     requires { pin < 8 }
-    ensures { result ≡ number (handshakeRole (strobedInput word B) pin) }
+    ensures { result ≡ number (handshake_role (strobed_input word B) pin) }
 {
     let half = bits::choose(control::mode::strobed_input(word, Group::B), 0, 32);
     let at = (half + 4 * pin) as u64;
@@ -25,7 +25,7 @@ fn handshake_role(word: u8, pin: u8) -> u8
 
 // The role of a pin under a mode word; 255 for a word below 128 or a pin above 7.
 pub fn role(word: u8, pin: u8) -> u8
-    ensures { result ≡ lookupOf word pin }
+    ensures { result ≡ lookup_of word pin }
 {
     if (word < 128) | (7 < pin) {
         return 255;

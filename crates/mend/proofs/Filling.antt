@@ -11,18 +11,18 @@ use lib.ListN.{length, take, drop, set, length-append, length-drop, take-append-
 use lib.Seq.{set_split, append_snoc}
 use borrow.Author.Rules.{part_to_end}
 use Rattle.script.proofs.Filling.{back, back_is, back-front, back-behind, back-length}
-use Rattle.mend.specs.Mend.{inFront}
+use Rattle.mend.specs.Mend.{in_front}
 
 module _ {A : Type 0} (part : A → List ℕ) where
   -- What the output will hold: what stands before `at`, the bytes of the items that are left, and what stands behind these.
-  abbrev toCome : List A → ℕ → List ℕ → List ℕ
-  toCome xs at out = take at out ++ (flat_map part xs ++ drop (at + length (flat_map part xs)) out)
+  abbrev to_come : List A → ℕ → List ℕ → List ℕ
+  to_come xs at out = take at out ++ (flat_map part xs ++ drop (at + length (flat_map part xs)) out)
 
   -- All items on their way into an output that began as `first`: xs are left, and go from `at` on.
   pub record UnderWay (all : List A) (first out : List ℕ) (xs : List A) (at : ℕ) : Type 0 where
     pub long : length out ≡ length first
     pub room : at + length (flat_map part xs) ≤ length out
-    pub comes : toCome xs at out ≡ inFront (flat_map part all) first
+    pub comes : to_come xs at out ≡ in_front (flat_map part all) first
 
   pub starts : (all : List A) (first : List ℕ) → length (flat_map part all) ≤ length first → UnderWay all first first all 0
   starts all first room = record {
@@ -32,10 +32,10 @@ module _ {A : Type 0} (part : A → List ℕ) where
   }
 
   -- When none is left the output holds all that it will.
-  pub arrives : (all : List A) (first out : List ℕ) (at : ℕ) → UnderWay all first out [] at → out ≡ inFront (flat_map part all) first
+  pub arrives : (all : List A) (first out : List ℕ) (at : ℕ) → UnderWay all first out [] at → out ≡ in_front (flat_map part all) first
   unfolding flat_map
   arrives all first out at way =
-      let whole : toCome [] at out ≡ out = rw (add-zero at) (take-append-drop at out) in
+      let whole : to_come [] at out ≡ out = rw (add-zero at) (take-append-drop at out) in
       sym whole ∙ way.comes
 
   -- A turn writes the bytes of x, for which there is room.
@@ -50,7 +50,7 @@ module _ {A : Type 0} (part : A → List ℕ) where
     pub room-for-one : length (part x) ≤ length (take (length out - at) (drop at out))
     room-for-one = rw (part_to_end out at, length-drop at out) (omega (arith, fits))
 
-    onward : toCome xs (at + length (part x)) (back at (length (part x)) (part x) out) ≡ toCome (x ∷ xs) at out
+    onward : to_come xs (at + length (part x)) (back at (length (part x)) (part x) out) ≡ to_come (x ∷ xs) at out
     unfolding flat_map
     onward =
         let w = length (part x) in
@@ -60,8 +60,8 @@ module _ {A : Type 0} (part : A → List ℕ) where
         (append_assoc (take at out) (part x) (later ++ drop (at + length (part x ++ later)) out)
         ∙ ap (λ (l : List ℕ). take at out ++ l) (sym (append_assoc (part x) later (drop (at + length (part x ++ later)) out))))
 
-    goes_on : UnderWay all first (back at (length (part x)) (part x) out) xs (at + length (part x))
-    goes_on =
+    goes-on : UnderWay all first (back at (length (part x)) (part x) out) xs (at + length (part x))
+    goes-on =
         let same = back-length at (length (part x)) (part x) out refl fits in
         record {
           long = same ∙ way.long;
@@ -70,21 +70,21 @@ module _ {A : Type 0} (part : A → List ℕ) where
         }
 
     -- Through a part of the output that is lent, as it comes back.
-    pub lent : (got : List ℕ) (n : ℕ) → n ≡ length (part x) → got ≡ inFront (part x) (take (length out - at) (drop at out))
+    pub lent : (got : List ℕ) (n : ℕ) → n ≡ length (part x) → got ≡ in_front (part x) (take (length out - at) (drop at out))
         → UnderWay all first (take at out ++ (got ++ drop (length out - at) (drop at out))) xs (at + n)
-    lent got n counted written = rw (written, counted) goes_on
+    lent got n counted written = rw (written, counted) goes-on
 
     -- By one store, where x has one byte.
     pub stored : (b : ℕ) → part x ≡ b ∷ [] → UnderWay all first (set out at b) xs (at + 1)
     stored b one =
-        let way = goes_on in
+        let way = goes-on in
         let spliced : set out at b ≡ back at (length (part x)) (part x) out =
         rw (back_is at (length (part x)) (part x) out refl fits, one, add-one at)
         (set_split out at b (omega (arith, fits, ap length one)) ∙ sym (append_snoc (take at out) b (drop (suc at) out))) in
         rw (spliced, ← ap length one) way
 
 -- Items that have one byte each.
-pub one_each : {A : Type 0} (f : A → ℕ) (xs : List A) → flat_map (λ (x : A). f x ∷ []) xs ≡ map f xs
+pub one-each : {A : Type 0} (f : A → ℕ) (xs : List A) → flat_map (λ (x : A). f x ∷ []) xs ≡ map f xs
 unfolding flat_map
-one_each f [] = refl
-one_each f (x ∷ xs) = ap (λ (l : List ℕ). f x ∷ l) (one_each f xs)
+one-each f [] = refl
+one-each f (x ∷ xs) = ap (λ (l : List ℕ). f x ∷ l) (one-each f xs)

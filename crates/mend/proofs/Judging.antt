@@ -9,29 +9,29 @@ use native.Mathlib.Omega.{arith}
 use lib.Dec.{eqb}
 use lib.ListN.{length, get_or}
 use borrow.Author.Tests.{eqb-true, not-true}
-use Rattle.bits.specs.Same.{sameBytes}
+use Rattle.bits.specs.Same.{same_bytes}
 use Rattle.bits.proofs.Logic.{both, contrary}
 use Rattle.bits.proofs.Same.{same_lists, same_self}
 use Rattle.bits.proofs.Tested.{bits}
-use Rattle.events.specs.Kinds.{isKind, operandsOf}
+use Rattle.events.specs.Kinds.{is_kind, operands_of}
 use Rattle.events.specs.Event.{Event}
-use Rattle.text.specs.Digits.{digits, digitCode, inDigits}
+use Rattle.text.specs.Digits.{digits, digit_code, in_digits}
 use Rattle.text.specs.Lines.{Line, ended, rest}
-use Rattle.text.specs.Frames.{leadingByte, isFrame, isEvent, frameIn}
-use Rattle.text.specs.Written.{operandsOut, writtenOut}
-use Rattle.text.proofs.WrittenBack.{eventIn, written_back}
-use Rattle.mend.specs.Line.{bytes_of, cr, withoutCR, raised, mended, isBlank, wasSo, keptSign, mendedSign, blankSign, unfitSign, sign_of}
+use Rattle.text.specs.Frames.{leading_byte, is_frame, is_event, frame_in}
+use Rattle.text.specs.Written.{operands_out, written_out}
+use Rattle.text.proofs.WrittenBack.{event_in, written_back}
+use Rattle.mend.specs.Line.{bytes_of, cr, without_cr, raised, mended, is_blank, was_so, kept_sign, mended_sign, blank_sign, unfit_sign, sign_of}
 use Rattle.mend.proofs.Fit.{event-of, mended-length}
 
 -- A code to which nothing is done: it is no small digit, and no CR.
-abbrev plainCode : ℕ → Bool
-plainCode b = eqb (raised b) b && not (eqb b cr)
+abbrev plain_code : ℕ → Bool
+plain_code b = eqb (raised b) b && not (eqb b cr)
 
 abbrev plain : List ℕ → Bool
 plain [] = true
-plain (b ∷ bytes) = plainCode b && plain bytes
+plain (b ∷ bytes) = plain_code b && plain bytes
 
-module _ (b : ℕ) (is : plainCode b ≡ true) where
+module _ (b : ℕ) (is : plain_code b ≡ true) where
   as-it-is : raised b ≡ b
   as-it-is = eqb-true (raised b) b (both (eqb (raised b) b) (not (eqb b cr)) is).0
 
@@ -39,85 +39,85 @@ module _ (b : ℕ) (is : plainCode b ≡ true) where
   no-cr = not-true (eqb b cr) (both (eqb (raised b) b) (not (eqb b cr)) is).1
 
 plain-stays : (bytes : List ℕ) → plain bytes ≡ true → mended bytes ≡ bytes
-unfolding mended withoutCR
+unfolding mended without_cr
 plain-stays [] is = refl
-plain-stays (b ∷ []) is = let k = both (plainCode b) true is in rw (no-cr b k.0) (ap (λ n. n ∷ []) (as-it-is b k.0))
+plain-stays (b ∷ []) is = let k = both (plain_code b) true is in rw (no-cr b k.0) (ap (λ n. n ∷ []) (as-it-is b k.0))
 plain-stays (b ∷ d ∷ bytes) is =
-    let k = both (plainCode b) (plain (d ∷ bytes)) is in
+    let k = both (plain_code b) (plain (d ∷ bytes)) is in
     λ i. as-it-is b k.0 i ∷ plain-stays (d ∷ bytes) k.1 i
 
 -- Every digit is such a code, by a test at the sixteen.
-plain-digit : (n : ℕ) → plainCode (digitCode n) ≡ true
-unfolding digitCode raised
-plain-digit n = bits 16 (λ i. plainCode (get_or digits i 0)) (λ i. true) tt (n % 16) (omega arith)
+plain-digit : (n : ℕ) → plain_code (digit_code n) ≡ true
+unfolding digit_code raised
+plain-digit n = bits 16 (λ i. plain_code (get_or digits i 0)) (λ i. true) tt (n % 16) (omega arith)
 
-plain_byte : (x : ℕ) (later : List ℕ) → plain later ≡ true → plain (inDigits x ++ later) ≡ true
+plain_byte : (x : ℕ) (later : List ℕ) → plain later ≡ true → plain (in_digits x ++ later) ≡ true
 plain_byte x later is = rw (plain-digit (x / 16), plain-digit x) is
 
-plain-event : (e : Event) → plain (writtenOut e) ≡ true
-unfolding writtenOut
-plain-event e = go (operandsOf e.kind)
+plain-event : (e : Event) → plain (written_out e) ≡ true
+unfolding written_out
+plain-event e = go (operands_of e.kind)
   where
-    go : (n : ℕ) → plain (inDigits e.kind ++ operandsOut n e.first e.second) ≡ true
+    go : (n : ℕ) → plain (in_digits e.kind ++ operands_out n e.first e.second) ≡ true
     go zero = plain_byte e.kind [] refl
-    go (suc zero) = plain_byte e.kind (inDigits e.first) (plain_byte e.first [] refl)
+    go (suc zero) = plain_byte e.kind (in_digits e.first) (plain_byte e.first [] refl)
     go (suc (suc n)) =
-        plain_byte e.kind (inDigits e.first ++ inDigits e.second)
-        (plain_byte e.first (inDigits e.second) (plain_byte e.second [] refl))
+        plain_byte e.kind (in_digits e.first ++ in_digits e.second)
+        (plain_byte e.first (in_digits e.second) (plain_byte e.second [] refl))
 
 -- So a frame stays as it is.
-pub frame-stays : (bytes : List ℕ) → isFrame bytes ≡ true → mended bytes ≡ bytes
+pub frame-stays : (bytes : List ℕ) → is_frame bytes ≡ true → mended bytes ≡ bytes
 frame-stays bytes is =
     let line = written_back bytes is in
-    ap mended line ∙ plain-stays (writtenOut (eventIn bytes)) (plain-event (eventIn bytes)) ∙ sym line
+    ap mended line ∙ plain-stays (written_out (event_in bytes)) (plain-event (event_in bytes)) ∙ sym line
 
 -- No bytes are no frame, and so a frame is not blank.
-pub not-blank : (bytes : List ℕ) → isFrame bytes ≡ true → isBlank bytes ≡ false
-unfolding isKind operandsOf leadingByte isFrame
+pub not-blank : (bytes : List ℕ) → is_frame bytes ≡ true → is_blank bytes ≡ false
+unfolding is_kind operands_of leading_byte is_frame
 not-blank [] is = sym is
 not-blank (b ∷ bytes) is = refl
 
-pub blank-if-none : (line : List ℕ) → length (withoutCR line) ≡ 0 → isBlank (mended line) ≡ true
+pub blank-if-none : (line : List ℕ) → length (without_cr line) ≡ 0 → is_blank (mended line) ≡ true
 blank-if-none line none = go (mended line) (mended-length line ∙ none)
   where
-    go : (bytes : List ℕ) → length bytes ≡ 0 → isBlank bytes ≡ true
+    go : (bytes : List ℕ) → length bytes ≡ 0 → is_blank bytes ≡ true
     go [] none = refl
     go (b ∷ bytes) none = absurd (omega (arith, none))
 
-pub none-if-blank : (line : List ℕ) → ¬ (length (withoutCR line) ≡ 0) → isBlank (mended line) ≡ false
+pub none-if-blank : (line : List ℕ) → ¬ (length (without_cr line) ≡ 0) → is_blank (mended line) ≡ false
 none-if-blank line some = go (mended line) (mended-length line)
   where
-    go : (bytes : List ℕ) → length bytes ≡ length (withoutCR line) → isBlank bytes ≡ false
+    go : (bytes : List ℕ) → length bytes ≡ length (without_cr line) → is_blank bytes ≡ false
     go [] long = absurd (some (sym long))
     go (b ∷ bytes) long = refl
 
 -- The four signs.
-pub sign_kept : (l : Line) → isEvent (frameIn l) ≡ true → keptSign ≡ sign_of l
-unfolding frameIn sign_of
+pub sign_kept : (l : Line) → is_event (frame_in l) ≡ true → kept_sign ≡ sign_of l
+unfolding frame_in sign_of
 sign_kept (ended bytes) event =
     let is = sym (event-of bytes) ∙ event in
     rw (frame-stays bytes is, not-blank bytes is, is, same_self bytes)
 sign_kept (rest bytes) event = absurd (contrary false refl event)
 
 -- A line that is fit, and was no frame, was not so.
-was-not-so : (l : Line) → isEvent (frameIn l) ≡ false → isFrame (mended (bytes_of l)) ≡ true → wasSo l ≡ false
-unfolding frameIn
-was-not-so (ended bytes) none fit = go (sameBytes bytes (mended bytes)) refl
+was-not-so : (l : Line) → is_event (frame_in l) ≡ false → is_frame (mended (bytes_of l)) ≡ true → was_so l ≡ false
+unfolding frame_in
+was-not-so (ended bytes) none fit = go (same_bytes bytes (mended bytes)) refl
   where
-    go : (t : Bool) → sameBytes bytes (mended bytes) ≡ t → t ≡ false
-    go true same = absurd (contrary (isFrame bytes) (sym (event-of bytes) ∙ none) (ap isFrame (same_lists bytes (mended bytes) same) ∙ fit))
+    go : (t : Bool) → same_bytes bytes (mended bytes) ≡ t → t ≡ false
+    go true same = absurd (contrary (is_frame bytes) (sym (event-of bytes) ∙ none) (ap is_frame (same_lists bytes (mended bytes) same) ∙ fit))
     go false same = refl
 was-not-so (rest bytes) none fit = refl
 
 module _ (l : Line) where
-  pub sign-mended : isEvent (frameIn l) ≡ false → isFrame (mended (bytes_of l)) ≡ true → mendedSign ≡ sign_of l
+  pub sign-mended : is_event (frame_in l) ≡ false → is_frame (mended (bytes_of l)) ≡ true → mended_sign ≡ sign_of l
   unfolding sign_of
   sign-mended none fit = rw (not-blank (mended (bytes_of l)) fit, fit, was-not-so l none fit)
 
-  pub sign-blank : length (withoutCR (bytes_of l)) ≡ 0 → blankSign ≡ sign_of l
+  pub sign-blank : length (without_cr (bytes_of l)) ≡ 0 → blank_sign ≡ sign_of l
   unfolding sign_of
   sign-blank none = rw (blank-if-none (bytes_of l) none)
 
-  pub sign-unfit : ¬ (length (withoutCR (bytes_of l)) ≡ 0) → isFrame (mended (bytes_of l)) ≡ false → unfitSign ≡ sign_of l
+  pub sign-unfit : ¬ (length (without_cr (bytes_of l)) ≡ 0) → is_frame (mended (bytes_of l)) ≡ false → unfit_sign ≡ sign_of l
   unfolding sign_of
   sign-unfit some unfit = rw (none-if-blank (bytes_of l) some, unfit)

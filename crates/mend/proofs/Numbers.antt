@@ -9,72 +9,72 @@ use lib.Dec.{ltb}
 use lib.ListN.{length, length-map}
 use borrow.Author.Tests.{lt-ltb, le-ltb, ltb-false, eq-eqb, ne_eqb}
 use Rattle.bits.proofs.Logic.{neither, by-test}
-use Rattle.text.specs.Lines.{lines_of, lineCount}
-use Rattle.script.specs.Run.{longestScript, tooLong, tooLongNumber, noRoomNumber}
+use Rattle.text.specs.Lines.{lines_of, line_count}
+use Rattle.script.specs.Run.{longest_script, too_long, too_long_number, no_room_number}
 use Rattle.mend.specs.declared.Outcome.{Outcome}
 use Rattle.mend.specs.Line.{sign_of}
-use Rattle.mend.specs.Mend.{cleanOf, reportOf, mendNumber, refusedBy, accepted, outcomeBy, outcomeOf, packed, mendAnswer, inFront, cleanLeft, reportLeft}
+use Rattle.mend.specs.Mend.{clean_of, report_of, mend_number, refused_by, accepted, outcome_by, outcome_of, packed, mend_answer, in_front, clean_left, report_left}
 
 -- The report has as many signs as there are lines.
-pub signs-counted : (text : List ℕ) → length (reportOf text) ≡ lineCount text
-unfolding reportOf
+pub signs-counted : (text : List ℕ) → length (report_of text) ≡ line_count text
+unfolding report_of
 signs-counted text = length-map (lines_of text) sign_of
 
 -- Where a call is accepted, nothing is too long, and there is room.
-pub record Accepted (text : List ℕ) (cleanRoom reportRoom : ℕ) : Type 0 where
-  pub short : length text ≤ longestScript
-  pub shortClean : length (cleanOf text) ≤ longestScript
-  pub cleanFits : length (cleanOf text) ≤ cleanRoom
-  pub reportFits : lineCount text ≤ reportRoom
+pub record Accepted (text : List ℕ) (clean_room report_room : ℕ) : Type 0 where
+  pub short : length text ≤ longest_script
+  pub short_clean : length (clean_of text) ≤ longest_script
+  pub clean_fits : length (clean_of text) ≤ clean_room
+  pub report_fits : line_count text ≤ report_room
 
-module _ (text : List ℕ) (cleanRoom reportRoom : ℕ) where
-  pub too_long : longestScript < length text → refusedBy tooLongNumber ≡ outcomeOf text cleanRoom reportRoom
-  unfolding mendNumber
-  too_long long = rw (lt-ltb _ _ long)
+module _ (text : List ℕ) (clean_room report_room : ℕ) where
+  pub too-long : longest_script < length text → refused_by too_long_number ≡ outcome_of text clean_room report_room
+  unfolding mend_number
+  too-long long = rw (lt-ltb _ _ long)
 
-  pub clean-too-long : length text ≤ longestScript → longestScript < length (cleanOf text)
-      → refusedBy tooLongNumber ≡ outcomeOf text cleanRoom reportRoom
-  unfolding mendNumber
+  pub clean-too-long : length text ≤ longest_script → longest_script < length (clean_of text)
+      → refused_by too_long_number ≡ outcome_of text clean_room report_room
+  unfolding mend_number
   clean-too-long short long = rw (le-ltb _ _ short, lt-ltb _ _ long)
 
-  module _ (short : length text ≤ longestScript) (shortClean : length (cleanOf text) ≤ longestScript) where
-    pub no_room : (ltb cleanRoom (length (cleanOf text)) || ltb reportRoom (lineCount text)) ≡ true
-        → refusedBy noRoomNumber ≡ outcomeOf text cleanRoom reportRoom
-    unfolding mendNumber
-    no_room less = rw (le-ltb _ _ short, le-ltb _ _ shortClean, less)
+  module _ (short : length text ≤ longest_script) (short_clean : length (clean_of text) ≤ longest_script) where
+    pub no-room : (ltb clean_room (length (clean_of text)) || ltb report_room (line_count text)) ≡ true
+        → refused_by no_room_number ≡ outcome_of text clean_room report_room
+    unfolding mend_number
+    no-room less = rw (le-ltb _ _ short, le-ltb _ _ short_clean, less)
 
-    pub is-accepted : (ltb cleanRoom (length (cleanOf text)) || ltb reportRoom (lineCount text)) ≡ false
-        → accepted text ≡ outcomeOf text cleanRoom reportRoom
-    unfolding mendNumber
-    is-accepted enough = rw (le-ltb _ _ short, le-ltb _ _ shortClean, enough)
+    pub is-accepted : (ltb clean_room (length (clean_of text)) || ltb report_room (line_count text)) ≡ false
+        → accepted text ≡ outcome_of text clean_room report_room
+    unfolding mend_number
+    is-accepted enough = rw (le-ltb _ _ short, le-ltb _ _ short_clean, enough)
 
-  pub number_is : (outcomeOf text cleanRoom reportRoom).number ≡ mendNumber text cleanRoom reportRoom
-  number_is = go (mendNumber text cleanRoom reportRoom)
+  pub number_is : (outcome_of text clean_room report_room).number ≡ mend_number text clean_room report_room
+  number_is = go (mend_number text clean_room report_room)
     where
-      go : (n : ℕ) → (outcomeBy n text).number ≡ n
+      go : (n : ℕ) → (outcome_by n text).number ≡ n
       go zero = refl
       go (suc n) = rw (ne_eqb (suc n) 0 (λ e. omega (arith, e)))
 
-  pub lengths-are : mendNumber text cleanRoom reportRoom ≡ 0 → outcomeOf text cleanRoom reportRoom ≡ accepted text
-  lengths-are none = rw (eq-eqb (mendNumber text cleanRoom reportRoom) 0 none)
+  pub lengths-are : mend_number text clean_room report_room ≡ 0 → outcome_of text clean_room report_room ≡ accepted text
+  lengths-are none = rw (eq-eqb (mend_number text clean_room report_room) 0 none)
 
-  pub when-accepted : mendNumber text cleanRoom reportRoom ≡ 0 → Accepted text cleanRoom reportRoom
-  unfolding mendNumber
-  when-accepted = go (tooLong text || tooLong (cleanOf text)) refl (ltb cleanRoom (length (cleanOf text)) || ltb reportRoom (lineCount text)) refl
+  pub when-accepted : mend_number text clean_room report_room ≡ 0 → Accepted text clean_room report_room
+  unfolding mend_number
+  when-accepted = go (too_long text || too_long (clean_of text)) refl (ltb clean_room (length (clean_of text)) || ltb report_room (line_count text)) refl
     where
-      go : (long : Bool) → (tooLong text || tooLong (cleanOf text)) ≡ long
-          → (less : Bool) → (ltb cleanRoom (length (cleanOf text)) || ltb reportRoom (lineCount text)) ≡ less
-          → cond long tooLongNumber (cond less noRoomNumber 0) ≡ 0 → Accepted text cleanRoom reportRoom
+      go : (long : Bool) → (too_long text || too_long (clean_of text)) ≡ long
+          → (less : Bool) → (ltb clean_room (length (clean_of text)) || ltb report_room (line_count text)) ≡ less
+          → cond long too_long_number (cond less no_room_number 0) ≡ 0 → Accepted text clean_room report_room
       go true l less m e = absurd (omega (arith, e))
       go false l true m e = absurd (omega (arith, e))
       go false l false m e =
-          let short = neither (tooLong text) (tooLong (cleanOf text)) l in
-          let enough = neither (ltb cleanRoom (length (cleanOf text))) (ltb reportRoom (lineCount text)) m in
+          let short = neither (too_long text) (too_long (clean_of text)) l in
+          let enough = neither (ltb clean_room (length (clean_of text))) (ltb report_room (line_count text)) m in
           record {
-            short = ltb-false longestScript (length text) short.0;
-            shortClean = ltb-false longestScript (length (cleanOf text)) short.1;
-            cleanFits = ltb-false cleanRoom (length (cleanOf text)) enough.0;
-            reportFits = ltb-false reportRoom (lineCount text) enough.1;
+            short = ltb-false longest_script (length text) short.0;
+            short_clean = ltb-false longest_script (length (clean_of text)) short.1;
+            clean_fits = ltb-false clean_room (length (clean_of text)) enough.0;
+            report_fits = ltb-false report_room (line_count text) enough.1;
           }
 
 -- The number and both lengths, taken out of the answer again.
@@ -82,53 +82,53 @@ apart : (o : Outcome) → o.number < 256 → o.clean < 16777216
     → (packed o % 256 ≡ o.number) × (packed o / 256 % 16777216 ≡ o.clean) × (packed o / 4294967296 ≡ o.report)
 apart o few short = (omega (arith, few), omega (arith, few, short), omega (arith, few, short))
 
-module _ (text : List ℕ) (cleanRoom reportRoom : ℕ) where
-  small-number : mendNumber text cleanRoom reportRoom < 256
-  unfolding mendNumber
+module _ (text : List ℕ) (clean_room report_room : ℕ) where
+  small-number : mend_number text clean_room report_room < 256
+  unfolding mend_number
   small-number =
-      by-test (λ n. n < 256) (tooLong text || tooLong (cleanOf text)) tooLongNumber _ (λ t. omega arith)
-      (λ t. by-test (λ n. n < 256) (ltb cleanRoom (length (cleanOf text)) || ltb reportRoom (lineCount text)) noRoomNumber 0
+      by-test (λ n. n < 256) (too_long text || too_long (clean_of text)) too_long_number _ (λ t. omega arith)
+      (λ t. by-test (λ n. n < 256) (ltb clean_room (length (clean_of text)) || ltb report_room (line_count text)) no_room_number 0
       (λ t. omega arith) (λ t. omega arith))
 
-  short-enough : (outcomeOf text cleanRoom reportRoom).clean ≤ longestScript
-  short-enough = go (mendNumber text cleanRoom reportRoom) refl
+  short-enough : (outcome_of text clean_room report_room).clean ≤ longest_script
+  short-enough = go (mend_number text clean_room report_room) refl
     where
-      go : (n : ℕ) → mendNumber text cleanRoom reportRoom ≡ n → (outcomeBy n text).clean ≤ longestScript
-      go zero is = (when-accepted text cleanRoom reportRoom is).shortClean
+      go : (n : ℕ) → mend_number text clean_room report_room ≡ n → (outcome_by n text).clean ≤ longest_script
+      go zero is = (when-accepted text clean_room report_room is).short_clean
       go (suc n) is = rw (ne_eqb (suc n) 0 (λ e. omega (arith, e))) (omega arith)
 
-  taken-apart : let answer = mendAnswer text cleanRoom reportRoom in
-      let outcome = outcomeOf text cleanRoom reportRoom in
+  taken-apart : let answer = mend_answer text clean_room report_room in
+      let outcome = outcome_of text clean_room report_room in
       (answer % 256 ≡ outcome.number) × (answer / 256 % 16777216 ≡ outcome.clean) × (answer / 4294967296 ≡ outcome.report)
-  unfolding mendAnswer
+  unfolding mend_answer
   taken-apart =
-      apart (outcomeOf text cleanRoom reportRoom)
-      (omega (arith, number_is text cleanRoom reportRoom, small-number)) (omega (arith, short-enough))
+      apart (outcome_of text clean_room report_room)
+      (omega (arith, number_is text clean_room report_room, small-number)) (omega (arith, short-enough))
 
-  pub number-answered : mendAnswer text cleanRoom reportRoom % 256 ≡ mendNumber text cleanRoom reportRoom
-  number-answered = taken-apart.0 ∙ number_is text cleanRoom reportRoom
+  pub number-answered : mend_answer text clean_room report_room % 256 ≡ mend_number text clean_room report_room
+  number-answered = taken-apart.0 ∙ number_is text clean_room report_room
 
-  module _ (none : mendNumber text cleanRoom reportRoom ≡ 0) where
-    pub clean-answered : mendAnswer text cleanRoom reportRoom / 256 % 16777216 ≡ length (cleanOf text)
-    clean-answered = taken-apart.1 ∙ ap (λ (o : Outcome). o.clean) (lengths-are text cleanRoom reportRoom none)
+  module _ (none : mend_number text clean_room report_room ≡ 0) where
+    pub clean-answered : mend_answer text clean_room report_room / 256 % 16777216 ≡ length (clean_of text)
+    clean-answered = taken-apart.1 ∙ ap (λ (o : Outcome). o.clean) (lengths-are text clean_room report_room none)
 
-    pub report-answered : mendAnswer text cleanRoom reportRoom / 4294967296 ≡ length (reportOf text)
-    report-answered = taken-apart.2 ∙ ap (λ (o : Outcome). o.report) (lengths-are text cleanRoom reportRoom none)
+    pub report-answered : mend_answer text clean_room report_room / 4294967296 ≡ length (report_of text)
+    report-answered = taken-apart.2 ∙ ap (λ (o : Outcome). o.report) (lengths-are text clean_room report_room none)
 
 -- What a call answers and leaves: where it is refused, its number alone, and both outputs as they were; where it is accepted, both lengths, and
 -- both outputs with what was written in front.
 module _ (text clean report : List ℕ) where
   abbrev number : ℕ
-  number = mendNumber text (length clean) (length report)
+  number = mend_number text (length clean) (length report)
 
   pub refused : ¬ (number ≡ 0)
-      → (number ≡ mendAnswer text (length clean) (length report)) × (clean ≡ cleanLeft text clean report) × (report ≡ reportLeft text clean report)
-  unfolding mendAnswer cleanLeft reportLeft
+      → (number ≡ mend_answer text (length clean) (length report)) × (clean ≡ clean_left text clean report) × (report ≡ report_left text clean report)
+  unfolding mend_answer clean_left report_left
   refused other = (rw (ne_eqb number 0 other) (omega arith), rw (ne_eqb number 0 other), rw (ne_eqb number 0 other))
 
   pub written : number ≡ 0
-      → (256 * length (cleanOf text) + 4294967296 * length (reportOf text) ≡ mendAnswer text (length clean) (length report))
-      × (inFront (cleanOf text) clean ≡ cleanLeft text clean report)
-      × (inFront (reportOf text) report ≡ reportLeft text clean report)
-  unfolding mendAnswer cleanLeft reportLeft
+      → (256 * length (clean_of text) + 4294967296 * length (report_of text) ≡ mend_answer text (length clean) (length report))
+      × (in_front (clean_of text) clean ≡ clean_left text clean report)
+      × (in_front (report_of text) report ≡ report_left text clean report)
+  unfolding mend_answer clean_left report_left
   written none = (rw (eq-eqb number 0 none) (omega arith), rw (eq-eqb number 0 none), rw (eq-eqb number 0 none))

@@ -2,53 +2,53 @@
 -- ("Mending captured scripts").
 use Rattle.std.specs.Prelude.{cond, ◌||◌, ℕ, ◌+◌, ◌*◌, eqb, ltb, length, drop}
 use mathlib.Core.List.{List, ◌++◌, map, flat_map}
-use Rattle.text.specs.Lines.{Line, lines_of, lineCount}
-use Rattle.script.specs.Run.{tooLong, tooLongNumber, noRoomNumber}
+use Rattle.text.specs.Lines.{Line, lines_of, line_count}
+use Rattle.script.specs.Run.{too_long, too_long_number, no_room_number}
 use Rattle.mend.specs.declared.Outcome.{Outcome}
-use Rattle.mend.specs.Line.{bytes_of, sign_of, cleanLine}
+use Rattle.mend.specs.Line.{bytes_of, sign_of, clean_line}
 
 -- The clean script is what it has of each line, one after the other.
-unfoldable pub cleanOf : List ℕ → List ℕ
-cleanOf text = flat_map (λ (l : Line). cleanLine (bytes_of l)) (lines_of text)
+unfoldable pub clean_of : List ℕ → List ℕ
+clean_of text = flat_map (λ (l : Line). clean_line (bytes_of l)) (lines_of text)
 
 -- The report has one sign for each line of the text.
-unfoldable pub reportOf : List ℕ → List ℕ
-reportOf text = map sign_of (lines_of text)
+unfoldable pub report_of : List ℕ → List ℕ
+report_of text = map sign_of (lines_of text)
 
 -- The number of a call, by the text and the room in each output: 6 where the text or its clean form is longer than a script may be; then 7
 -- where the first output is shorter than the clean text, or the second than there are lines; and 0 otherwise.
-unfoldable pub mendNumber : List ℕ → ℕ → ℕ → ℕ
-mendNumber text cleanRoom reportRoom =
-    cond (tooLong text || tooLong (cleanOf text)) tooLongNumber
-    (cond (ltb cleanRoom (length (cleanOf text)) || ltb reportRoom (lineCount text)) noRoomNumber 0)
+unfoldable pub mend_number : List ℕ → ℕ → ℕ → ℕ
+mend_number text clean_room report_room =
+    cond (too_long text || too_long (clean_of text)) too_long_number
+    (cond (ltb clean_room (length (clean_of text)) || ltb report_room (line_count text)) no_room_number 0)
 
 -- What a call comes to: its number, and both lengths, which are 0 where it is refused.
-abbrev pub refusedBy : ℕ → Outcome
-refusedBy n = record { number = n; clean = 0; report = 0 }
+abbrev pub refused_by : ℕ → Outcome
+refused_by n = record { number = n; clean = 0; report = 0 }
 
 abbrev pub accepted : List ℕ → Outcome
-accepted text = record { number = 0; clean = length (cleanOf text); report = length (reportOf text) }
+accepted text = record { number = 0; clean = length (clean_of text); report = length (report_of text) }
 
-abbrev pub outcomeBy : ℕ → List ℕ → Outcome
-outcomeBy n text = cond (eqb n 0) (accepted text) (refusedBy n)
+abbrev pub outcome_by : ℕ → List ℕ → Outcome
+outcome_by n text = cond (eqb n 0) (accepted text) (refused_by n)
 
-abbrev pub outcomeOf : List ℕ → ℕ → ℕ → Outcome
-outcomeOf text cleanRoom reportRoom = outcomeBy (mendNumber text cleanRoom reportRoom) text
+abbrev pub outcome_of : List ℕ → ℕ → ℕ → Outcome
+outcome_of text clean_room report_room = outcome_by (mend_number text clean_room report_room) text
 
 -- The answer has the length of the clean text above the number, from bit 8 on, and that of the report from bit 32 on.
 abbrev pub packed : Outcome → ℕ
 packed o = o.number + 256 * o.clean + 4294967296 * o.report
 
-unfoldable pub mendAnswer : List ℕ → ℕ → ℕ → ℕ
-mendAnswer text cleanRoom reportRoom = packed (outcomeOf text cleanRoom reportRoom)
+unfoldable pub mend_answer : List ℕ → ℕ → ℕ → ℕ
+mend_answer text clean_room report_room = packed (outcome_of text clean_room report_room)
 
 -- An output with bytes in front: what stood behind them stays.
-abbrev pub inFront : List ℕ → List ℕ → List ℕ
-inFront bytes out = bytes ++ drop (length bytes) out
+abbrev pub in_front : List ℕ → List ℕ → List ℕ
+in_front bytes out = bytes ++ drop (length bytes) out
 
 -- Both outputs after a call. A refused one leaves them as they were.
-unfoldable pub cleanLeft : List ℕ → List ℕ → List ℕ → List ℕ
-cleanLeft text clean report = cond (eqb (mendNumber text (length clean) (length report)) 0) (inFront (cleanOf text) clean) clean
+unfoldable pub clean_left : List ℕ → List ℕ → List ℕ → List ℕ
+clean_left text clean report = cond (eqb (mend_number text (length clean) (length report)) 0) (in_front (clean_of text) clean) clean
 
-unfoldable pub reportLeft : List ℕ → List ℕ → List ℕ → List ℕ
-reportLeft text clean report = cond (eqb (mendNumber text (length clean) (length report)) 0) (inFront (reportOf text) report) report
+unfoldable pub report_left : List ℕ → List ℕ → List ℕ → List ℕ
+report_left text clean report = cond (eqb (mend_number text (length clean) (length report)) 0) (in_front (report_of text) report) report

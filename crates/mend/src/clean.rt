@@ -1,14 +1,14 @@
 // The clean script: how long it is, and its writing.
 ghost use Rattle.std.specs.Prelude.{◌≡◌, ◌≤◌, length};
-ghost use Rattle.mend.specs.Line.{cleanLine};
-ghost use Rattle.mend.specs.Mend.{cleanOf, inFront};
+ghost use Rattle.mend.specs.Line.{clean_line};
+ghost use Rattle.mend.specs.Mend.{clean_of, in_front};
 
 use super::line;
 use text::lines;
 
 // How many bytes the clean script has of a line: its own and LF where it is fit, and else none.
 fn length_of(line: &[u8]) -> usize
-    ensures { result ≡ length (cleanLine line.now) }
+    ensures { result ≡ length (clean_line line.now) }
 {
     if line::is_fit(line) {
         line::width(line) + 1
@@ -19,7 +19,7 @@ fn length_of(line: &[u8]) -> usize
 
 // How many bytes the clean script has.
 pub(super) fn length(text: &[u8]) -> usize
-    ensures { result ≡ length (cleanOf text.now) }
+    ensures { result ≡ length (clean_of text.now) }
 {
     let mut start = 0;
     let mut length = 0;
@@ -33,9 +33,9 @@ pub(super) fn length(text: &[u8]) -> usize
 
 // Puts what the clean script has of a line at the start of an output; how many bytes that is.
 fn put_line(out: &mut [u8], line: &[u8]) -> usize
-    requires { length (cleanLine line.now) ≤ length out.old }
-    ensures value { result ≡ length (cleanLine line.now) }
-    ensures out_after { out.new ≡ inFront (cleanLine line.now) out.old }
+    requires { length (clean_line line.now) ≤ length out.old }
+    ensures value { result ≡ length (clean_line line.now) }
+    ensures out_after { out.new ≡ in_front (clean_line line.now) out.old }
 {
     let length = length_of(line);
     if length == 0 {
@@ -48,8 +48,8 @@ fn put_line(out: &mut [u8], line: &[u8]) -> usize
 
 // Writes the clean script to the front of an output, each line from where the last one stopped.
 pub(super) fn write(text: &[u8], out: &mut [u8])
-    requires { length (cleanOf text.now) ≤ length out.old }
-    ensures { out.new ≡ inFront (cleanOf text.now) out.old }
+    requires { length (clean_of text.now) ≤ length out.old }
+    ensures { out.new ≡ in_front (clean_of text.now) out.old }
 {
     let mut start = 0;
     let mut at = 0;

@@ -1,7 +1,7 @@
 // Mending a captured script: a clean script is made of its lines, and a report has a sign for each of them. include/towanchor.h declares
 // towanchor_mend.
 ghost use Rattle.std.specs.Prelude.{◌≡◌, length};
-ghost use Rattle.mend.specs.Mend.{refusedBy, outcomeOf, mendAnswer, cleanLeft, reportLeft};
+ghost use Rattle.mend.specs.Mend.{refused_by, outcome_of, mend_answer, clean_left, report_left};
 
 use bus::ACCEPTED;
 use script::{LONGEST, NO_ROOM, TOO_LONG};
@@ -21,7 +21,7 @@ struct Outcome {
 
 // A call that is refused writes nothing.
 fn refuse(number: u8) -> Outcome
-    ensures { result ≡ refusedBy number }
+    ensures { result ≡ refused_by number }
 {
     Outcome {
         number,
@@ -32,7 +32,7 @@ fn refuse(number: u8) -> Outcome
 
 // What a call comes to, by the text and by the room that each output has.
 fn judge(text: &[u8], clean: usize, report: usize) -> Outcome
-    ensures { result ≡ outcomeOf text.now clean report }
+    ensures { result ≡ outcome_of text.now clean report }
 {
     if LONGEST < text.len() {
         return refuse(TOO_LONG);
@@ -55,9 +55,9 @@ fn judge(text: &[u8], clean: usize, report: usize) -> Outcome
 // Writes the clean script and the report to the front of their outputs, and gives both lengths above the number. A refused call writes nothing.
 #[unsafe(no_mangle)]
 pub extern "C" fn towanchor_mend(text: &[u8], clean: &mut [u8], report: &mut [u8]) -> u64
-    ensures value { result ≡ mendAnswer text.now (length clean.old) (length report.old) }
-    ensures clean_after { clean.new ≡ cleanLeft text.now clean.old report.old }
-    ensures report_after { report.new ≡ reportLeft text.now clean.old report.old }
+    ensures value { result ≡ mend_answer text.now (length clean.old) (length report.old) }
+    ensures clean_after { clean.new ≡ clean_left text.now clean.old report.old }
+    ensures report_after { report.new ≡ report_left text.now clean.old report.old }
 {
     let outcome = judge(text, clean.len(), report.len());
     if outcome.number != ACCEPTED {

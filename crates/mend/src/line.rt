@@ -1,9 +1,9 @@
 // One line of a captured script: its bytes as they are mended, whether they are a frame then, and its sign.
 ghost use Rattle.std.specs.Prelude.{◌≡◌, ◌∷◌, ◌++◌, map, suc, ◌<◌, ◌≤◌, length, drop};
 ghost use Rattle.text.specs.Lines.{lf};
-ghost use Rattle.text.specs.Frames.{isEvent, isFrame};
-ghost use Rattle.text.specs.LineEnds.{lineBetween};
-ghost use Rattle.mend.specs.Line.{raised, withoutCR, mended, sign_of};
+ghost use Rattle.text.specs.Frames.{is_event, is_frame};
+ghost use Rattle.text.specs.LineEnds.{line_between};
+ghost use Rattle.mend.specs.Line.{raised, without_cr, mended, sign_of};
 
 use text::{Frame, LF, lines};
 
@@ -38,7 +38,7 @@ fn raise(code: u8) -> u8
 
 // How many bytes of a line are left without the CR at its end.
 pub(super) fn width(line: &[u8]) -> usize
-    ensures { result ≡ length (withoutCR line.now) }
+    ensures { result ≡ length (without_cr line.now) }
 {
     if line.len() == 0 {
         return 0;
@@ -64,7 +64,7 @@ pub(super) fn put(out: &mut [u8], bytes: &[u8])
 }
 
 fn is_event(frame: Frame) -> bool
-    ensures { result ≡ isEvent frame }
+    ensures { result ≡ is_event frame }
 {
     match frame {
         Frame::Event(_, _, _) => true,
@@ -74,7 +74,7 @@ fn is_event(frame: Frame) -> bool
 
 // Whether a line is a frame when it is mended: it is read from a room that has just the longest one and its LF.
 pub(super) fn is_fit(line: &[u8]) -> bool
-    ensures { result ≡ isFrame (mended line.now) }
+    ensures { result ≡ is_frame (mended line.now) }
 {
     let width = width(line);
     if LONGEST_FRAME < width {
@@ -89,7 +89,7 @@ pub(super) fn is_fit(line: &[u8]) -> bool
 pub(super) fn sign(text: &[u8], start: usize, end: usize) -> u8
     requires start_le_end { start ≤ end }
     requires end_in_bounds { end ≤ length text.now }
-    ensures { result ≡ sign_of (lineBetween text.now start end) }
+    ensures { result ≡ sign_of (line_between text.now start end) }
 {
     if is_event(lines::frame(text, start, end)) {
         return KEPT;

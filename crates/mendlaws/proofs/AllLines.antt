@@ -10,26 +10,26 @@ use lib.ListN.{length, replicate}
 use lib.Seq.{append_snoc}
 use borrow.Author.Tests.{eqb-true, ne_eqb}
 use Rattle.events.specs.Event.{Event}
-use Rattle.text.specs.Lines.{lf, Line, ended, rest, beforeLines, lines_of}
-use Rattle.text.specs.Frames.{isFrame, frame_of, frameIn}
-use Rattle.text.specs.History.{eventOf}
-use Rattle.mend.specs.Line.{bytes_of, mended, keptSign, sign_of, cleanLine}
+use Rattle.text.specs.Lines.{lf, Line, ended, rest, before_lines, lines_of}
+use Rattle.text.specs.Frames.{is_frame, frame_of, frame_in}
+use Rattle.text.specs.History.{event_of}
+use Rattle.mend.specs.Line.{bytes_of, mended, kept_sign, sign_of, clean_line}
 use Rattle.mend.proofs.Fit.{event-of}
-use Rattle.mend.proofs.Cleaning.{cleanIn, of-a-fit, of-another}
+use Rattle.mend.proofs.Cleaning.{clean_in, of-a-fit, of-another}
 use Rattle.mend.proofs.Judging.{frame-stays, sign_kept}
 use Rattle.mendlaws.specs.Says.{Digit, figure, letter, AllSay, none as none-say, next as next-says}
 use Rattle.mendlaws.specs.Becomes.{AllBecome, none, next}
 use Rattle.mendlaws.proofs.Spelled.{AllDigits, over, digit, said-in-digits}
-use Rattle.mendlaws.proofs.OneLine.{eventsOf, says-frame, says-event, frame-says, becomes, only}
+use Rattle.mendlaws.proofs.OneLine.{events_of, says-frame, says-event, frame-says, becomes, only}
 
 -- All lines become what the relation says, and nothing else.
-pub all-become : (ls : List Line) → AllBecome ls (map sign_of ls) (flat_map cleanIn ls) (flat_map eventsOf ls)
+pub all-become : (ls : List Line) → AllBecome ls (map sign_of ls) (flat_map clean_in ls) (flat_map events_of ls)
 unfolding flat_map
 all-become [] = none
 all-become (l ∷ ls) = next (becomes l) (all-become ls)
 
 pub all-only : {ls : List Line} {signs clean : List ℕ} {es : List Event} → AllBecome ls signs clean es
-    → (signs ≡ map sign_of ls) × (clean ≡ flat_map cleanIn ls) × (es ≡ flat_map eventsOf ls)
+    → (signs ≡ map sign_of ls) × (clean ≡ flat_map clean_in ls) × (es ≡ flat_map events_of ls)
 unfolding flat_map
 all-only none = (refl, refl, refl)
 all-only (next one others) =
@@ -45,61 +45,61 @@ no-lf {c} (letter many few is) = ne_eqb c lf (λ e. omega (arith, e, is))
 first-line : {bytes : List ℕ} → AllDigits bytes → (later : List ℕ) → lines_of (bytes ++ lf ∷ later) ≡ ended bytes ∷ lines_of later
 unfolding lines_of
 first-line over later = refl
-first-line (digit {c} one all) later = rw (no-lf one) (ap (beforeLines c) (first-line all later))
+first-line (digit {c} one all) later = rw (no-lf one) (ap (before_lines c) (first-line all later))
 
 -- So each line of the clean script says its event.
-pub all_say : (ls : List Line) → AllSay (lines_of (flat_map cleanIn ls)) (flat_map eventsOf ls)
+pub all_say : (ls : List Line) → AllSay (lines_of (flat_map clean_in ls)) (flat_map events_of ls)
 unfolding lines_of flat_map
 all_say [] = none-say
-all_say (l ∷ ls) = go (isFrame (mended (bytes_of l))) refl (all_say ls)
+all_say (l ∷ ls) = go (is_frame (mended (bytes_of l))) refl (all_say ls)
   where
-    go : (t : Bool) → isFrame (mended (bytes_of l)) ≡ t → AllSay (lines_of (flat_map cleanIn ls)) (flat_map eventsOf ls)
-        → AllSay (lines_of (cleanIn l ++ flat_map cleanIn ls)) (cond t (eventOf (frame_of (mended (bytes_of l))) ∷ []) [] ++ flat_map eventsOf ls)
+    go : (t : Bool) → is_frame (mended (bytes_of l)) ≡ t → AllSay (lines_of (flat_map clean_in ls)) (flat_map events_of ls)
+        → AllSay (lines_of (clean_in l ++ flat_map clean_in ls)) (cond t (event_of (frame_of (mended (bytes_of l))) ∷ []) [] ++ flat_map events_of ls)
     go true fit others =
         let says = frame-says (mended (bytes_of l)) fit in
         rw (
           of-a-fit (bytes_of l) fit,
-          append_snoc (mended (bytes_of l)) lf (flat_map cleanIn ls),
-          first-line (said-in-digits says) (flat_map cleanIn ls),
+          append_snoc (mended (bytes_of l)) lf (flat_map clean_in ls),
+          first-line (said-in-digits says) (flat_map clean_in ls),
         ) (next-says says others)
     go false unfit others = rw (of-another (bytes_of l) unfit) others
 
 -- Lines of which each says its event are read as these events.
-pub read-so : {ls : List Line} {es : List Event} → AllSay ls es → map (λ (l : Line). eventOf (frameIn l)) ls ≡ es
-unfolding frameIn
+pub read-so : {ls : List Line} {es : List Event} → AllSay ls es → map (λ (l : Line). event_of (frame_in l)) ls ≡ es
+unfolding frame_in
 read-so none-say = refl
 read-so (next-says says others) = λ i. says-event says i ∷ read-so others i
 
 -- Every text is its lines, each as it stands.
-abbrev pub asItStands : Line → List ℕ
-asItStands (ended bytes) = bytes ++ lf ∷ []
-asItStands (rest bytes) = bytes
+abbrev pub as_it_stands : Line → List ℕ
+as_it_stands (ended bytes) = bytes ++ lf ∷ []
+as_it_stands (rest bytes) = bytes
 
-text-is : (text : List ℕ) → flat_map asItStands (lines_of text) ≡ text
+text-is : (text : List ℕ) → flat_map as_it_stands (lines_of text) ≡ text
 unfolding lines_of flat_map
 text-is [] = refl
 text-is (b ∷ text) = go (eqb b lf) refl (lines_of text) (text-is text)
   where
-    before : (ls : List Line) → flat_map asItStands (beforeLines b ls) ≡ b ∷ flat_map asItStands ls
+    before : (ls : List Line) → flat_map as_it_stands (before_lines b ls) ≡ b ∷ flat_map as_it_stands ls
     before [] = refl
     before (ended bytes ∷ ls) = refl
     before (rest bytes ∷ ls) = refl
 
-    go : (t : Bool) → eqb b lf ≡ t → (ls : List Line) → flat_map asItStands ls ≡ text → flat_map asItStands (cond t (ended [] ∷ ls) (beforeLines b ls)) ≡ b ∷ text
+    go : (t : Bool) → eqb b lf ≡ t → (ls : List Line) → flat_map as_it_stands ls ≡ text → flat_map as_it_stands (cond t (ended [] ∷ ls) (before_lines b ls)) ≡ b ∷ text
     go true is ls same = λ i. sym (eqb-true b lf is) i ∷ same i
     go false is ls same = before ls ∙ ap (λ (l : List ℕ). b ∷ l) same
 
 -- A text of which no line is malformed stays as it is, and each line is kept.
 pub stays-so : {ls : List Line} {es : List Event} → AllSay ls es
-    → (flat_map cleanIn ls ≡ flat_map asItStands ls) × (map sign_of ls ≡ replicate (length ls) keptSign)
-unfolding flat_map frameIn
+    → (flat_map clean_in ls ≡ flat_map as_it_stands ls) × (map sign_of ls ≡ replicate (length ls) kept_sign)
+unfolding flat_map frame_in
 stays-so none-say = (refl, refl)
 stays-so (next-says {bytes} says others) =
     let is = says-frame says in
     let stays = frame-stays bytes is in
-    let part : cleanLine bytes ≡ bytes ++ lf ∷ [] = of-a-fit bytes (ap isFrame stays ∙ is) ∙ ap (λ (l : List ℕ). l ++ lf ∷ []) stays in
+    let part : clean_line bytes ≡ bytes ++ lf ∷ [] = of-a-fit bytes (ap is_frame stays ∙ is) ∙ ap (λ (l : List ℕ). l ++ lf ∷ []) stays in
     let later = stays-so others in
     (λ i. part i ++ later.0 i, λ i. sym (sign_kept (ended bytes) (event-of bytes ∙ is)) i ∷ later.1 i)
 
-pub clean-stays : (text : List ℕ) {es : List Event} → AllSay (lines_of text) es → flat_map cleanIn (lines_of text) ≡ text
+pub clean-stays : (text : List ℕ) {es : List Event} → AllSay (lines_of text) es → flat_map clean_in (lines_of text) ≡ text
 clean-stays text say = (stays-so say).0 ∙ text-is text

@@ -6,25 +6,25 @@ use Prim.Native.Nat.{ℕ, ◌-◌, ◌≤◌}
 use native.Mathlib.Omega.{arith}
 use lib.ListN.{length, take, drop, length-append, length-drop}
 use lib.Seq.{take_at, drop_at}
-use Rattle.text.specs.Lines.{lineCount}
-use Rattle.mend.specs.Mend.{cleanOf, reportOf, mendNumber, inFront, cleanLeft, reportLeft}
+use Rattle.text.specs.Lines.{line_count}
+use Rattle.mend.specs.Mend.{clean_of, report_of, mend_number, in_front, clean_left, report_left}
 use Rattle.mend.proofs.Numbers.{Accepted, signs-counted, when-accepted, clean-answered, report-answered, refused, written}
-use Rattle.mendlaws.specs.Promise.{cleanLength, signCount, cleanText, signs, RefusedWith}
+use Rattle.mendlaws.specs.Promise.{clean_length, sign_count, clean_text, signs, RefusedWith}
 
 -- An output with bytes in front, for which there is room.
 module _ (bytes out : List ℕ) where
-  front : take (length bytes) (inFront bytes out) ≡ bytes
+  front : take (length bytes) (in_front bytes out) ≡ bytes
   front = take_at bytes (drop (length bytes) out) (length bytes) (λ i. length bytes)
 
-  behind : drop (length bytes) (inFront bytes out) ≡ drop (length bytes) out
+  behind : drop (length bytes) (in_front bytes out) ≡ drop (length bytes) out
   behind = drop_at bytes (drop (length bytes) out) (length bytes) (λ i. length bytes)
 
-  as_long : length bytes ≤ length out → length (inFront bytes out) ≡ length out
-  as_long fits = length-append bytes (drop (length bytes) out) ∙ omega (arith, length-drop (length bytes) out, fits)
+  as-long : length bytes ≤ length out → length (in_front bytes out) ≡ length out
+  as-long fits = length-append bytes (drop (length bytes) out) ∙ omega (arith, length-drop (length bytes) out, fits)
 
 module _ (text clean report : List ℕ) where
   abbrev pub number : ℕ
-  number = mendNumber text (length clean) (length report)
+  number = mend_number text (length clean) (length report)
 
   pub refused-with : (n : ℕ) → number ≡ n → ¬ (n ≡ 0) → RefusedWith n text clean report
   refused-with n is some =
@@ -35,43 +35,43 @@ module _ (text clean report : List ℕ) where
     pub fits : Accepted text (length clean) (length report)
     fits = when-accepted text (length clean) (length report) none
 
-    clean-length : cleanLength text clean report ≡ length (cleanOf text)
+    clean-length : clean_length text clean report ≡ length (clean_of text)
     clean-length = clean-answered text (length clean) (length report) none
 
-    sign-count : signCount text clean report ≡ length (reportOf text)
+    sign-count : sign_count text clean report ≡ length (report_of text)
     sign-count = report-answered text (length clean) (length report) none
 
-    clean-left : cleanLeft text clean report ≡ inFront (cleanOf text) clean
+    clean-left : clean_left text clean report ≡ in_front (clean_of text) clean
     clean-left = sym (written text clean report none).1
 
-    report-left : reportLeft text clean report ≡ inFront (reportOf text) report
+    report-left : report_left text clean report ≡ in_front (report_of text) report
     report-left = sym (written text clean report none).2
 
-    pub clean_is : cleanText text clean report ≡ cleanOf text
-    clean_is = (λ i. take (clean-length i) (clean-left i)) ∙ front (cleanOf text) clean
+    pub clean_is : clean_text text clean report ≡ clean_of text
+    clean_is = (λ i. take (clean-length i) (clean-left i)) ∙ front (clean_of text) clean
 
-    pub signs-are : signs text clean report ≡ reportOf text
-    signs-are = (λ i. take (sign-count i) (report-left i)) ∙ front (reportOf text) report
+    pub signs-are : signs text clean report ≡ report_of text
+    signs-are = (λ i. take (sign-count i) (report-left i)) ∙ front (report_of text) report
 
-    pub clean-written : length (cleanText text clean report) ≡ cleanLength text clean report
+    pub clean-written : length (clean_text text clean report) ≡ clean_length text clean report
     clean-written = ap length clean_is ∙ sym clean-length
 
-    pub signs-written : length (signs text clean report) ≡ signCount text clean report
+    pub signs-written : length (signs text clean report) ≡ sign_count text clean report
     signs-written = ap length signs-are ∙ sym sign-count
 
-    pub one_each : signCount text clean report ≡ lineCount text
-    one_each = sign-count ∙ signs-counted text
+    pub one-each : sign_count text clean report ≡ line_count text
+    one-each = sign-count ∙ signs-counted text
 
-    pub clean-as-long : length (cleanLeft text clean report) ≡ length clean
-    clean-as-long = ap length clean-left ∙ as_long (cleanOf text) clean fits.cleanFits
+    pub clean-as-long : length (clean_left text clean report) ≡ length clean
+    clean-as-long = ap length clean-left ∙ as-long (clean_of text) clean fits.clean_fits
 
-    pub report-as-long : length (reportLeft text clean report) ≡ length report
-    report-as-long = ap length report-left ∙ as_long (reportOf text) report (omega (arith, fits.reportFits, signs-counted text))
+    pub report-as-long : length (report_left text clean report) ≡ length report
+    report-as-long = ap length report-left ∙ as-long (report_of text) report (omega (arith, fits.report_fits, signs-counted text))
 
-    pub clean-behind : drop (cleanLength text clean report) (cleanLeft text clean report) ≡ drop (cleanLength text clean report) clean
+    pub clean-behind : drop (clean_length text clean report) (clean_left text clean report) ≡ drop (clean_length text clean report) clean
     clean-behind =
-        (λ i. drop (clean-length i) (clean-left i)) ∙ behind (cleanOf text) clean ∙ ap (λ (n : ℕ). drop n clean) (sym clean-length)
+        (λ i. drop (clean-length i) (clean-left i)) ∙ behind (clean_of text) clean ∙ ap (λ (n : ℕ). drop n clean) (sym clean-length)
 
-    pub report-behind : drop (signCount text clean report) (reportLeft text clean report) ≡ drop (signCount text clean report) report
+    pub report-behind : drop (sign_count text clean report) (report_left text clean report) ≡ drop (sign_count text clean report) report
     report-behind =
-        (λ i. drop (sign-count i) (report-left i)) ∙ behind (reportOf text) report ∙ ap (λ (n : ℕ). drop n report) (sym sign-count)
+        (λ i. drop (sign-count i) (report-left i)) ∙ behind (report_of text) report ∙ ap (λ (n : ℕ). drop n report) (sym sign-count)

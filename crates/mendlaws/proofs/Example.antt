@@ -2,14 +2,14 @@
 -- Rests on nothing.
 use mathlib.Core.Path.{◌≡◌, refl}
 use mathlib.Core.List.{flat_map}
-use Rattle.events.specs.Kinds.{isKind, operandsOf}
-use Rattle.text.specs.Digits.{digitValue, pairValue}
+use Rattle.events.specs.Kinds.{is_kind, operands_of}
+use Rattle.text.specs.Digits.{digit_value, pair_value}
 use Rattle.text.specs.Lines.{lines_of}
-use Rattle.text.specs.Frames.{leadingByte, isFrame}
-use Rattle.mend.specs.Line.{withoutCR, raised, mended, sign_of, cleanLine}
-use Rattle.mend.specs.Mend.{cleanOf, reportOf, mendNumber, mendAnswer, cleanLeft, reportLeft}
-use Rattle.mendlaws.specs.Example.{aCapture, all_of, given, said}
+use Rattle.text.specs.Frames.{leading_byte, is_frame}
+use Rattle.mend.specs.Line.{without_cr, raised, mended, sign_of, clean_line}
+use Rattle.mend.specs.Mend.{clean_of, report_of, mend_number, mend_answer, clean_left, report_left}
+use Rattle.mendlaws.specs.Example.{a_capture, all_of, given, said}
 
-pub mended-so : given (all_of aCapture) ≡ said
-unfolding flat_map isKind operandsOf digitValue pairValue lines_of leadingByte isFrame withoutCR raised mended sign_of cleanLine cleanOf reportOf mendNumber mendAnswer cleanLeft reportLeft
+pub mended-so : given (all_of a_capture) ≡ said
+unfolding flat_map is_kind operands_of digit_value pair_value lines_of leading_byte is_frame without_cr raised mended sign_of clean_line clean_of report_of mend_number mend_answer clean_left report_left
 mended-so = refl

@@ -9,47 +9,47 @@ use lib.Dec.{ltb}
 use lib.ListN.{length, length-map}
 use borrow.Author.Tests.{lt-ltb, le-ltb}
 use Rattle.events.specs.Event.{Event}
-use Rattle.text.specs.Lines.{Line, lines_of, lineCount}
-use Rattle.text.specs.Frames.{frameIn}
-use Rattle.text.specs.History.{eventOf, historyOf}
+use Rattle.text.specs.Lines.{Line, lines_of, line_count}
+use Rattle.text.specs.Frames.{frame_in}
+use Rattle.text.specs.History.{event_of, history_of}
 use Rattle.script.proofs.History.{history-answered}
-use Rattle.script.specs.Run.{longestScript, tooLong}
-use Rattle.script.specs.Answers.{as8255A, as8355}
-use Rattle.script.specs.History.{answersTo}
+use Rattle.script.specs.Run.{longest_script, too_long}
+use Rattle.script.specs.Answers.{as_8255a, as8355}
+use Rattle.script.specs.History.{answers_to}
 use Rattle.mend.specs.Line.{sign_of}
-use Rattle.mend.specs.Mend.{cleanOf, reportOf, mendNumber}
-use Rattle.mend.proofs.Cleaning.{cleanIn, one-longer-at-most}
+use Rattle.mend.specs.Mend.{clean_of, report_of, mend_number}
+use Rattle.mend.proofs.Cleaning.{clean_in, one-longer-at-most}
 use Rattle.mend.proofs.Numbers.{number-answered}
 use Rattle.mendlaws.specs.Says.{AllSay}
 use Rattle.mendlaws.specs.Becomes.{Becomes, kept, mended as mended-so, blank, unfit, AllBecome, none, next}
-use Rattle.mendlaws.specs.Promise.{answer_of, cleanText, signs, Stays, fitSigns, Mended, Numbered}
-use Rattle.mendlaws.proofs.OneLine.{eventsOf}
+use Rattle.mendlaws.specs.Promise.{answer_of, clean_text, signs, Stays, fit_signs, Mended, Numbered}
+use Rattle.mendlaws.proofs.OneLine.{events_of}
 use Rattle.mendlaws.proofs.AllLines.{all-become, all-only, all_say, read-so, stays-so, clean-stays}
-use Rattle.mendlaws.proofs.Calls.{number, refused-with, fits, clean_is, signs-are, clean-written, signs-written, one_each, clean-as-long, report-as-long, clean-behind, report-behind}
+use Rattle.mendlaws.proofs.Calls.{number, refused-with, fits, clean_is, signs-are, clean-written, signs-written, one-each, clean-as-long, report-as-long, clean-behind, report-behind}
 
 -- The number, test by test.
 module _ (text clean report : List ℕ) where
-  long-text : longestScript < length text → number text clean report ≡ 6
-  unfolding mendNumber
+  long-text : longest_script < length text → number text clean report ≡ 6
+  unfolding mend_number
   long-text long = rw (lt-ltb _ _ long)
 
-  long-clean : longestScript < length (cleanOf text) → number text clean report ≡ 6
-  unfolding mendNumber
-  long-clean long = rw (lt-ltb longestScript (length (cleanOf text)) long, or-true (tooLong text))
+  long-clean : longest_script < length (clean_of text) → number text clean report ≡ 6
+  unfolding mend_number
+  long-clean long = rw (lt-ltb longest_script (length (clean_of text)) long, or-true (too_long text))
 
-  module _ (short : length text ≤ longestScript) (shortClean : length (cleanOf text) ≤ longestScript) where
-    by-room : (ltb (length clean) (length (cleanOf text)) || ltb (length report) (lineCount text)) ≡ true → number text clean report ≡ 7
-    unfolding mendNumber
-    by-room less = rw (le-ltb _ _ short, le-ltb _ _ shortClean, less)
+  module _ (short : length text ≤ longest_script) (short_clean : length (clean_of text) ≤ longest_script) where
+    by-room : (ltb (length clean) (length (clean_of text)) || ltb (length report) (line_count text)) ≡ true → number text clean report ≡ 7
+    unfolding mend_number
+    by-room less = rw (le-ltb _ _ short, le-ltb _ _ short_clean, less)
 
-    no-refusal : length (cleanOf text) ≤ length clean → lineCount text ≤ length report → number text clean report ≡ 0
-    unfolding mendNumber
-    no-refusal room room' = rw (le-ltb _ _ short, le-ltb _ _ shortClean, le-ltb _ _ room, le-ltb _ _ room')
+    no-refusal : length (clean_of text) ≤ length clean → line_count text ≤ length report → number text clean report ≡ 0
+    unfolding mend_number
+    no-refusal room room' = rw (le-ltb _ _ short, le-ltb _ _ short_clean, le-ltb _ _ room, le-ltb _ _ room')
 
 -- A call by what becomes of the lines of its text.
 of-lines : (text : List ℕ) {ss cs : List ℕ} {es : List Event} → AllBecome (lines_of text) ss cs es
-    → (length ss ≡ lineCount text) × (cs ≡ cleanOf text)
-unfolding cleanOf
+    → (length ss ≡ line_count text) × (cs ≡ clean_of text)
+unfolding clean_of
 of-lines text all = let k = all-only all in (ap length k.0 ∙ length-map (lines_of text) sign_of, k.1)
 
 pub numbered : (text clean report : List ℕ) {ss cs : List ℕ} {es : List Event} → AllBecome (lines_of text) ss cs es
@@ -58,46 +58,46 @@ numbered text clean report all =
     let signs = (of-lines text all).0 in
     let lengths = ap length (of-lines text all).1 in
     record {
-      tooLong = λ long. refused-with text clean report 6 (long-text text clean report long) (λ e. omega (arith, e));
-      cleanTooLong = λ long. refused-with text clean report 6 (long-clean text clean report (omega (arith, long, lengths))) (λ e. omega (arith, e));
-      noCleanRoom = λ short shortClean less.
+      too_long = λ long. refused-with text clean report 6 (long-text text clean report long) (λ e. omega (arith, e));
+      clean_too_long = λ long. refused-with text clean report 6 (long-clean text clean report (omega (arith, long, lengths))) (λ e. omega (arith, e));
+      no_clean_room = λ short short_clean less.
           refused-with text clean report 7
-          (by-room text clean report short (omega (arith, shortClean, lengths)) (rw (lt-ltb (length clean) (length (cleanOf text)) (omega (arith, less, lengths)))))
+          (by-room text clean report short (omega (arith, short_clean, lengths)) (rw (lt-ltb (length clean) (length (clean_of text)) (omega (arith, less, lengths)))))
           (λ e. omega (arith, e));
-      noReportRoom = λ short shortClean less.
+      no_report_room = λ short short_clean less.
           refused-with text clean report 7
-          (by-room text clean report short (omega (arith, shortClean, lengths))
-          (rw (lt-ltb (length report) (lineCount text) (omega (arith, less, signs))) (or-true (ltb (length clean) (length (cleanOf text))))))
+          (by-room text clean report short (omega (arith, short_clean, lengths))
+          (rw (lt-ltb (length report) (line_count text) (omega (arith, less, signs))) (or-true (ltb (length clean) (length (clean_of text))))))
           (λ e. omega (arith, e));
-      accepted = λ short shortClean room room'.
+      accepted = λ short short_clean room room'.
           number-answered text (length clean) (length report)
-          ∙ no-refusal text clean report short (omega (arith, shortClean, lengths)) (omega (arith, room, lengths)) (omega (arith, room', signs));
-      oneMore = omega (arith, one-longer-at-most text, lengths);
+          ∙ no-refusal text clean report short (omega (arith, short_clean, lengths)) (omega (arith, room, lengths)) (omega (arith, room', signs));
+      one_more = omega (arith, one-longer-at-most text, lengths);
     }
 
 -- A text of which no line is malformed stays as it is.
 pub stays : (text clean report : List ℕ) {es : List Event} → AllSay (lines_of text) es
-    → length text ≤ longestScript → length text ≤ length clean → lineCount text ≤ length report → Stays text clean report
-unfolding cleanOf reportOf
+    → length text ≤ longest_script → length text ≤ length clean → line_count text ≤ length report → Stays text clean report
+unfolding clean_of report_of
 stays text clean report say short room room' =
-    let same : cleanOf text ≡ text = clean-stays text say in
+    let same : clean_of text ≡ text = clean-stays text say in
     let lengths = ap length same in
     let none = no-refusal text clean report short (omega (arith, lengths, short)) (omega (arith, lengths, room)) room' in
     record {
       accepted = number-answered text (length clean) (length report) ∙ none;
       same = clean_is text clean report none ∙ same;
-      allKept = signs-are text clean report none ∙ (stays-so say).1;
+      all_kept = signs-are text clean report none ∙ (stays-so say).1;
     }
 
 -- As many lines are fit as say an event.
-fit-one : {l : Line} {s : ℕ} {part : List ℕ} {es : List Event} → Becomes l s part es → (ss : List ℕ) (n : ℕ) → fitSigns ss ≡ n
-    → (later : List Event) → length later ≡ n → fitSigns (s ∷ ss) ≡ length (es ++ later)
+fit-one : {l : Line} {s : ℕ} {part : List ℕ} {es : List Event} → Becomes l s part es → (ss : List ℕ) (n : ℕ) → fit_signs ss ≡ n
+    → (later : List Event) → length later ≡ n → fit_signs (s ∷ ss) ≡ length (es ++ later)
 fit-one (kept says) ss n is later long = ap suc (is ∙ sym long)
 fit-one (mended-so says spells other) ss n is later long = ap suc (is ∙ sym long)
 fit-one (blank b) ss n is later long = is ∙ sym long
 fit-one (unfit unspelled some) ss n is later long = is ∙ sym long
 
-fit_all : {ls : List Line} {ss cs : List ℕ} {es : List Event} → AllBecome ls ss cs es → fitSigns ss ≡ length es
+fit_all : {ls : List Line} {ss cs : List ℕ} {es : List Event} → AllBecome ls ss cs es → fit_signs ss ≡ length es
 fit_all none = refl
 fit_all (next {signs} {later} one others) = fit-one one signs (length later) (fit_all others) later refl
 
@@ -105,43 +105,43 @@ module _ (text clean report : List ℕ) (accepted : answer_of text clean report 
   zero : number text clean report ≡ 0
   zero = sym (number-answered text (length clean) (length report)) ∙ accepted
 
-  clean-here : cleanText text clean report ≡ flat_map cleanIn (lines_of text)
-  unfolding cleanOf
+  clean-here : clean_text text clean report ≡ flat_map clean_in (lines_of text)
+  unfolding clean_of
   clean-here = clean_is text clean report zero
 
   signs-here : signs text clean report ≡ map sign_of (lines_of text)
-  unfolding reportOf
+  unfolding report_of
   signs-here = signs-are text clean report zero
 
   abbrev said : List Event
-  said = flat_map eventsOf (lines_of text)
+  said = flat_map events_of (lines_of text)
 
-  become : AllBecome (lines_of text) (signs text clean report) (cleanText text clean report) said
+  become : AllBecome (lines_of text) (signs text clean report) (clean_text text clean report) said
   become = rw (clean-here, signs-here) (all-become (lines_of text))
 
-  none-malformed : AllSay (lines_of (cleanText text clean report)) said
+  none-malformed : AllSay (lines_of (clean_text text clean report)) said
   none-malformed = rw (clean-here) (all_say (lines_of text))
 
-  read : historyOf (cleanText text clean report) ≡ said
+  read : history_of (clean_text text clean report) ≡ said
   read = read-so none-malformed
 
   pub mended : Mended text clean report
   mended = record {
-    cleanWritten = clean-written text clean report zero;
-    signsWritten = signs-written text clean report zero;
-    oneEach = one_each text clean report zero;
-    cleanAsLong = clean-as-long text clean report zero;
-    reportAsLong = report-as-long text clean report zero;
-    cleanBehind = clean-behind text clean report zero;
-    reportBehind = report-behind text clean report zero;
+    clean_written = clean-written text clean report zero;
+    signs_written = signs-written text clean report zero;
+    one_each = one-each text clean report zero;
+    clean_as_long = clean-as-long text clean report zero;
+    report_as_long = report-as-long text clean report zero;
+    clean_behind = clean-behind text clean report zero;
+    report_behind = report-behind text clean report zero;
     events = said;
     become = become;
-    noneMalformed = none-malformed;
+    none_malformed = none-malformed;
     read = read;
-    oneLineEach = sym (length-map (lines_of (cleanText text clean report)) (λ (l : Line). eventOf (frameIn l))) ∙ ap length read ∙ sym (fit_all become);
-    answered = λ c. history-answered (as8255A c) (cleanText text clean report) ∙ ap (answersTo (as8255A c)) read;
-    answered8355 = λ c. history-answered (as8355 c) (cleanText text clean report) ∙ ap (answersTo (as8355 c)) read;
+    one_line_each = sym (length-map (lines_of (clean_text text clean report)) (λ (l : Line). event_of (frame_in l))) ∙ ap length read ∙ sym (fit_all become);
+    answered = λ c. history-answered (as_8255a c) (clean_text text clean report) ∙ ap (answers_to (as_8255a c)) read;
+    answered8355 = λ c. history-answered (as8355 c) (clean_text text clean report) ∙ ap (answers_to (as8355 c)) read;
     again = λ clean' report' room room'.
-        stays (cleanText text clean report) clean' report' none-malformed
-        (omega (arith, ap length (clean_is text clean report zero), (fits text clean report zero).shortClean)) room room';
+        stays (clean_text text clean report) clean' report' none-malformed
+        (omega (arith, ap length (clean_is text clean report zero), (fits text clean report zero).short_clean)) room room';
   }

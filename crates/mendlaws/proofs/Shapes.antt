@@ -10,27 +10,27 @@ use lib.ListN.{get_or}
 use borrow.Author.Tests.{lt-ltb, ltb-true, ltb-false}
 use Rattle.bits.proofs.Logic.{contrary}
 use Rattle.bits.proofs.Tested.{numbers}
-use Rattle.events.specs.Kinds.{isKind, noKind, operandsOf}
+use Rattle.events.specs.Kinds.{is_kind, no_kind, operands_of}
 use Rattle.events.specs.Event.{Event, event}
 use Rattle.events.proofs.ByKind.{by_kind}
 use Rattle.text.specs.declared.Frame.TheVariants.{Event as Frame-as-Event}
-use Rattle.text.specs.Digits.{digits, digitValue, digitCode, inDigits, noByte, pairValue}
-use Rattle.text.specs.Frames.{leadingByte, isFrame, frame_of}
-use Rattle.text.specs.Written.{writtenOut, Exact}
-use Rattle.text.proofs.WrittenBack.{eventIn, exact-event, written_back}
-use Rattle.mendlaws.specs.Says.{Digit, figure, letter, Byte, Says, reset, beginRead, endCycle, beginWrite, levels}
+use Rattle.text.specs.Digits.{digits, digit_value, digit_code, in_digits, no_byte, pair_value}
+use Rattle.text.specs.Frames.{leading_byte, is_frame, frame_of}
+use Rattle.text.specs.Written.{written_out, Exact}
+use Rattle.text.proofs.WrittenBack.{event_in, exact-event, written_back}
+use Rattle.mendlaws.specs.Says.{Digit, figure, letter, Byte, Says, reset, begin_read, end_cycle, begin_write, levels}
 
 -- A digit is worth what it is said to be.
-worth : {code n : ℕ} → Digit code n → (digitValue code ≡ n) × (n < 16)
-unfolding digitValue
-worth {n} (figure few is) = (ap digitValue is ∙ numbers 10 (λ n. digitValue (48 + n)) (λ n. n) tt n few, omega (arith, few))
+worth : {code n : ℕ} → Digit code n → (digit_value code ≡ n) × (n < 16)
+unfolding digit_value
+worth {n} (figure few is) = (ap digit_value is ∙ numbers 10 (λ n. digit_value (48 + n)) (λ n. n) tt n few, omega (arith, few))
 worth {n} (letter many few is) =
     let place : 10 + (n - 10) ≡ n = omega (arith, many) in
     let code : 55 + n ≡ 65 + (n - 10) = omega (arith, many) in
-    (ap digitValue (is ∙ code) ∙ numbers 6 (λ n. digitValue (65 + n)) (λ n. 10 + n) tt (n - 10) (omega (arith, few)) ∙ place, few)
+    (ap digit_value (is ∙ code) ∙ numbers 6 (λ n. digit_value (65 + n)) (λ n. 10 + n) tt (n - 10) (omega (arith, few)) ∙ place, few)
 
-pair-worth : {high low b : ℕ} → Byte high low b → (pairValue high low ≡ b) × (b < noByte)
-unfolding pairValue
+pair-worth : {high low b : ℕ} → Byte high low b → (pair_value high low ≡ b) × (b < no_byte)
+unfolding pair_value
 pair-worth byte =
     let high = worth byte.first in
     let low = worth byte.second in (
@@ -39,11 +39,11 @@ pair-worth byte =
     )
 
 -- And each number below 16 has its digit.
-digit-of : (n : ℕ) → Digit (digitCode n) (n % 16)
-unfolding digitCode
+digit-of : (n : ℕ) → Digit (digit_code n) (n % 16)
+unfolding digit_code
 digit-of n = go (ltb (n % 16) 10) refl
   where
-    go : (t : Bool) → ltb (n % 16) 10 ≡ t → Digit (digitCode n) (n % 16)
+    go : (t : Bool) → ltb (n % 16) 10 ≡ t → Digit (digit_code n) (n % 16)
     go true t = figure (ltb-true _ _ t) (numbers 10 (λ n. get_or digits n 0) (λ n. 48 + n) tt (n % 16) (ltb-true _ _ t))
     go false t =
         let many = ltb-false (n % 16) 10 t in
@@ -51,7 +51,7 @@ digit-of n = go (ltb (n % 16) 10) refl
         letter many (omega arith)
         (ap (λ n. get_or digits n 0) place ∙ numbers 6 (λ n. get_or digits (10 + n) 0) (λ n. 65 + n) tt (n % 16 - 10) (omega arith) ∙ omega (arith, many))
 
-byte_of : (b : ℕ) → b < noByte → Byte (digitCode (b / 16)) (digitCode b) b
+byte_of : (b : ℕ) → b < no_byte → Byte (digit_code (b / 16)) (digit_code b) b
 byte_of b few = record {
   sixteens = b / 16 % 16;
   ones = b % 16;
@@ -61,40 +61,40 @@ byte_of b few = record {
 }
 
 -- The kinds are written 00 to 05.
-kind-written : (k : ℕ) → k < 6 → pairValue 48 (48 + k) ≡ k
-unfolding digitValue pairValue
-kind-written k few = numbers 6 (λ k. pairValue 48 (48 + k)) (λ k. k) tt k few
+kind-written : (k : ℕ) → k < 6 → pair_value 48 (48 + k) ≡ k
+unfolding digit_value pair_value
+kind-written k few = numbers 6 (λ k. pair_value 48 (48 + k)) (λ k. k) tt k few
 
 -- A line that says an event is a frame, and says that event.
 pub shape_is : {bytes : List ℕ} {e : Event} → Says bytes e → frame_of bytes ≡ Frame-as-Event e.kind e.first e.second
-unfolding isKind operandsOf leadingByte isFrame frame_of
+unfolding is_kind operands_of leading_byte is_frame frame_of
 shape_is reset = rw (kind-written 0 (omega arith))
-shape_is (beginRead {a} address) =
+shape_is (begin_read {a} address) =
     let k = pair-worth address in
-    rw (kind-written 1 (omega arith), k.0, lt-ltb a noByte k.1)
-shape_is endCycle = rw (kind-written 2 (omega arith))
-shape_is (beginWrite {a} {d} address byte) =
+    rw (kind-written 1 (omega arith), k.0, lt-ltb a no_byte k.1)
+shape_is end_cycle = rw (kind-written 2 (omega arith))
+shape_is (begin_write {a} {d} address byte) =
     let k = pair-worth address in
     let m = pair-worth byte in
-    rw (kind-written 3 (omega arith), k.0, m.0, lt-ltb a noByte k.1, lt-ltb d noByte m.1)
+    rw (kind-written 3 (omega arith), k.0, m.0, lt-ltb a no_byte k.1, lt-ltb d no_byte m.1)
 shape_is (levels {p} {d} port byte) =
     let k = pair-worth port in
     let m = pair-worth byte in
-    rw (kind-written 5 (omega arith), k.0, m.0, lt-ltb p noByte k.1, lt-ltb d noByte m.1)
+    rw (kind-written 5 (omega arith), k.0, m.0, lt-ltb p no_byte k.1, lt-ltb d no_byte m.1)
 
 -- A frame says its event.
-said-by : (k x d : ℕ) → Exact (event k x d) → Says (writtenOut (event k x d)) (event k x d)
-unfolding isKind operandsOf digitCode writtenOut
+said-by : (k x d : ℕ) → Exact (event k x d) → Says (written_out (event k x d)) (event k x d)
+unfolding is_kind operands_of digit_code written_out
 said-by k x d =
-    by_kind (λ k. Exact (event k x d) → Says (writtenOut (event k x d)) (event k x d))
-    (λ ok. subst (λ e. Says (48 ∷ 48 ∷ []) e) (λ i. event 0 (sym (ok.noFirst refl) i) (sym (ok.noSecond (omega arith)) i)) reset)
-    (λ ok. subst (λ d. Says (48 ∷ 49 ∷ inDigits x) (event 1 x d)) (sym (ok.noSecond (omega arith))) (beginRead (byte_of x ok.firstByte)))
-    (λ ok. subst (λ e. Says (48 ∷ 50 ∷ []) e) (λ i. event 2 (sym (ok.noFirst refl) i) (sym (ok.noSecond (omega arith)) i)) endCycle)
-    (λ ok. beginWrite (byte_of x ok.firstByte) (byte_of d ok.secondByte))
-    (λ ok. levels (byte_of x ok.firstByte) (byte_of d ok.secondByte))
-    (λ k none ok. absurd (contrary (noKind k) (rw ok.known) none))
+    by_kind (λ k. Exact (event k x d) → Says (written_out (event k x d)) (event k x d))
+    (λ ok. subst (λ e. Says (48 ∷ 48 ∷ []) e) (λ i. event 0 (sym (ok.no_first refl) i) (sym (ok.no_second (omega arith)) i)) reset)
+    (λ ok. subst (λ d. Says (48 ∷ 49 ∷ in_digits x) (event 1 x d)) (sym (ok.no_second (omega arith))) (begin_read (byte_of x ok.first_byte)))
+    (λ ok. subst (λ e. Says (48 ∷ 50 ∷ []) e) (λ i. event 2 (sym (ok.no_first refl) i) (sym (ok.no_second (omega arith)) i)) end_cycle)
+    (λ ok. begin_write (byte_of x ok.first_byte) (byte_of d ok.second_byte))
+    (λ ok. levels (byte_of x ok.first_byte) (byte_of d ok.second_byte))
+    (λ k none ok. absurd (contrary (no_kind k) (rw ok.known) none))
     k
 
-pub is-shape : (bytes : List ℕ) → isFrame bytes ≡ true → Says bytes (eventIn bytes)
+pub is-shape : (bytes : List ℕ) → is_frame bytes ≡ true → Says bytes (event_in bytes)
 is-shape bytes is =
-    subst (λ line. Says line (eventIn bytes)) (sym (written_back bytes is)) (said-by _ _ _ (exact-event bytes is))
+    subst (λ line. Says line (event_in bytes)) (sym (written_back bytes is)) (said-by _ _ _ (exact-event bytes is))

@@ -12,8 +12,8 @@ use Rattle.bits.proofs.Tested.{numbers}
 use Rattle.events.specs.Event.{Event}
 use Rattle.text.specs.Digits.{digits}
 use Rattle.text.proofs.WrittenBack.{no_place}
-use Rattle.mend.specs.Line.{cr, smallDigits, withoutCR, raised, mended}
-use Rattle.mendlaws.specs.Says.{Digit, figure, letter, Byte, Says, reset, beginRead, endCycle, beginWrite, levels}
+use Rattle.mend.specs.Line.{cr, small_digits, without_cr, raised, mended}
+use Rattle.mendlaws.specs.Says.{Digit, figure, letter, Byte, Says, reset, begin_read, end_cycle, begin_write, levels}
 use Rattle.mendlaws.specs.Spells.{StandsFor, itself, small, Spells, done, cr as cr-left, next}
 
 -- What is raised: the codes from 97 to 102, by a test, and no code below or above.
@@ -29,7 +29,7 @@ raised-small b many few =
 
 raised-above : (b : ℕ) → 103 ≤ b → raised b ≡ b
 unfolding raised
-raised-above b many = ap (λ n. get_or (drop 10 digits) n b) (no_place smallDigits 0 103 b refl many)
+raised-above b many = ap (λ n. get_or (drop 10 digits) n b) (no_place small_digits 0 103 b refl many)
 
 -- So each code stands for what it is raised to, and of the digits for no other.
 stands-for-raised : (b : ℕ) → StandsFor b (raised b)
@@ -66,21 +66,21 @@ pub data AllDigits : List ℕ → Type 0 where
   digit : {c n : ℕ} {cs : List ℕ} → Digit c n → AllDigits cs → AllDigits (c ∷ cs)
 
 -- Each event is said in digits.
-two_digits : {h l b : ℕ} {cs : List ℕ} → Byte h l b → AllDigits cs → AllDigits (h ∷ l ∷ cs)
-two_digits byte all = digit byte.first (digit byte.second all)
+two-digits : {h l b : ℕ} {cs : List ℕ} → Byte h l b → AllDigits cs → AllDigits (h ∷ l ∷ cs)
+two-digits byte all = digit byte.first (digit byte.second all)
 
 kind-digits : (n : ℕ) → n < 10 → {cs : List ℕ} → AllDigits cs → AllDigits (48 ∷ (48 + n) ∷ cs)
 kind-digits n few all = digit {n = 0} (figure (omega arith) refl) (digit (figure few refl) all)
 
 pub said-in-digits : {bytes : List ℕ} {e : Event} → Says bytes e → AllDigits bytes
 said-in-digits reset = kind-digits 0 (omega arith) over
-said-in-digits (beginRead a) = kind-digits 1 (omega arith) (two_digits a over)
-said-in-digits endCycle = kind-digits 2 (omega arith) over
-said-in-digits (beginWrite a d) = kind-digits 3 (omega arith) (two_digits a (two_digits d over))
-said-in-digits (levels p d) = kind-digits 5 (omega arith) (two_digits p (two_digits d over))
+said-in-digits (begin_read a) = kind-digits 1 (omega arith) (two-digits a over)
+said-in-digits end_cycle = kind-digits 2 (omega arith) over
+said-in-digits (begin_write a d) = kind-digits 3 (omega arith) (two-digits a (two-digits d over))
+said-in-digits (levels p d) = kind-digits 5 (omega arith) (two-digits p (two-digits d over))
 
 pub spelled : {bs cs : List ℕ} → AllDigits cs → Spells bs cs → mended bs ≡ cs
-unfolding withoutCR mended
+unfolding without_cr mended
 spelled over done = refl
 spelled over cr-left = refl
 spelled (digit first all) (next {b} stands done) = rw (no-cr first b stands) (ap (λ c. c ∷ []) (digit-raised first b stands))
@@ -88,7 +88,7 @@ spelled (digit first all) (next {b} stands cr-left) = ap (λ c. c ∷ []) (digit
 spelled (digit first all) (next {b} stands (next also rest)) = λ i. digit-raised first b stands i ∷ spelled all (next also rest) i
 
 pub spells-mended : (bs : List ℕ) → Spells bs (mended bs)
-unfolding withoutCR mended
+unfolding without_cr mended
 spells-mended [] = done
 spells-mended (b ∷ []) = go (eqb b cr) refl
   where

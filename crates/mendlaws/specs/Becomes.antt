@@ -7,18 +7,18 @@ use Rattle.mendlaws.specs.Says.{Says}
 use Rattle.mendlaws.specs.Spells.{Spells, Blank}
 
 -- The bytes of a line, its LF aside.
-abbrev pub bytesIn : Line → List ℕ
-bytesIn (ended bytes) = bytes
-bytesIn (rest bytes) = bytes
+abbrev pub bytes_in : Line → List ℕ
+bytes_in (ended bytes) = bytes
+bytes_in (rest bytes) = bytes
 
 -- A line that says an event, and has its LF, is kept as it is: K. One that spells such a line and is not that line is mended: M. The clean script
 -- has that line of either, with its LF. A blank line is B; every other is unfit, U; and the clean script has nothing of these.
 pub data Becomes : Line → ℕ → List ℕ → List Event → Type 0 where
   kept : {bytes : List ℕ} {e : Event} → Says bytes e → Becomes (ended bytes) 75 (bytes ++ 10 ∷ []) (e ∷ [])
-  mended : {l : Line} {bytes : List ℕ} {e : Event} → Says bytes e → Spells (bytesIn l) bytes → ¬ (l ≡ ended bytes)
+  mended : {l : Line} {bytes : List ℕ} {e : Event} → Says bytes e → Spells (bytes_in l) bytes → ¬ (l ≡ ended bytes)
       → Becomes l 77 (bytes ++ 10 ∷ []) (e ∷ [])
-  blank : {l : Line} → Blank (bytesIn l) → Becomes l 66 [] []
-  unfit : {l : Line} → ((bytes : List ℕ) (e : Event) → Says bytes e → ¬ Spells (bytesIn l) bytes) → ¬ Blank (bytesIn l) → Becomes l 85 [] []
+  blank : {l : Line} → Blank (bytes_in l) → Becomes l 66 [] []
+  unfit : {l : Line} → ((bytes : List ℕ) (e : Event) → Says bytes e → ¬ Spells (bytes_in l) bytes) → ¬ Blank (bytes_in l) → Becomes l 85 [] []
 
 -- So of all lines in turn: one sign for each, the clean script, and the events that it says.
 pub data AllBecome : List Line → List ℕ → List ℕ → List Event → Type 0 where

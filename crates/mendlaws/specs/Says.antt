@@ -20,9 +20,9 @@ pub record Byte (high low b : ℕ) : Type 0 where
 -- line says one: not 04, and not one with an operand more or less.
 pub data Says : List ℕ → Event → Type 0 where
   reset : Says (48 ∷ 48 ∷ []) (event 0 0 0)
-  beginRead : {h l a : ℕ} → Byte h l a → Says (48 ∷ 49 ∷ h ∷ l ∷ []) (event 1 a 0)
-  endCycle : Says (48 ∷ 50 ∷ []) (event 2 0 0)
-  beginWrite : {h l h' l' a d : ℕ} → Byte h l a → Byte h' l' d → Says (48 ∷ 51 ∷ h ∷ l ∷ h' ∷ l' ∷ []) (event 3 a d)
+  begin_read : {h l a : ℕ} → Byte h l a → Says (48 ∷ 49 ∷ h ∷ l ∷ []) (event 1 a 0)
+  end_cycle : Says (48 ∷ 50 ∷ []) (event 2 0 0)
+  begin_write : {h l h' l' a d : ℕ} → Byte h l a → Byte h' l' d → Says (48 ∷ 51 ∷ h ∷ l ∷ h' ∷ l' ∷ []) (event 3 a d)
   levels : {h l h' l' p d : ℕ} → Byte h l p → Byte h' l' d → Says (48 ∷ 53 ∷ h ∷ l ∷ h' ∷ l' ∷ []) (event 5 p d)
 
 -- Lines of which each says an event and has its LF, and these events: none of the lines is malformed.

@@ -7,28 +7,28 @@ use Rattle.control.specs.declared.Group.TheVariants.{A, B}
 use Rattle.channel.specs.declared.Side.TheVariants.{Input, Output}
 use Rattle.channel.specs.declared.Channel.{Channel}
 use Rattle.chip.specs.declared.Chip.{Chip}
-use Rattle.image.specs.Layout.{fiveTallies, fillByte, writtenByte}
-use Rattle.image.specs.Loaded.{fillAs}
+use Rattle.image.specs.Layout.{five_tallies, fill_byte, written_byte}
+use Rattle.image.specs.Loaded.{fill_as}
 use Rattle.image.proofs.ComesBack.{channel-back, enables-back}
-use Rattle.older.specs.Layout.{busByte, addressByte, olderOf}
-use Rattle.older.specs.Loaded.{channelTally, phaseAs, olderState}
+use Rattle.older.specs.Layout.{bus_byte, address_byte, older_of}
+use Rattle.older.specs.Loaded.{channel_tally, phase_as, older_state}
 use Rattle.older.specs.Before.{FromBefore}
 
-phase-back : (ph : Phase) → phaseAs (busByte ph) (addressByte ph) (writtenByte ph) ≡ ph
+phase-back : (ph : Phase) → phase_as (bus_byte ph) (address_byte ph) (written_byte ph) ≡ ph
 phase-back Idle = refl
 phase-back (Reading p) = refl
 phase-back (Writing a d) = refl
 
 five-back : (ch : Channel) → ch.tally.planted ≡ 0 → ch.tally.struck ≡ 0 →
     record {
-      fill = fillAs (fillByte ch.fill);
+      fill = fill_as (fill_byte ch.fill);
       latch = ch.latch;
-      tally = channelTally (fiveTallies ch.tally) 0;
+      tally = channel_tally (five_tallies ch.tally) 0;
     } ≡ ch
 five-back ch planted struck = channel-back ch 0 0 (sym planted) (sym struck)
 
-pub comes_back : (c : Chip) → FromBefore c → olderState (olderOf c) ≡ c
-unfolding olderState olderOf
+pub comes_back : (c : Chip) → FromBefore c → older_state (older_of c) ≡ c
+unfolding older_state older_of
 comes_back c (older, none) = λ i. record {
   phase = phase-back c.phase i;
   edition = sym older i;

@@ -9,8 +9,8 @@ use lib.ListN.{length}
 use borrow.Author.Tests.{eqb-true}
 use Rattle.bits.proofs.Logic.{both}
 use Rattle.older.specs.Places as places
-use Rattle.older.specs.Good.{bytesFit, isOlder}
+use Rattle.older.specs.Good.{bytes_fit, is_older}
 
-pub is-long : (l : List ℕ) → isOlder l ≡ true → length l ≡ places.length
-unfolding isOlder
-is-long l good = eqb-true _ _ (both (eqb (length l) places.length) (bytesFit l) good).0
+pub is-long : (l : List ℕ) → is_older l ≡ true → length l ≡ places.length
+unfolding is_older
+is-long l good = eqb-true _ _ (both (eqb (length l) places.length) (bytes_fit l) good).0

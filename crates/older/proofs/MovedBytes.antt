@@ -9,21 +9,21 @@ use lib.Seq.{sets}
 use Rattle.bus.specs.declared.Phase.TheVariants.{Idle}
 use Rattle.image.specs.Places as now
 use Rattle.image.specs.Layout.{image_of}
-use Rattle.image.specs.Good.{coreFits, isImage}
+use Rattle.image.specs.Good.{core_fits, is_image}
 use Rattle.image.proofs.SameBytes.{spelled}
 use Rattle.older.specs.Places as places
-use Rattle.older.specs.Layout.{olderOf}
-use Rattle.older.specs.Loaded.{coreByte, olderState}
-use Rattle.older.specs.Good.{unusedZero}
-use Rattle.older.specs.Slices.{movedOf}
+use Rattle.older.specs.Layout.{older_of}
+use Rattle.older.specs.Loaded.{core_byte, older_state}
+use Rattle.older.specs.Good.{unused_zero}
+use Rattle.older.specs.Slices.{moved_of}
 
 -- Those of a state that an older image tells are its image, but for the bus.
-pub moved-image : (l : List ℕ) → movedOf (olderOf (olderState l)) ≡ image_of (record { phase = Idle; edition = (olderState l).edition; core = (olderState l).core })
-unfolding olderOf olderState image_of
+pub moved-image : (l : List ℕ) → moved_of (older_of (older_state l)) ≡ image_of (record { phase = Idle; edition = (older_state l).edition; core = (older_state l).core })
+unfolding older_of older_state image_of
 moved-image l = refl
 
-pub moved-fits : (l : List ℕ) → isImage (movedOf l) ≡ (unusedZero l && coreFits (coreByte l))
-unfolding isImage
+pub moved-fits : (l : List ℕ) → is_image (moved_of l) ≡ (unused_zero l && core_fits (core_byte l))
+unfolding is_image
 moved-fits l = refl
 
 -- One part of the bytes after the other is put to its place.
@@ -35,12 +35,12 @@ start = set (set (replicate now.length 0) now.bus now.idle) now.edition now.olde
 
 abbrev pub parts : List ℕ → List ℕ
 parts l =
-    let each = places.channelTallies in
+    let each = places.channel_tallies in
     let tallies =
-    sets (sets (sets (sets start now.tallies (part l 0 each)) now.channelTallies (part l each (2 * each)))
-    (2 * now.channelTallies) (part l (2 * each) (3 * each)))
-    (3 * now.channelTallies) (part l (3 * each) places.levelsA) in
-    sets (sets tallies now.levelsA (part l places.levelsA places.bus)) now.unused (part l places.unused places.length)
+    sets (sets (sets (sets start now.tallies (part l 0 each)) now.channel_tallies (part l each (2 * each)))
+    (2 * now.channel_tallies) (part l (2 * each) (3 * each)))
+    (3 * now.channel_tallies) (part l (3 * each) places.levels_a) in
+    sets (sets tallies now.levels_a (part l places.levels_a places.bus)) now.unused (part l places.unused places.length)
 
-pub all-parts : (l : List ℕ) → length l ≡ places.length → parts l ≡ movedOf l
-all-parts l long = subst (λ (m : List ℕ). parts m ≡ movedOf m) (spelled l places.length long) refl
+pub all-parts : (l : List ℕ) → length l ≡ places.length → parts l ≡ moved_of l
+all-parts l long = subst (λ (m : List ℕ). parts m ≡ moved_of m) (spelled l places.length long) refl

@@ -5,16 +5,16 @@ use Rattle.std.specs.Prelude.{ℕ}
 abbrev pub tallies : ℕ
 tallies = 0
 
-abbrev pub channelTallies : ℕ
-channelTallies = 10
+abbrev pub channel_tallies : ℕ
+channel_tallies = 10
 
 -- What an image has between its tallies and its bus an older one has too, in the same order, so many places further ahead.
 abbrev pub ahead : ℕ
 ahead = 16
 
 -- The first of these, the levels outside of port A.
-abbrev pub levelsA : ℕ
-levelsA = 40
+abbrev pub levels_a : ℕ
+levels_a = 40
 
 -- What runs on the bus, the port or address that it names, and the byte that it writes.
 abbrev pub bus : ℕ

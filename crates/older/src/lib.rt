@@ -4,9 +4,9 @@ ghost use Rattle.std.specs.Prelude.{◌≡◌, ◌+◌, ◌-◌, ◌≤◌, leng
 ghost use Rattle.std.proofs.lemmas.List.Edits.{sets};
 ghost use Rattle.older.specs.Places as places;
 ghost use Rattle.image.specs.Places as now;
-ghost use Rattle.older.specs.Loaded.{phaseAs};
-ghost use Rattle.older.specs.Good.{cycleFits, bytesFit, isOlder};
-ghost use Rattle.older.specs.Slices.{movedOf, convertedOf, convertedIn};
+ghost use Rattle.older.specs.Loaded.{phase_as};
+ghost use Rattle.older.specs.Good.{cycle_fits, bytes_fit, is_older};
+ghost use Rattle.older.specs.Slices.{moved_of, converted_of, converted_in};
 
 pub mod places;
 
@@ -24,7 +24,7 @@ fn put(moved: &mut [u8], at: usize, older: &[u8], from: usize, end: usize)
 // The bytes at the places of an image of the older edition, on an idle bus. The two tallies that an older image lacks are 0.
 fn moved(older: &[u8]) -> [u8; now::LENGTH]
     requires { length (now older) ≡ places.length }
-    ensures { result ≡ movedOf (now older.entry) }
+    ensures { result ≡ moved_of (now older.entry) }
 {
     let mut moved = [0u8; now::LENGTH];
     moved[now::BUS] = now::IDLE;
@@ -57,7 +57,7 @@ fn moved(older: &[u8]) -> [u8; now::LENGTH]
 }
 
 fn cycle(bus: u8, address: u8, written: u8) -> bool
-    ensures { result ≡ cycleFits bus address written }
+    ensures { result ≡ cycle_fits bus address written }
 {
     match bus {
         0 => (address == 0) & (written == 0),
@@ -69,7 +69,7 @@ fn cycle(bus: u8, address: u8, written: u8) -> bool
 
 fn fits(image: &[u8]) -> bool
     requires { length (now image) ≡ places.length }
-    ensures { result ≡ bytesFit (now image.entry) }
+    ensures { result ≡ bytes_fit (now image.entry) }
 {
     let moved = moved(image);
     cycle(image[BUS], image[ADDRESS], image[WRITTEN]) & image::check::good(&moved)
@@ -77,7 +77,7 @@ fn fits(image: &[u8]) -> bool
 
 // Whether the bytes are an older image of a state. Those of another length are none.
 pub fn good(image: &[u8]) -> bool
-    ensures { result ≡ isOlder (now image.entry) }
+    ensures { result ≡ is_older (now image.entry) }
 {
     if image.len() != LENGTH {
         return false;
@@ -86,7 +86,7 @@ pub fn good(image: &[u8]) -> bool
 }
 
 fn phase(bus: u8, address: u8, written: u8) -> Phase
-    ensures { result ≡ phaseAs bus address written }
+    ensures { result ≡ phase_as bus address written }
 {
     match bus {
         0 => Phase::Idle,
@@ -97,7 +97,7 @@ fn phase(bus: u8, address: u8, written: u8) -> Phase
 
 fn whole(older: &[u8], image: &mut [u8])
     requires { (length (now older) ≡ places.length) × (length (now image) ≡ now.length) }
-    ensures { now image.exit ≡ convertedOf (now older.entry) }
+    ensures { now image.exit ≡ converted_of (now older.entry) }
 {
     let moved = moved(older);
     let phase = phase(older[BUS], older[ADDRESS], older[WRITTEN]);
@@ -108,7 +108,7 @@ fn whole(older: &[u8], image: &mut [u8])
 // The image that the bytes become, written over those of image; of an older image it is the image of the same state. Where there are more
 // or fewer bytes than an older image has, or an image, nothing is written.
 pub fn convert(older: &[u8], image: &mut [u8])
-    ensures { now image.exit ≡ convertedIn (now older.entry) (now image.entry) }
+    ensures { now image.exit ≡ converted_in (now older.entry) (now image.entry) }
 {
     if (older.len() == LENGTH) & (image.len() == now::LENGTH) {
         whole(older, image);

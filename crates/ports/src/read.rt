@@ -1,12 +1,12 @@
 // The value of a read.
 ghost use Rattle.std.specs.Prelude.{◌≡◌};
-ghost use Rattle.ports.specs.Reads.{readPort, readLines, readControl, read_of};
+ghost use Rattle.ports.specs.Reads.{read_port, read_lines, read_control, read_of};
 
 use chip::{Chip, Port};
 use control::Group;
 
 fn port(word: u8, group: Group, port: Port) -> u8
-    ensures { result ≡ readPort word group port }
+    ensures { result ≡ read_port word group port }
 {
     let unstrobed = bits::choose(
         control::mode::output(word, group),
@@ -22,7 +22,7 @@ fn port(word: u8, group: Group, port: Port) -> u8
 
 // Port C, all pins at once: the status word on the pins of the handshakes, the latch on free outputs, the levels elsewhere.
 fn lines(chip: Chip) -> u8
-    ensures { result ≡ readLines chip }
+    ensures { result ≡ read_lines chip }
 {
     let core = chip.core;
     let free = bits::blend(roles::outputs(core.word), core.c.latch, core.c.outside);
@@ -33,7 +33,7 @@ fn lines(chip: Chip) -> u8
 const MODE_BIT: u8 = 7;
 
 fn control(word: u8) -> u8
-    ensures { result ≡ readControl word }
+    ensures { result ≡ read_control word }
 {
     bits::with_bit(word, MODE_BIT, true)
 }

@@ -1,6 +1,6 @@
 // The pin view of a port.
 ghost use Rattle.std.specs.Prelude.{◌≡◌};
-ghost use Rattle.ports.specs.Pins.{drivesPort, pinsOfPort, pinsOfLines, pinsOf};
+ghost use Rattle.ports.specs.Pins.{drives_port, pins_of_port, pins_of_lines, pins_of};
 
 use super::Pins;
 use chip::handshakes::{ACK_A, LINE_B, STB_A};
@@ -12,7 +12,7 @@ const SIGNALS: u8 = !(1 << STB_A | 1 << ACK_A | 1 << LINE_B);
 
 // Whether the chip drives port A or B.
 fn drives(core: Core, group: Group) -> bool
-    ensures { result ≡ drivesPort core group }
+    ensures { result ≡ drives_port core group }
 {
     match group {
         Group::A => {
@@ -27,7 +27,7 @@ fn drives(core: Core, group: Group) -> bool
 }
 
 fn port(port: Port, driven: bool) -> Pins
-    ensures { result ≡ pinsOfPort port driven }
+    ensures { result ≡ pins_of_port port driven }
 {
     Pins {
         levels: bits::choose(driven, port.output.latch, port.outside),
@@ -37,7 +37,7 @@ fn port(port: Port, driven: bool) -> Pins
 
 // Port C: its free outputs and the signals of its handshakes are driven.
 fn lines(chip: Chip) -> Pins
-    ensures { result ≡ pinsOfLines chip }
+    ensures { result ≡ pins_of_lines chip }
 {
     let core = chip.core;
     let used = roles::handshake(core.word);
@@ -51,7 +51,7 @@ fn lines(chip: Chip) -> Pins
 
 // The pins of a port. There are no ports but A, B and C: the levels of another are 00, and none is driven.
 pub fn pins(chip: Chip, port: u8) -> Pins
-    ensures { result ≡ pinsOf chip port }
+    ensures { result ≡ pins_of chip port }
 {
     let core = chip.core;
     match port {

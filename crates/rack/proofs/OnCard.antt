@@ -15,140 +15,140 @@ use Rattle.events.proofs.ByKind.{by_kind}
 use Rattle.bus.specs.declared.Phase.{Phase}
 use Rattle.bus.specs.declared.Phase.TheVariants.{Idle, Reading, Writing}
 use Rattle.bus.specs.declared.Limits.{Limits}
-use Rattle.bus.specs.Refusals.{isBusy, number_of}
-use Rattle.bus.specs.Device.{Given, gives, afterIn, byteIn, stepIn}
-use Rattle.bus.specs.Cycles.{phaseAfter}
+use Rattle.bus.specs.Refusals.{is_busy, number_of}
+use Rattle.bus.specs.Device.{Given, gives, after_in, byte_in, step_in}
+use Rattle.bus.specs.Cycles.{phase_after}
 use Rattle.bus.proofs.Outcomes as bus
 use Rattle.bus.proofs.Numbering.{row-refuses}
 use Rattle.chip.specs.declared.Core.{Core}
 use Rattle.step.specs.Step as card
 use Rattle.step.proofs.Outcome.{step-accepts}
 use Rattle.rack.specs.declared.Rack.{Rack}
-use Rattle.rack.specs.Bases.{mostCards}
-use Rattle.rack.specs.State.{number_at, place_of, registerOf, seen_at, noCore, cardEdition, chipAt}
-use Rattle.rack.specs.Step.{limits, runsAt, reachedBy, device}
+use Rattle.rack.specs.Bases.{most_cards}
+use Rattle.rack.specs.State.{number_at, place_of, register_of, seen_at, no_core, card_edition, chip_at}
+use Rattle.rack.specs.Step.{limits, runs_at, reached_by, device}
 
 -- The number of a register at one of the eight places says which they are.
-pub place-numbered : (i r : ℕ) → i < mostCards → place_of (number_at i r) ≡ i
+pub place-numbered : (i r : ℕ) → i < most_cards → place_of (number_at i r) ≡ i
 place-numbered i r h = omega (arith, h)
 
-pub register-numbered : (i r : ℕ) → i < mostCards → registerOf (number_at i r) ≡ r
+pub register-numbered : (i r : ℕ) → i < most_cards → register_of (number_at i r) ≡ r
 register-numbered i r h = omega (arith, h)
 
 -- It is below eight times a limit where the register is below that limit.
-eightfold : (i r n : ℕ) → i < mostCards → ltb (number_at i r) (mostCards * n) ≡ ltb r n
+eightfold : (i r n : ℕ) → i < most_cards → ltb (number_at i r) (most_cards * n) ≡ ltb r n
 eightfold i r n h = go (ltb r n) refl
   where
-    go : (t : Bool) → ltb r n ≡ t → ltb (number_at i r) (mostCards * n) ≡ ltb r n
-    go true e = lt-ltb (number_at i r) (mostCards * n) (omega (arith, h, ltb-true r n e)) ∙ sym e
-    go false e = le-ltb (number_at i r) (mostCards * n) (omega (arith, ltb-false r n e)) ∙ sym e
+    go : (t : Bool) → ltb r n ≡ t → ltb (number_at i r) (most_cards * n) ≡ ltb r n
+    go true e = lt-ltb (number_at i r) (most_cards * n) (omega (arith, h, ltb-true r n e)) ∙ sym e
+    go false e = le-ltb (number_at i r) (most_cards * n) (omega (arith, ltb-false r n e)) ∙ sym e
 
 -- So the table says of it what it says of the register on a chip alone.
-pub same_number : (i r : ℕ) → i < mostCards → (ph : Phase) (k : ℕ) → number_of limits ph k (number_at i r) ≡ number_of (card.limits cardEdition) ph k r
+pub same_number : (i r : ℕ) → i < most_cards → (ph : Phase) (k : ℕ) → number_of limits ph k (number_at i r) ≡ number_of (card.limits card_edition) ph k r
 unfolding number_of
 same_number i r h ph k = rw (eightfold i r 4 h, eightfold i r 3 h)
 
 -- Of the phase the table asks no more than whether a cycle runs; of levels not even that.
-by-busy : (l : Limits) (ph ph' : Phase) (k x : ℕ) → isBusy ph ≡ isBusy ph' → number_of l ph k x ≡ number_of l ph' k x
+by-busy : (l : Limits) (ph ph' : Phase) (k x : ℕ) → is_busy ph ≡ is_busy ph' → number_of l ph k x ≡ number_of l ph' k x
 unfolding number_of
 by-busy l ph ph' k x e = rw e
 
-levels-anyway : (l : Limits) (ph ph' : Phase) (x : ℕ) → number_of l ph kinds.outsideLevels x ≡ number_of l ph' kinds.outsideLevels x
+levels-anyway : (l : Limits) (ph ph' : Phase) (x : ℕ) → number_of l ph kinds.outside_levels x ≡ number_of l ph' kinds.outside_levels x
 unfolding number_of
 levels-anyway l ph ph' x = refl
 
 -- The card on which a cycle runs sees one run.
-sees-own : (ph : Phase) → isBusy (seen_at (runsAt ph) ph) ≡ isBusy ph
+sees-own : (ph : Phase) → is_busy (seen_at (runs_at ph) ph) ≡ is_busy ph
 sees-own Idle = refl
 sees-own (Reading x) = rw (eq-eqb (place_of x) (place_of x) refl)
 sees-own (Writing x d) = rw (eq-eqb (place_of x) (place_of x) refl)
 
 -- What the rack accepts, the card that it reaches accepts too.
-begins-there : (ph : Phase) (k r : ℕ) → begins k ≡ true → (i : ℕ) → number_of (card.limits cardEdition) ph k r ≡ 0 → number_of (card.limits cardEdition) (seen_at i ph) k r ≡ 0
+begins-there : (ph : Phase) (k r : ℕ) → begins k ≡ true → (i : ℕ) → number_of (card.limits card_edition) ph k r ≡ 0 → number_of (card.limits card_edition) (seen_at i ph) k r ≡ 0
 begins-there Idle k r b i e = e
-begins-there (Reading x) k r b i e = absurd (row-refuses (card.limits cardEdition) (Reading x) k r 3 (rw b) e)
-begins-there (Writing x d) k r b i e = absurd (row-refuses (card.limits cardEdition) (Writing x d) k r 3 (rw b) e)
+begins-there (Reading x) k r b i e = absurd (row-refuses (card.limits card_edition) (Reading x) k r 3 (rw b) e)
+begins-there (Writing x d) k r b i e = absurd (row-refuses (card.limits card_edition) (Writing x d) k r 3 (rw b) e)
 
-pub accepted-there : (ph : Phase) (i r k : ℕ) → ¬ (k ≡ 0) → number_of (card.limits cardEdition) ph k r ≡ 0
-    → number_of (card.limits cardEdition) (seen_at (reachedBy ph k i) ph) k r ≡ 0
+pub accepted-there : (ph : Phase) (i r k : ℕ) → ¬ (k ≡ 0) → number_of (card.limits card_edition) ph k r ≡ 0
+    → number_of (card.limits card_edition) (seen_at (reached_by ph k i) ph) k r ≡ 0
 accepted-there ph i r =
-    by_kind (λ k. ¬ (k ≡ 0) → number_of (card.limits cardEdition) ph k r ≡ 0 → number_of (card.limits cardEdition) (seen_at (reachedBy ph k i) ph) k r ≡ 0)
+    by_kind (λ k. ¬ (k ≡ 0) → number_of (card.limits card_edition) ph k r ≡ 0 → number_of (card.limits card_edition) (seen_at (reached_by ph k i) ph) k r ≡ 0)
     (λ n. absurd (n refl))
-    (λ n. begins-there ph kinds.beginRead r refl i)
-    (λ n e. by-busy (card.limits cardEdition) (seen_at (runsAt ph) ph) ph kinds.endCycle r (sees-own ph) ∙ e)
-    (λ n. begins-there ph kinds.beginWrite r refl i)
-    (λ n e. levels-anyway (card.limits cardEdition) (seen_at i ph) ph r ∙ e)
-    (λ k none n e. absurd (row-refuses (card.limits cardEdition) ph k r 0 none e))
+    (λ n. begins-there ph kinds.begin_read r refl i)
+    (λ n e. by-busy (card.limits card_edition) (seen_at (runs_at ph) ph) ph kinds.end_cycle r (sees-own ph) ∙ e)
+    (λ n. begins-there ph kinds.begin_write r refl i)
+    (λ n e. levels-anyway (card.limits card_edition) (seen_at i ph) ph r ∙ e)
+    (λ k none n e. absurd (row-refuses (card.limits card_edition) ph k r 0 none e))
 
 -- A cycle that begins does so at one of the four registers.
-pub register-below : (ph : Phase) (k r : ℕ) → number_of (card.limits cardEdition) ph k r ≡ 0 → begins k ≡ true → r < 4
+pub register-below : (ph : Phase) (k r : ℕ) → number_of (card.limits card_edition) ph k r ≡ 0 → begins k ≡ true → r < 4
 register-below ph k r e b = go (ltb r 4) refl
   where
     go : (t : Bool) → ltb r 4 ≡ t → r < 4
     go true there = ltb-true r 4 there
-    go false there = absurd (row-refuses (card.limits cardEdition) ph k r 1 (rw (b, there)) e)
+    go false there = absurd (row-refuses (card.limits card_edition) ph k r 1 (rw (b, there)) e)
 
 -- An event reaches one of the eight places.
-pub reached-below : (ph : Phase) (k i : ℕ) → i < mostCards → reachedBy ph k i < mostCards
-reached-below ph k i h = go (eqb k kinds.endCycle)
+pub reached-below : (ph : Phase) (k i : ℕ) → i < most_cards → reached_by ph k i < most_cards
+reached-below ph k i h = go (eqb k kinds.end_cycle)
   where
-    run : (p : Phase) → runsAt p < mostCards
+    run : (p : Phase) → runs_at p < most_cards
     run Idle = omega arith
     run (Reading x) = omega arith
     run (Writing x d) = omega arith
 
-    go : (t : Bool) → cond t (runsAt ph) i < mostCards
+    go : (t : Bool) → cond t (runs_at ph) i < most_cards
     go true = run ph
     go false = h
 
 -- A rack by its parts.
-abbrev pub rackIn : ℕ → List ℕ → List Core → Phase → Rack
-rackIn count bases cores ph = record { bus = record { phase = ph }; count = count; bases = bases; cores = cores }
+abbrev pub rack_in : ℕ → List ℕ → List Core → Phase → Rack
+rack_in count bases cores ph = record { bus = record { phase = ph }; count = count; bases = bases; cores = cores }
 
-module _ (count : ℕ) (bases : List ℕ) (cores : List Core) (i r d : ℕ) (h : i < mostCards) where
+module _ (count : ℕ) (bases : List ℕ) (cores : List Core) (i r d : ℕ) (h : i < most_cards) where
   -- The card that the event reaches steps as a chip alone.
-  abbrev pub cardStepped : Phase → ℕ → Given Rack
-  cardStepped ph k =
-      let j = reachedBy ph k i in
-      let after = card.step_of (chipAt (rackIn count bases cores ph) j) k r d in
-      gives (record { bus = record { phase = phaseAfter ph k (number_at i r) d }; count = count; bases = bases; cores = set cores j after.chip.core }) 0 after.byte
+  abbrev pub card_stepped : Phase → ℕ → Given Rack
+  card_stepped ph k =
+      let j = reached_by ph k i in
+      let after = card.step_of (chip_at (rack_in count bases cores ph) j) k r d in
+      gives (record { bus = record { phase = phase_after ph k (number_at i r) d }; count = count; bases = bases; cores = set cores j after.chip.core }) 0 after.byte
 
   abbrev pub accepted : (ph : Phase) (k : ℕ) → Type 0
-  accepted ph k = number_of (card.limits cardEdition) ph k r ≡ 0 → stepIn device (rackIn count bases cores ph) k (number_at i r) d ≡ cardStepped ph k
+  accepted ph k = number_of (card.limits card_edition) ph k r ≡ 0 → step_in device (rack_in count bases cores ph) k (number_at i r) d ≡ card_stepped ph k
 
   -- Kind by kind, with what the card makes of it.
   module _ (ph : Phase) where
-    there : (k : ℕ) → ¬ (k ≡ 0) → number_of (card.limits cardEdition) ph k r ≡ 0
-        → card.step_of (chipAt (rackIn count bases cores ph) (reachedBy ph k i)) k r d
-        ≡ card.accepted (afterIn card.device (chipAt (rackIn count bases cores ph) (reachedBy ph k i)) k r d)
-        (byteIn card.device (chipAt (rackIn count bases cores ph) (reachedBy ph k i)) k r)
-    unfolding chipAt
-    there k n e = step-accepts (chipAt (rackIn count bases cores ph) (reachedBy ph k i)) k r d (accepted-there ph i r k n e)
+    there : (k : ℕ) → ¬ (k ≡ 0) → number_of (card.limits card_edition) ph k r ≡ 0
+        → card.step_of (chip_at (rack_in count bases cores ph) (reached_by ph k i)) k r d
+        ≡ card.accepted (after_in card.device (chip_at (rack_in count bases cores ph) (reached_by ph k i)) k r d)
+        (byte_in card.device (chip_at (rack_in count bases cores ph) (reached_by ph k i)) k r)
+    unfolding chip_at
+    there k n e = step-accepts (chip_at (rack_in count bases cores ph) (reached_by ph k i)) k r d (accepted-there ph i r k n e)
 
-    whole : (k : ℕ) → number_of (card.limits cardEdition) ph k r ≡ 0
-        → stepIn device (rackIn count bases cores ph) k (number_at i r) d
-        ≡ gives (afterIn device (rackIn count bases cores ph) k (number_at i r) d) 0 (byteIn device (rackIn count bases cores ph) k (number_at i r))
-    whole k e = bus.accepts device (rackIn count bases cores ph) k (number_at i r) d (same_number i r h ph k ∙ e)
+    whole : (k : ℕ) → number_of (card.limits card_edition) ph k r ≡ 0
+        → step_in device (rack_in count bases cores ph) k (number_at i r) d
+        ≡ gives (after_in device (rack_in count bases cores ph) k (number_at i r) d) 0 (byte_in device (rack_in count bases cores ph) k (number_at i r))
+    whole k e = bus.accepts device (rack_in count bases cores ph) k (number_at i r) d (same_number i r h ph k ∙ e)
 
-    begun : ¬ (kinds.beginRead ≡ 0) → accepted ph kinds.beginRead
-    unfolding chipAt
-    begun n e = rw (whole kinds.beginRead e, there kinds.beginRead n e, place-numbered i r h, register-numbered i r h)
+    begun : ¬ (kinds.begin_read ≡ 0) → accepted ph kinds.begin_read
+    unfolding chip_at
+    begun n e = rw (whole kinds.begin_read e, there kinds.begin_read n e, place-numbered i r h, register-numbered i r h)
 
-    ended : ¬ (kinds.endCycle ≡ 0) → accepted ph kinds.endCycle
-    unfolding chipAt
-    ended n e = rw (whole kinds.endCycle e, there kinds.endCycle n e)
+    ended : ¬ (kinds.end_cycle ≡ 0) → accepted ph kinds.end_cycle
+    unfolding chip_at
+    ended n e = rw (whole kinds.end_cycle e, there kinds.end_cycle n e)
 
-    written : ¬ (kinds.beginWrite ≡ 0) → accepted ph kinds.beginWrite
-    unfolding chipAt
-    written n e = rw (whole kinds.beginWrite e, there kinds.beginWrite n e, set-get_or cores i noCore)
+    written : ¬ (kinds.begin_write ≡ 0) → accepted ph kinds.begin_write
+    unfolding chip_at
+    written n e = rw (whole kinds.begin_write e, there kinds.begin_write n e, set-get_or cores i no_core)
 
-    levelled : ¬ (kinds.outsideLevels ≡ 0) → accepted ph kinds.outsideLevels
-    unfolding chipAt
-    levelled n e = rw (whole kinds.outsideLevels e, there kinds.outsideLevels n e, place-numbered i r h, register-numbered i r h)
+    levelled : ¬ (kinds.outside_levels ≡ 0) → accepted ph kinds.outside_levels
+    unfolding chip_at
+    levelled n e = rw (whole kinds.outside_levels e, there kinds.outside_levels n e, place-numbered i r h, register-numbered i r h)
 
     pub one-card : (k : ℕ) → ¬ (k ≡ 0) → accepted ph k
     one-card =
         by_kind (λ k. ¬ (k ≡ 0) → accepted ph k)
         (λ n. absurd (n refl))
         begun ended written levelled
-        (λ k none n e. absurd (row-refuses (card.limits cardEdition) ph k r 0 none e))
+        (λ k none n e. absurd (row-refuses (card.limits card_edition) ph k r 0 none e))

@@ -6,29 +6,29 @@ use Rattle.chip.specs.declared.Core.{Core}
 use Rattle.chip.specs.declared.Edition.{Edition}
 use Rattle.chip.specs.declared.Edition.TheVariants.{Older}
 use Rattle.chip.specs.declared.Chip.{Chip}
-use Rattle.chip.specs.State.{noEnables, freshPort, powerUp}
-use Rattle.step.specs.Step.{onBus}
+use Rattle.chip.specs.State.{no_enables, fresh_port, power_up}
+use Rattle.step.specs.Step.{on_bus}
 use Rattle.rack.specs.declared.Rack.{Rack}
 use Rattle.rack.specs.declared.Built.{Built}
-use Rattle.rack.specs.Bases.{badRackNumber, mostCards, makesRack}
+use Rattle.rack.specs.Bases.{bad_rack_number, most_cards, makes_rack}
 
 -- One bus runs through the rack, and its registers are numbered through: first register 0 of the eight places in turn, then register 1, 2
 -- and 3. So those that can be read come before those that cannot.
 abbrev pub number_at : ℕ → ℕ → ℕ
-number_at place register = mostCards * register + place
+number_at place register = most_cards * register + place
 
 -- The place of a number, and its register there.
 abbrev pub place_of : ℕ → ℕ
-place_of x = x % mostCards
+place_of x = x % most_cards
 
-abbrev pub registerOf : ℕ → ℕ
-registerOf x = x / mostCards
+abbrev pub register_of : ℕ → ℕ
+register_of x = x / most_cards
 
 -- What the card at a place sees of the bus: a cycle at one of its own registers; where the cycle is another's, an idle bus.
 abbrev pub seen_at : ℕ → Phase → Phase
 seen_at i Idle = Idle
-seen_at i (Reading x) = cond (eqb (place_of x) i) (Reading (registerOf x)) Idle
-seen_at i (Writing x d) = cond (eqb (place_of x) i) (Writing (registerOf x) d) Idle
+seen_at i (Reading x) = cond (eqb (place_of x) i) (Reading (register_of x)) Idle
+seen_at i (Writing x d) = cond (eqb (place_of x) i) (Writing (register_of x) d) Idle
 
 -- All of a rack but the bus: how many cards there are, their bases, and what is in the eight places.
 pub record Cards : Type 0 where
@@ -36,46 +36,46 @@ pub record Cards : Type 0 where
   pub bases : List ℕ
   pub cores : List Core
 
-abbrev pub cardsOf : Rack → Cards
-cardsOf r = record { count = r.count; bases = r.bases; cores = r.cores }
+abbrev pub cards_of : Rack → Cards
+cards_of r = record { count = r.count; bases = r.bases; cores = r.cores }
 
 -- A rack is a phase of the bus and the cards.
-abbrev pub rackOn : Phase → Cards → Rack
-rackOn ph s = record { bus = record { phase = ph }; count = s.count; bases = s.bases; cores = s.cores }
+abbrev pub rack_on : Phase → Cards → Rack
+rack_on ph s = record { bus = record { phase = ph }; count = s.count; bases = s.bases; cores = s.cores }
 
 -- What is at a place. There are eight places, and what stands for any other, all zeros, is not asked.
-abbrev pub noCore : Core
-noCore = record { word = 0; a = freshPort 0; b = freshPort 0; c = record { latch = 0; outside = 0 }; inte = noEnables }
+abbrev pub no_core : Core
+no_core = record { word = 0; a = fresh_port 0; b = fresh_port 0; c = record { latch = 0; outside = 0 }; inte = no_enables }
 
-abbrev pub coreIn : List Core → ℕ → Core
-coreIn cs i = get_or cs i noCore
+abbrev pub core_in : List Core → ℕ → Core
+core_in cs i = get_or cs i no_core
 
 -- The edition of every card. One is chosen at power-up, and where none is named it is the older; the building of a rack names none. So what is in
 -- a place need not keep it.
-abbrev pub cardEdition : Edition
-cardEdition = Older
+abbrev pub card_edition : Edition
+card_edition = Older
 
 -- The card at a place, as a chip alone would be.
-unfoldable pub chipAt : Rack → ℕ → Chip
-chipAt r i = onBus (seen_at i r.bus.phase) cardEdition (coreIn r.cores i)
+unfoldable pub chip_at : Rack → ℕ → Chip
+chip_at r i = on_bus (seen_at i r.bus.phase) card_edition (core_in r.cores i)
 
 -- The cards with that at a place made anew.
-abbrev pub withCore : Cards → ℕ → Core → Cards
-withCore s i c = record { count = s.count; bases = s.bases; cores = set s.cores i c }
+abbrev pub with_core : Cards → ℕ → Core → Cards
+with_core s i c = record { count = s.count; bases = s.bases; cores = set s.cores i c }
 
 -- A rack of cards with these bases, in their order, each at its power-up. The places behind the last hold the same, and have no card.
-unfoldable pub rackOf : List ℕ → Rack
-rackOf bs = record {
+unfoldable pub rack_of : List ℕ → Rack
+rack_of bs = record {
   bus = record { phase = Idle };
   count = length bs;
-  bases = bs ++ replicate (mostCards - length bs) 0;
-  cores = replicate mostCards powerUp.core;
+  bases = bs ++ replicate (most_cards - length bs) 0;
+  cores = replicate most_cards power_up.core;
 }
 
 -- The rack of no cards.
-abbrev pub noCards : Rack
-noCards = rackOf []
+abbrev pub no_cards : Rack
+no_cards = rack_of []
 
 -- What the building of a rack gives: 0 and the rack; or 9, and then there is no card.
-unfoldable pub builtOf : List ℕ → Built
-builtOf bs = cond (makesRack bs) (record { number = 0; rack = rackOf bs }) (record { number = badRackNumber; rack = noCards })
+unfoldable pub built_of : List ℕ → Built
+built_of bs = cond (makes_rack bs) (record { number = 0; rack = rack_of bs }) (record { number = bad_rack_number; rack = no_cards })

@@ -1,11 +1,11 @@
 // One event of the rack: refused by its number, and then no card changes, or accepted, with its effect and the byte of a read.
 ghost use Rattle.std.specs.Prelude.{◌≡◌, true, map, ◌<◌};
 ghost use Rattle.events.specs.Kinds.{begins};
-ghost use Rattle.bus.specs.Device.{gives, resetIn};
-ghost use Rattle.bus.specs.Cycles.{phaseAfter};
-ghost use Rattle.rack.specs.Bases.{mostCards};
+ghost use Rattle.bus.specs.Device.{gives, reset_in};
+ghost use Rattle.bus.specs.Cycles.{phase_after};
+ghost use Rattle.rack.specs.Bases.{most_cards};
 ghost use Rattle.rack.specs.State.{number_at};
-ghost use Rattle.rack.specs.Step.{runsAt, reachedBy, aim_of, coreReset, device, byte_of, asStepped, step_of};
+ghost use Rattle.rack.specs.Step.{runs_at, reached_by, aim_of, core_reset, device, byte_of, as_stepped, step_of};
 
 use super::targets::Target;
 use super::{Bus, CARD_EDITION, MOST_CARDS, NO_CARD, PLACES, Rack, targets, views};
@@ -22,7 +22,7 @@ pub struct Stepped {
 
 // Every place is reset, whether a card is there or not.
 fn reset(mut cores: [Core; 8]) -> [Core; 8]
-    ensures { result ≡ map coreReset cores }
+    ensures { result ≡ map core_reset cores }
 {
     let mut place = 0;
     while place < MOST_CARDS {
@@ -41,8 +41,8 @@ fn reset(mut cores: [Core; 8]) -> [Core; 8]
 
 // What runs on the bus after an accepted event.
 fn phase_after(phase: Phase, kind: u8, place: u8, register: u8, byte: u8) -> Phase
-    requires { (place < mostCards) × (begins kind ≡ true → register < 4) }
-    ensures { result ≡ phaseAfter phase kind (number_at place register) byte }
+    requires { (place < most_cards) × (begins kind ≡ true → register < 4) }
+    ensures { result ≡ phase_after phase kind (number_at place register) byte }
 {
     match kind {
         events::RESET => Phase::Idle,
@@ -55,7 +55,7 @@ fn phase_after(phase: Phase, kind: u8, place: u8, register: u8, byte: u8) -> Pha
 
 // The place on which a cycle runs.
 fn runs_at(phase: Phase) -> u8
-    ensures { result ≡ runsAt phase }
+    ensures { result ≡ runs_at phase }
 {
     match phase {
         Phase::Idle => 0,
@@ -66,7 +66,7 @@ fn runs_at(phase: Phase) -> u8
 
 // The place that an event reaches: an end goes to the card on which the cycle runs.
 fn reached(phase: Phase, kind: u8, place: u8) -> u8
-    ensures { result ≡ reachedBy phase kind place }
+    ensures { result ≡ reached_by phase kind place }
 {
     if kind == events::END_CYCLE {
         return runs_at(phase);
@@ -85,7 +85,7 @@ fn byte(kind: u8, second: u8, third: u8) -> u8
 
 // A reset drops the cycle that runs, on whatever card.
 fn reset_all(mut rack: Rack) -> Stepped
-    ensures { result ≡ asStepped (gives (resetIn device rack) 0 0) }
+    ensures { result ≡ as_stepped (gives (reset_in device rack) 0 0) }
 {
     let cores = rack.cores;
     let cores = reset(cores);

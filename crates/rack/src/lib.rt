@@ -1,7 +1,7 @@
 // A rack of up to eight cards on one bus, and how it is built.
 ghost use Rattle.std.specs.Prelude.{◌≡◌, ◌++◌, ◌≤◌, ◌-◌, length, replicate};
-ghost use Rattle.rack.specs.Bases.{isBase, isAmong, areBases, makesRack, mostCards};
-ghost use Rattle.rack.specs.State.{rackOf, builtOf};
+ghost use Rattle.rack.specs.Bases.{is_base, is_among, are_bases, makes_rack, most_cards};
+ghost use Rattle.rack.specs.State.{rack_of, built_of};
 
 use bus::{ACCEPTED, Phase};
 use chip::{Core, Edition};
@@ -54,14 +54,14 @@ pub struct Built {
 }
 
 fn is_base(base: u16) -> bool
-    ensures { result ≡ isBase base }
+    ensures { result ≡ is_base base }
 {
     (base % CARD_WIDTH == 0) & (base <= LAST_BASE)
 }
 
 // Whether the base is one of those.
 fn among(base: u16, bases: &[u16]) -> bool
-    ensures { result ≡ isAmong base bases.now }
+    ensures { result ≡ is_among base bases.now }
 {
     let mut at = 0;
     while at < bases.len() {
@@ -75,7 +75,7 @@ fn among(base: u16, bases: &[u16]) -> bool
 
 // Whether each is a base, and none comes again behind itself.
 fn are_bases(bases: &[u16]) -> bool
-    ensures { result ≡ areBases bases.now }
+    ensures { result ≡ are_bases bases.now }
 {
     let mut at = 0;
     while at < bases.len() {
@@ -90,7 +90,7 @@ fn are_bases(bases: &[u16]) -> bool
 }
 
 fn makes_rack(bases: &[u16]) -> bool
-    ensures { result ≡ makesRack bases.now }
+    ensures { result ≡ makes_rack bases.now }
 {
     if MOST_CARDS < bases.len() {
         return false;
@@ -100,8 +100,8 @@ fn makes_rack(bases: &[u16]) -> bool
 
 // The bases from the first place on; 0 stands behind the last.
 fn in_places(bases: &[u16]) -> [u16; 8]
-    requires { length bases.now ≤ mostCards }
-    ensures { result ≡ bases.now ++ replicate (mostCards - length bases.now) 0 }
+    requires { length bases.now ≤ most_cards }
+    ensures { result ≡ bases.now ++ replicate (most_cards - length bases.now) 0 }
 {
     let mut places = [0; 8];
     let mut at = 0;
@@ -114,8 +114,8 @@ fn in_places(bases: &[u16]) -> [u16; 8]
 
 // A rack of cards with these bases, each at its power-up.
 fn stand(bases: &[u16]) -> Rack
-    requires { length bases.now ≤ mostCards }
-    ensures { result ≡ rackOf bases.now }
+    requires { length bases.now ≤ most_cards }
+    ensures { result ≡ rack_of bases.now }
 {
     let count = bases.len() as u8;
     let places = in_places(bases);
@@ -133,7 +133,7 @@ fn stand(bases: &[u16]) -> Rack
 
 // A rack of cards in the order of their bases. It is refused where two are equal, where a number is no base, and where there are too many.
 pub fn build(bases: &[u16]) -> Built
-    ensures { result ≡ builtOf bases.now }
+    ensures { result ≡ built_of bases.now }
 {
     if makes_rack(bases) {
         return Built {

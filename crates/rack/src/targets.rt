@@ -1,6 +1,6 @@
 // The card that an event is for: by its address, or by its place.
 ghost use Rattle.std.specs.Prelude.{◌≡◌, ◌<◌};
-ghost use Rattle.rack.specs.Targets.{answersAt, targetFrom, basesIn, isPlace, targetAt, target_of};
+ghost use Rattle.rack.specs.Targets.{answers_at, target_from, bases_in, is_place, target_at, target_of};
 
 use super::{CARD_WIDTH, PLACES, REGISTERS};
 
@@ -12,7 +12,7 @@ pub enum Target {
 }
 
 fn answers(base: u16, address: u16) -> bool
-    ensures { result ≡ answersAt base address }
+    ensures { result ≡ answers_at base address }
 {
     if base <= address {
         return address - base < CARD_WIDTH;
@@ -22,7 +22,7 @@ fn answers(base: u16, address: u16) -> bool
 
 // The first card that answers at the address, and its register there: the four registers are seen twice.
 fn at_address(count: u8, bases: [u16; 8], address: u16) -> Target
-    ensures { result ≡ targetFrom 0 (basesIn count bases) address }
+    ensures { result ≡ target_from 0 (bases_in count bases) address }
 {
     let mut place = 0u8;
     while place < PLACES {
@@ -40,14 +40,14 @@ fn at_address(count: u8, bases: [u16; 8], address: u16) -> Target
 
 // Whether there is a card at the place.
 pub(super) fn is_place(count: u8, place: u16) -> bool
-    ensures { result ≡ isPlace count place }
+    ensures { result ≡ is_place count place }
 {
     (place < count as u16) & (place < PLACES as u16)
 }
 
 // The card at the place, and its port.
 fn at_place(count: u8, place: u16, port: u8) -> Target
-    ensures { result ≡ targetAt count place port }
+    ensures { result ≡ target_at count place port }
 {
     if is_place(count, place) {
         return Target::At(place as u8, port);

@@ -1,9 +1,9 @@
 // What a card shows, counts and explains, by its place.
 ghost use Rattle.std.specs.Prelude.{◌≡◌, ◌<◌};
-ghost use Rattle.step.specs.Step.{onBus};
-ghost use Rattle.rack.specs.Bases.{mostCards};
-ghost use Rattle.rack.specs.State.{seen_at, cardEdition, chipAt};
-ghost use Rattle.rack.specs.Views.{cardOf, cardPins, cardTally, cardExplained};
+ghost use Rattle.step.specs.Step.{on_bus};
+ghost use Rattle.rack.specs.Bases.{most_cards};
+ghost use Rattle.rack.specs.State.{seen_at, card_edition, chip_at};
+ghost use Rattle.rack.specs.Views.{card_of, card_pins, card_tally, card_explained};
 
 use super::{CARD_EDITION, NO_CARD, PLACES, Rack, targets};
 use bus::{ACCEPTED, Phase};
@@ -64,7 +64,7 @@ fn seen(phase: Phase, place: u8) -> Phase
 
 // What is at a place, as a chip alone would be.
 pub(super) fn chip_of(phase: Phase, place: u8, core: Core) -> Chip
-    ensures { result ≡ onBus (seen_at place phase) cardEdition core }
+    ensures { result ≡ on_bus (seen_at place phase) card_edition core }
 {
     Chip {
         phase: seen(phase, place),
@@ -75,8 +75,8 @@ pub(super) fn chip_of(phase: Phase, place: u8, core: Core) -> Chip
 
 // The card at one of the eight places.
 fn chip_at(rack: Rack, place: u8) -> Chip
-    requires { place < mostCards }
-    ensures { result ≡ chipAt rack place }
+    requires { place < most_cards }
+    ensures { result ≡ chip_at rack place }
 {
     let core = rack.cores[place as usize];
     let bus = rack.bus;
@@ -86,7 +86,7 @@ fn chip_at(rack: Rack, place: u8) -> Chip
 
 // The card at a place, taken out of the rack to be looked at.
 pub fn card_at(rack: Rack, place: u8) -> Card
-    ensures { result ≡ cardOf rack place }
+    ensures { result ≡ card_of rack place }
 {
     if targets::is_place(rack.count, place as u16) {
         return Card {
@@ -102,7 +102,7 @@ pub fn card_at(rack: Rack, place: u8) -> Card
 
 // The pins of a port of the card at a place.
 pub fn pins(rack: Rack, place: u8, port: u8) -> CardPins
-    ensures { result ≡ cardPins rack place port }
+    ensures { result ≡ card_pins rack place port }
 {
     if targets::is_place(rack.count, place as u16) {
         return CardPins {
@@ -121,7 +121,7 @@ pub fn pins(rack: Rack, place: u8, port: u8) -> CardPins
 
 // What became of the bytes offered to a channel of the card at a place, or planted in it.
 pub fn tally(rack: Rack, place: u8, group: Group, side: Side) -> CardTally
-    ensures { result ≡ cardTally rack place group side }
+    ensures { result ≡ card_tally rack place group side }
 {
     if targets::is_place(rack.count, place as u16) {
         return CardTally {
@@ -145,7 +145,7 @@ pub fn tally(rack: Rack, place: u8, group: Group, side: Side) -> CardTally
 
 // Why an INTR of the card at a place is low.
 pub fn explain(rack: Rack, place: u8, group: u8) -> CardExplained
-    ensures { result ≡ cardExplained rack place group }
+    ensures { result ≡ card_explained rack place group }
 {
     if targets::is_place(rack.count, place as u16) {
         return CardExplained {

@@ -24,16 +24,16 @@ use Rattle.rack.specs.declared.Rack.{Rack}
 use Rattle.rack.specs.declared.event.Stepped.{Stepped}
 use Rattle.rack.specs.declared.targets.Target.{Target}
 use Rattle.rack.specs.declared.targets.Target.TheVariants.{NoCard, At}
-use Rattle.rack.specs.Bases.{mostCards}
-use Rattle.rack.specs.State.{place_of, chipAt, cardEdition}
-use Rattle.rack.specs.Targets.{answersAt, registerAt, targetFrom}
-use Rattle.rack.specs.Step.{aim_of, asStepped, stepAt, step_of}
-use Rattle.rack.proofs.OnCard.{rackIn, place-numbered}
+use Rattle.rack.specs.Bases.{most_cards}
+use Rattle.rack.specs.State.{place_of, chip_at, card_edition}
+use Rattle.rack.specs.Targets.{answers_at, register_at, target_from}
+use Rattle.rack.specs.Step.{aim_of, as_stepped, step_at, step_of}
+use Rattle.rack.proofs.OnCard.{rack_in, place-numbered}
 use Rattle.rack.proofs.Places.{InRack}
 use Rattle.rack.proofs.Aims.{refused-at}
-use Rattle.racklaws.specs.Whom.{cycleEnded, readAt, writeAt, levelsOn, Bus, free, takenBy, nobody, card as toCard, readReaches, writeReaches, endReaches, busAfter}
-use Rattle.racklaws.specs.Promise.{Whole, Follows, busOf}
-use Rattle.racklaws.proofs.Seek.{asFound}
+use Rattle.racklaws.specs.Whom.{cycle_ended, read_at, write_at, levels_on, Bus, free, taken_by, nobody, card as to_card, read_reaches, write_reaches, end_reaches, bus_after}
+use Rattle.racklaws.specs.Promise.{Whole, Follows, bus_of}
+use Rattle.racklaws.proofs.Seek.{as_found}
 use Rattle.racklaws.proofs.OneCard.{card-follows}
 
 -- A register that an address is, is one of four.
@@ -41,31 +41,31 @@ abbrev pub OfFour : Target → Type 0
 OfFour NoCard = Unit {0}
 OfFour (At place register) = register < 4
 
-pub of_four : (i address : ℕ) (bases : List ℕ) → OfFour (targetFrom i bases address)
-unfolding targetFrom
+pub of_four : (i address : ℕ) (bases : List ℕ) → OfFour (target_from i bases address)
+unfolding target_from
 of_four i address [] = tt
 of_four i address (base ∷ later) =
-    by-test OfFour (answersAt base address) (At i (registerAt base address)) (targetFrom (suc i) later address)
+    by-test OfFour (answers_at base address) (At i (register_at base address)) (target_from (suc i) later address)
     (λ e. omega arith)
     (λ e. of_four (suc i) address later)
 
 -- Operands that a card's event lacks make no difference to it.
-read-alone : (c : Chip) (r d : ℕ) → stepped c (event kinds.beginRead r d) ≡ stepped c (event kinds.beginRead r 0)
+read-alone : (c : Chip) (r d : ℕ) → stepped c (event kinds.begin_read r d) ≡ stepped c (event kinds.begin_read r 0)
 unfolding card.step_of
-read-alone c r d = ap card.asStepped ((facts c).ignored r d).beginRead
+read-alone c r d = ap card.as_stepped ((facts c).ignored r d).begin_read
 
-end-alone : (c : Chip) (d : ℕ) → stepped c (event kinds.endCycle 0 d) ≡ stepped c (event kinds.endCycle 0 0)
+end-alone : (c : Chip) (d : ℕ) → stepped c (event kinds.end_cycle 0 d) ≡ stepped c (event kinds.end_cycle 0 0)
 unfolding card.step_of
-end-alone c d = ap card.asStepped ((facts c).ignored 0 d).endCycle
+end-alone c d = ap card.as_stepped ((facts c).ignored 0 d).end_cycle
 
 -- What holds of a card's event holds of another that is the same to it.
-renamed : {r : Rack} {given : Stepped} {i : ℕ} {own own' : Event} {b b' : Bus} → Follows r given (toCard i own) b
-    → stepped (chipAt r i) own ≡ stepped (chipAt r i) own' → b ≡ b' → Follows r given (toCard i own') b'
+renamed : {r : Rack} {given : Stepped} {i : ℕ} {own own' : Event} {b b' : Bus} → Follows r given (to_card i own) b
+    → stepped (chip_at r i) own ≡ stepped (chip_at r i) own' → b ≡ b' → Follows r given (to_card i own') b'
 renamed {r} {given} {i} {own} {own'} f same bus = record {
   reached = record {
     place = f.reached.place;
     accepted = f.reached.accepted;
-    acceptedThere = ap (λ (s : CardStepped). s.number) (sym same) ∙ f.reached.acceptedThere;
+    accepted_there = ap (λ (s : CardStepped). s.number) (sym same) ∙ f.reached.accepted_there;
     byte = f.reached.byte ∙ ap (λ (s : CardStepped). s.byte) same;
     changed = f.reached.changed ∙ ap (λ (s : CardStepped). s.chip) same;
     others = f.reached.others;
@@ -77,8 +77,8 @@ renamed {r} {given} {i} {own} {own'} f same bus = record {
 
 module _ (count : ℕ) (bases : List ℕ) (cores : List Core) where
   -- What is refused reaches nobody.
-  pub refused-follows : (ph : Phase) → Whole (rackIn count bases cores ph) → (k d : ℕ) (t : Target) → InRack t → ¬ ((aim_of ph k t).number ≡ 0)
-      → Follows (rackIn count bases cores ph) (asStepped (stepAt (rackIn count bases cores ph) t k d)) nobody (busOf ph)
+  pub refused-follows : (ph : Phase) → Whole (rack_in count bases cores ph) → (k d : ℕ) (t : Target) → InRack t → ¬ ((aim_of ph k t).number ≡ 0)
+      → Follows (rack_in count bases cores ph) (as_stepped (step_at (rack_in count bases cores ph) t k d)) nobody (bus_of ph)
   refused-follows ph whole k d t inside n = rw (refused-at count bases cores ph k d t inside n) record {
     reached = record { refused = n; unchanged = refl; byte = refl };
     bus = refl;
@@ -87,60 +87,60 @@ module _ (count : ℕ) (bases : List ℕ) (cores : List Core) where
   }
 
   -- The beginning of a read, on a free bus at a register that can be read or that cannot.
-  read-begins : (whole : Whole (rackIn count bases cores Idle)) (d x i r : ℕ) → i < mostCards → (t : Bool) → ltb r 3 ≡ t
-      → Follows (rackIn count bases cores Idle) (asStepped (stepAt (rackIn count bases cores Idle) (At i r) kinds.beginRead d))
-      (cond t (toCard i (event kinds.beginRead r 0)) nobody) (busAfter free (readAt x) (cond t (toCard i (event kinds.beginRead r 0)) nobody))
+  read-begins : (whole : Whole (rack_in count bases cores Idle)) (d x i r : ℕ) → i < most_cards → (t : Bool) → ltb r 3 ≡ t
+      → Follows (rack_in count bases cores Idle) (as_stepped (step_at (rack_in count bases cores Idle) (At i r) kinds.begin_read d))
+      (cond t (to_card i (event kinds.begin_read r 0)) nobody) (bus_after free (read_at x) (cond t (to_card i (event kinds.begin_read r 0)) nobody))
   read-begins whole d x i r h true e =
-      let accepted = accepted-number cardEdition Idle kinds.beginRead r d (rw e) in
-      let follows = card-follows count bases cores Idle whole i r d kinds.beginRead h (λ n. omega (arith, n)) accepted in
-      renamed follows (read-alone (chipAt (rackIn count bases cores Idle) i) r d) (ap takenBy (place-numbered i r h))
+      let accepted = accepted-number card_edition Idle kinds.begin_read r d (rw e) in
+      let follows = card-follows count bases cores Idle whole i r d kinds.begin_read h (λ n. omega (arith, n)) accepted in
+      renamed follows (read-alone (chip_at (rack_in count bases cores Idle) i) r d) (ap taken_by (place-numbered i r h))
   read-begins whole d x i r h false e =
-      refused-follows Idle whole kinds.beginRead d (At i r) h (row-refuses (card.limits cardEdition) Idle kinds.beginRead r 2 (rw e))
+      refused-follows Idle whole kinds.begin_read d (At i r) h (row-refuses (card.limits card_edition) Idle kinds.begin_read r 2 (rw e))
 
-  pub read-follows : (ph : Phase) → Whole (rackIn count bases cores ph) → (d x : ℕ) (t : Target) → InRack t
-      → Follows (rackIn count bases cores ph) (asStepped (stepAt (rackIn count bases cores ph) t kinds.beginRead d)) (readReaches (busOf ph) (asFound t))
-      (busAfter (busOf ph) (readAt x) (readReaches (busOf ph) (asFound t)))
-  read-follows ph whole d x NoCard inside = refused-follows ph whole kinds.beginRead d NoCard inside (λ n. omega (arith, n))
+  pub read-follows : (ph : Phase) → Whole (rack_in count bases cores ph) → (d x : ℕ) (t : Target) → InRack t
+      → Follows (rack_in count bases cores ph) (as_stepped (step_at (rack_in count bases cores ph) t kinds.begin_read d)) (read_reaches (bus_of ph) (as_found t))
+      (bus_after (bus_of ph) (read_at x) (read_reaches (bus_of ph) (as_found t)))
+  read-follows ph whole d x NoCard inside = refused-follows ph whole kinds.begin_read d NoCard inside (λ n. omega (arith, n))
   read-follows Idle whole d x (At i r) inside = read-begins whole d x i r inside (ltb r 3) refl
   read-follows (Reading y) whole d x (At i r) inside =
-      refused-follows (Reading y) whole kinds.beginRead d (At i r) inside (row-refuses (card.limits cardEdition) (Reading y) kinds.beginRead r 3 refl)
+      refused-follows (Reading y) whole kinds.begin_read d (At i r) inside (row-refuses (card.limits card_edition) (Reading y) kinds.begin_read r 3 refl)
   read-follows (Writing y b) whole d x (At i r) inside =
-      refused-follows (Writing y b) whole kinds.beginRead d (At i r) inside (row-refuses (card.limits cardEdition) (Writing y b) kinds.beginRead r 3 refl)
+      refused-follows (Writing y b) whole kinds.begin_read d (At i r) inside (row-refuses (card.limits card_edition) (Writing y b) kinds.begin_read r 3 refl)
 
   -- That of a write, which is at one of the four registers.
-  pub write-follows : (ph : Phase) → Whole (rackIn count bases cores ph) → (d x : ℕ) (t : Target) → InRack t → OfFour t
-      → Follows (rackIn count bases cores ph) (asStepped (stepAt (rackIn count bases cores ph) t kinds.beginWrite d)) (writeReaches (busOf ph) (asFound t) d)
-      (busAfter (busOf ph) (writeAt x d) (writeReaches (busOf ph) (asFound t) d))
-  write-follows ph whole d x NoCard inside four = refused-follows ph whole kinds.beginWrite d NoCard inside (λ n. omega (arith, n))
+  pub write-follows : (ph : Phase) → Whole (rack_in count bases cores ph) → (d x : ℕ) (t : Target) → InRack t → OfFour t
+      → Follows (rack_in count bases cores ph) (as_stepped (step_at (rack_in count bases cores ph) t kinds.begin_write d)) (write_reaches (bus_of ph) (as_found t) d)
+      (bus_after (bus_of ph) (write_at x d) (write_reaches (bus_of ph) (as_found t) d))
+  write-follows ph whole d x NoCard inside four = refused-follows ph whole kinds.begin_write d NoCard inside (λ n. omega (arith, n))
   write-follows Idle whole d x (At i r) inside four =
-      let accepted = accepted-number cardEdition Idle kinds.beginWrite r d (rw (lt-ltb r 4 four)) in
-      let follows = card-follows count bases cores Idle whole i r d kinds.beginWrite inside (λ n. omega (arith, n)) accepted in
-      renamed follows refl (ap takenBy (place-numbered i r inside))
+      let accepted = accepted-number card_edition Idle kinds.begin_write r d (rw (lt-ltb r 4 four)) in
+      let follows = card-follows count bases cores Idle whole i r d kinds.begin_write inside (λ n. omega (arith, n)) accepted in
+      renamed follows refl (ap taken_by (place-numbered i r inside))
   write-follows (Reading y) whole d x (At i r) inside four =
-      refused-follows (Reading y) whole kinds.beginWrite d (At i r) inside (row-refuses (card.limits cardEdition) (Reading y) kinds.beginWrite r 3 refl)
+      refused-follows (Reading y) whole kinds.begin_write d (At i r) inside (row-refuses (card.limits card_edition) (Reading y) kinds.begin_write r 3 refl)
   write-follows (Writing y b) whole d x (At i r) inside four =
-      refused-follows (Writing y b) whole kinds.beginWrite d (At i r) inside (row-refuses (card.limits cardEdition) (Writing y b) kinds.beginWrite r 3 refl)
+      refused-follows (Writing y b) whole kinds.begin_write d (At i r) inside (row-refuses (card.limits card_edition) (Writing y b) kinds.begin_write r 3 refl)
 
   -- The end of a cycle, of which the event names no card.
-  pub end-follows : (ph : Phase) → Whole (rackIn count bases cores ph) → (d : ℕ)
-      → Follows (rackIn count bases cores ph) (asStepped (stepAt (rackIn count bases cores ph) (At 0 0) kinds.endCycle d)) (endReaches (busOf ph))
-      (busAfter (busOf ph) cycleEnded (endReaches (busOf ph)))
-  end-follows Idle whole d = refused-follows Idle whole kinds.endCycle d (At 0 0) (omega arith) (row-refuses (card.limits cardEdition) Idle kinds.endCycle 0 4 refl)
+  pub end-follows : (ph : Phase) → Whole (rack_in count bases cores ph) → (d : ℕ)
+      → Follows (rack_in count bases cores ph) (as_stepped (step_at (rack_in count bases cores ph) (At 0 0) kinds.end_cycle d)) (end_reaches (bus_of ph))
+      (bus_after (bus_of ph) cycle_ended (end_reaches (bus_of ph)))
+  end-follows Idle whole d = refused-follows Idle whole kinds.end_cycle d (At 0 0) (omega arith) (row-refuses (card.limits card_edition) Idle kinds.end_cycle 0 4 refl)
   end-follows (Reading y) whole d =
-      let accepted = accepted-number cardEdition (Reading y) kinds.endCycle 0 d refl in
-      let follows = card-follows count bases cores (Reading y) whole 0 0 d kinds.endCycle (omega arith) (λ n. omega (arith, n)) accepted in
-      renamed follows (end-alone (chipAt (rackIn count bases cores (Reading y)) (place_of y)) d) refl
+      let accepted = accepted-number card_edition (Reading y) kinds.end_cycle 0 d refl in
+      let follows = card-follows count bases cores (Reading y) whole 0 0 d kinds.end_cycle (omega arith) (λ n. omega (arith, n)) accepted in
+      renamed follows (end-alone (chip_at (rack_in count bases cores (Reading y)) (place_of y)) d) refl
   end-follows (Writing y b) whole d =
-      let accepted = accepted-number cardEdition (Writing y b) kinds.endCycle 0 d refl in
-      let follows = card-follows count bases cores (Writing y b) whole 0 0 d kinds.endCycle (omega arith) (λ n. omega (arith, n)) accepted in
-      renamed follows (end-alone (chipAt (rackIn count bases cores (Writing y b)) (place_of y)) d) refl
+      let accepted = accepted-number card_edition (Writing y b) kinds.end_cycle 0 d refl in
+      let follows = card-follows count bases cores (Writing y b) whole 0 0 d kinds.end_cycle (omega arith) (λ n. omega (arith, n)) accepted in
+      renamed follows (end-alone (chip_at (rack_in count bases cores (Writing y b)) (place_of y)) d) refl
 
   -- Levels, on a port or on none.
-  pub levels-on : (ph : Phase) → Whole (rackIn count bases cores ph) → (x y d : ℕ) → x < mostCards → (t : Bool) → ltb y 3 ≡ t
-      → Follows (rackIn count bases cores ph) (asStepped (stepAt (rackIn count bases cores ph) (At x y) kinds.outsideLevels d))
-      (cond t (toCard x (event kinds.outsideLevels y d)) nobody)
-      (busAfter (busOf ph) (levelsOn x y d) (cond t (toCard x (event kinds.outsideLevels y d)) nobody))
+  pub levels-on : (ph : Phase) → Whole (rack_in count bases cores ph) → (x y d : ℕ) → x < most_cards → (t : Bool) → ltb y 3 ≡ t
+      → Follows (rack_in count bases cores ph) (as_stepped (step_at (rack_in count bases cores ph) (At x y) kinds.outside_levels d))
+      (cond t (to_card x (event kinds.outside_levels y d)) nobody)
+      (bus_after (bus_of ph) (levels_on x y d) (cond t (to_card x (event kinds.outside_levels y d)) nobody))
   levels-on ph whole x y d h true e =
-      card-follows count bases cores ph whole x y d kinds.outsideLevels h (λ n. omega (arith, n)) (accepted-number cardEdition ph kinds.outsideLevels y d e)
+      card-follows count bases cores ph whole x y d kinds.outside_levels h (λ n. omega (arith, n)) (accepted-number card_edition ph kinds.outside_levels y d e)
   levels-on ph whole x y d h false e =
-      refused-follows ph whole kinds.outsideLevels d (At x y) h (row-refuses (card.limits cardEdition) ph kinds.outsideLevels y 1 (rw e))
+      refused-follows ph whole kinds.outside_levels d (At x y) h (row-refuses (card.limits card_edition) ph kinds.outside_levels y 1 (rw e))

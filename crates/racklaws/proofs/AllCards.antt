@@ -4,42 +4,42 @@ use mathlib.Core.Path.{◌≡◌, refl, ◌∙◌}
 use mathlib.Core.List.{List}
 use Prim.Native.Nat.{ℕ, ◌<◌}
 use native.Mathlib.Omega.{arith}
-use Rattle.events.specs.Kinds.{isKind}
+use Rattle.events.specs.Kinds.{is_kind}
 use Rattle.events.specs.Event.{event}
 use Rattle.bus.specs.declared.Phase.{Phase}
 use Rattle.bus.specs.Refusals.{number_of}
-use Rattle.bus.specs.Device.{gives, resetIn}
+use Rattle.bus.specs.Device.{gives, reset_in}
 use Rattle.chip.specs.declared.Core.{Core}
 use Rattle.step.specs.Step as card
 use Rattle.step.specs.Step.{stepped}
 use Rattle.step.proofs.Outcome.{step-accepts}
 use Rattle.rack.specs.declared.Rack.{Rack}
 use Rattle.rack.specs.declared.event.Stepped.{Stepped}
-use Rattle.rack.specs.Bases.{mostCards}
-use Rattle.rack.specs.State.{seen_at, noCore, chipAt, cardEdition}
-use Rattle.rack.specs.Step.{coreReset, device, asStepped}
+use Rattle.rack.specs.Bases.{most_cards}
+use Rattle.rack.specs.State.{seen_at, no_core, chip_at, card_edition}
+use Rattle.rack.specs.Step.{core_reset, device, as_stepped}
 use Rattle.rack.proofs.Mapped.{mapped_at, mapped-length}
-use Rattle.rack.proofs.OnCard.{rackIn}
+use Rattle.rack.proofs.OnCard.{rack_in}
 use Rattle.racklaws.specs.Whom.{free, everybody}
 use Rattle.racklaws.specs.Promise.{Whole, Follows}
 
 -- A reset is accepted in every phase.
-pub always : (ph : Phase) → number_of (card.limits cardEdition) ph 0 0 ≡ 0
-unfolding number_of isKind
+pub always : (ph : Phase) → number_of (card.limits card_edition) ph 0 0 ≡ 0
+unfolding number_of is_kind
 always ph = refl
 
-module _ (count : ℕ) (bases : List ℕ) (cores : List Core) (ph : Phase) (whole : Whole (rackIn count bases cores ph)) where
+module _ (count : ℕ) (bases : List ℕ) (cores : List Core) (ph : Phase) (whole : Whole (rack_in count bases cores ph)) where
   abbrev rack : Rack
-  rack = rackIn count bases cores ph
+  rack = rack_in count bases cores ph
 
   abbrev given : Stepped
-  given = asStepped (gives (resetIn device rack) 0 0)
+  given = as_stepped (gives (reset_in device rack) 0 0)
 
-  each : (i : ℕ) → i < mostCards → chipAt given.rack i ≡ (stepped (chipAt rack i) (event 0 0 0)).chip
-  unfolding chipAt
+  each : (i : ℕ) → i < most_cards → chip_at given.rack i ≡ (stepped (chip_at rack i) (event 0 0 0)).chip
+  unfolding chip_at
   each i h = rw (
-    step-accepts (chipAt rack i) 0 0 0 (always (seen_at i ph)),
-    mapped_at coreReset cores i noCore (omega (arith, h, whole.cores)),
+    step-accepts (chip_at rack i) 0 0 0 (always (seen_at i ph)),
+    mapped_at core_reset cores i no_core (omega (arith, h, whole.cores)),
   )
 
   pub reset-follows : Follows rack given (everybody (event 0 0 0)) free
@@ -47,5 +47,5 @@ module _ (count : ℕ) (bases : List ℕ) (cores : List Core) (ph : Phase) (whol
     reached = record { accepted = refl; byte = refl; each = each };
     bus = refl;
     bases = refl;
-    whole = record { cores = mapped-length coreReset cores ∙ whole.cores; bases = whole.bases };
+    whole = record { cores = mapped-length core_reset cores ∙ whole.cores; bases = whole.bases };
   }

@@ -4,10 +4,10 @@
 use mathlib.Core.Path.{◌≡◌, refl, ap, ◌∙◌}
 use mathlib.Core.List.{List, [], ◌∷◌, map}
 use Prim.Native.Nat.{ℕ}
-use Rattle.events.specs.Kinds.{isKind}
+use Rattle.events.specs.Kinds.{is_kind}
 use Rattle.events.specs.Event.{Event, event}
-use Rattle.bus.specs.Refusals.{limitsOf}
-use Rattle.bus.specs.Device.{stepIn, runIn}
+use Rattle.bus.specs.Refusals.{limits_of}
+use Rattle.bus.specs.Device.{step_in, run_in}
 use Rattle.bus.specs.Facts.{Facts}
 use Rattle.bus.proofs.Facts as bus
 use Rattle.bus.proofs.Numbering.{no-kind-refused}
@@ -16,39 +16,39 @@ use Rattle.rack.specs.declared.targets.Target.{Target}
 use Rattle.rack.specs.declared.targets.Target.TheVariants.{NoCard, At}
 use Rattle.rack.specs.State.{number_at}
 use Rattle.rack.specs.Targets.{target_of}
-use Rattle.rack.specs.Step.{limits, device, byte_of, stepAt, step_of}
+use Rattle.rack.specs.Step.{limits, device, byte_of, step_at, step_of}
 use Rattle.rack.proofs.Stays.{target-stays}
 use Rattle.racklaws.specs.Whom.{RackEvent}
-use Rattle.racklaws.specs.Promise.{rackRun}
+use Rattle.racklaws.specs.Promise.{rack_run}
 
 -- There are four registers at each of eight places, of which three can be read, and three ports at each.
-pub facts : (r : Rack) → Facts device (limitsOf 32 24 24) r
+pub facts : (r : Rack) → Facts device (limits_of 32 24 24) r
 facts r = bus.facts device limits r refl
 
 -- What a rack's event is to the device.
-abbrev pub asEvent : Target → ℕ → ℕ → Event
-asEvent NoCard k d = event 0xff 0 0
-asEvent (At place register) k d = event k (number_at place register) d
+abbrev pub as_event : Target → ℕ → ℕ → Event
+as_event NoCard k d = event 0xff 0 0
+as_event (At place register) k d = event k (number_at place register) d
 
-abbrev pub eventBy : ℕ → List ℕ → RackEvent → Event
-eventBy count bases e = asEvent (target_of count bases e.kind e.first e.second) e.kind (byte_of e.kind e.second e.third)
+abbrev pub event_by : ℕ → List ℕ → RackEvent → Event
+event_by count bases e = as_event (target_of count bases e.kind e.first e.second) e.kind (byte_of e.kind e.second e.third)
 
-as-device : (r : Rack) (t : Target) (k d : ℕ) → let e = asEvent t k d in (stepAt r t k d).state ≡ (stepIn device r e.kind e.first e.second).state
-unfolding isKind
+as-device : (r : Rack) (t : Target) (k d : ℕ) → let e = as_event t k d in (step_at r t k d).state ≡ (step_in device r e.kind e.first e.second).state
+unfolding is_kind
 as-device r NoCard k d = rw (no-kind-refused device r 0xff 0 0 refl)
 as-device r (At i x) k d = refl
 
 run-from : (count : ℕ) (bases : List ℕ) (r : Rack) → r.count ≡ count → r.bases ≡ bases → (es : List RackEvent)
-    → rackRun r es ≡ runIn device r (map (eventBy count bases) es)
+    → rack_run r es ≡ run_in device r (map (event_by count bases) es)
 unfolding step_of
 run-from count bases r c b [] = refl
 run-from count bases r c b (e ∷ es) =
     let t = target_of r.count r.bases e.kind e.first e.second in
     let d = byte_of e.kind e.second e.third in
     let same = target-stays r t e.kind d in
-    run-from count bases (stepAt r t e.kind d).state (same.0 ∙ c) (same.1 ∙ b) es
-    ∙ ap (λ (s : Rack). runIn device s (map (eventBy count bases) es)) (as-device r t e.kind d ∙ rw (c, b))
+    run-from count bases (step_at r t e.kind d).state (same.0 ∙ c) (same.1 ∙ b) es
+    ∙ ap (λ (s : Rack). run_in device s (map (event_by count bases) es)) (as-device r t e.kind d ∙ rw (c, b))
 
 -- So what the facts say of histories they say of a rack's.
-pub run-as-device : (r : Rack) (es : List RackEvent) → rackRun r es ≡ runIn device r (map (eventBy r.count r.bases) es)
+pub run-as-device : (r : Rack) (es : List RackEvent) → rack_run r es ≡ run_in device r (map (event_by r.count r.bases) es)
 run-as-device r es = run-from r.count r.bases r refl refl es

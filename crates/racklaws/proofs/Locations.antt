@@ -12,56 +12,56 @@ use borrow.Author.Tests.{leb-true, ltb-true, le-leb, lt-ltb}
 use Rattle.bits.proofs.Logic.{both, by-test}
 use Rattle.rack.specs.declared.targets.Target.{Target}
 use Rattle.rack.specs.declared.targets.Target.TheVariants.{NoCard, At}
-use Rattle.rack.specs.Targets.{answersAt, registerAt, targetFrom}
-use Rattle.racklaws.specs.Whom.{Found, noCard, found, seek}
+use Rattle.rack.specs.Targets.{answers_at, register_at, target_from}
+use Rattle.racklaws.specs.Whom.{Found, no_card, found, seek}
 use Rattle.racklaws.specs.Bases.{base_at, GoodBases, Located}
-use Rattle.racklaws.proofs.Seek.{asFound, sought}
+use Rattle.racklaws.proofs.Seek.{as_found, sought}
 
 -- A card answers at its eight locations.
-answers : (b n : ℕ) → n < 8 → answersAt b (b + n) ≡ true
-unfolding answersAt
+answers : (b n : ℕ) → n < 8 → answers_at b (b + n) ≡ true
+unfolding answers_at
 answers b n h = rw (le-leb b (b + n) (omega arith), lt-ltb (b + n) (b + 8) (omega (arith, h)))
 
 -- It answers at no other.
-within : (b a : ℕ) → answersAt b a ≡ true → (b ≤ a) × (a < b + 8)
-unfolding answersAt
+within : (b a : ℕ) → answers_at b a ≡ true → (b ≤ a) × (a < b + 8)
+unfolding answers_at
 within b a e = let two = both (leb b a) (ltb a (b + 8)) e in (leb-true b a two.0, ltb-true a (b + 8) two.1)
 
 -- The card at a place is the first to answer there, where no other has the location.
 target-here : (i : ℕ) (bs : List ℕ) (j n : ℕ) → j < length bs → n < 8
-    → ((k : ℕ) → k < length bs → answersAt (base_at bs k) (base_at bs j + n) ≡ true → k ≡ j) → targetFrom i bs (base_at bs j + n) ≡ At (i + j) (n % 4)
-unfolding targetFrom
+    → ((k : ℕ) → k < length bs → answers_at (base_at bs k) (base_at bs j + n) ≡ true → k ≡ j) → target_from i bs (base_at bs j + n) ≡ At (i + j) (n % 4)
+unfolding target_from
 target-here i [] j n h m only = absurd (omega (arith, h))
 target-here i (b ∷ bs) zero n h m only =
     let place : i + 0 ≡ i = omega arith in
     let distance : (b + n) - b ≡ n = omega arith in
     rw (answers b n m, place, distance)
-target-here i (b ∷ bs) (suc j) n h m only = go (answersAt b (base_at bs j + n)) refl (target-here (suc i) bs j n (le_of_suc-le-suc h) m later)
+target-here i (b ∷ bs) (suc j) n h m only = go (answers_at b (base_at bs j + n)) refl (target-here (suc i) bs j n (le_of_suc-le-suc h) m later)
   where
-    later : (k : ℕ) → k < length bs → answersAt (base_at bs k) (base_at bs j + n) ≡ true → k ≡ j
+    later : (k : ℕ) → k < length bs → answers_at (base_at bs k) (base_at bs j + n) ≡ true → k ≡ j
     later k g e = omega (arith, only (suc k) (omega (arith, g)) e)
 
-    go : (t : Bool) → answersAt b (base_at bs j + n) ≡ t → targetFrom (suc i) bs (base_at bs j + n) ≡ At (suc i + j) (n % 4)
-        → cond (answersAt b (base_at bs j + n)) (At i (registerAt b (base_at bs j + n))) (targetFrom (suc i) bs (base_at bs j + n)) ≡ At (i + suc j) (n % 4)
+    go : (t : Bool) → answers_at b (base_at bs j + n) ≡ t → target_from (suc i) bs (base_at bs j + n) ≡ At (suc i + j) (n % 4)
+        → cond (answers_at b (base_at bs j + n)) (At i (register_at b (base_at bs j + n))) (target_from (suc i) bs (base_at bs j + n)) ≡ At (i + suc j) (n % 4)
     go true e behind = absurd (omega (arith, only 0 (omega arith) e))
     go false e behind = let place : suc i + j ≡ i + suc j = omega arith in rw (e, behind, place)
 
 -- Where no card has the location, none is found.
-target-nowhere : (i : ℕ) (bs : List ℕ) (a : ℕ) → ((k : ℕ) → k < length bs → answersAt (base_at bs k) a ≡ false) → targetFrom i bs a ≡ NoCard
-unfolding targetFrom
+target-nowhere : (i : ℕ) (bs : List ℕ) (a : ℕ) → ((k : ℕ) → k < length bs → answers_at (base_at bs k) a ≡ false) → target_from i bs a ≡ NoCard
+unfolding target_from
 target-nowhere i [] a none = refl
 target-nowhere i (b ∷ bs) a none = rw (none 0 (omega arith)) (target-nowhere (suc i) bs a (λ k h. none (suc k) (omega (arith, h))))
 
 -- A register that is found is the address modulo 4, since each base is a multiple of 8.
 abbrev ByAddress : ℕ → Found → Type 0
-ByAddress a noCard = Unit {0}
+ByAddress a no_card = Unit {0}
 ByAddress a (found i register) = register ≡ a % 4
 
-by_address : (i : ℕ) (bs : List ℕ) (a : ℕ) → ((k : ℕ) → k < length bs → base_at bs k % 8 ≡ 0) → ByAddress a (asFound (targetFrom i bs a))
-unfolding targetFrom
+by_address : (i : ℕ) (bs : List ℕ) (a : ℕ) → ((k : ℕ) → k < length bs → base_at bs k % 8 ≡ 0) → ByAddress a (as_found (target_from i bs a))
+unfolding target_from
 by_address i [] a multiples = tt
 by_address i (b ∷ bs) a multiples =
-    by-test (λ (t : Target). ByAddress a (asFound t)) (answersAt b a) (At i (registerAt b a)) (targetFrom (suc i) bs a)
+    by-test (λ (t : Target). ByAddress a (as_found t)) (answers_at b a) (At i (register_at b a)) (target_from (suc i) bs a)
     (λ e. let two = within b a e in omega (arith, multiples 0 (omega arith), two.0, two.1))
     (λ e. by_address (suc i) bs a (λ k h. multiples (suc k) (omega (arith, h))))
 
@@ -71,15 +71,15 @@ module _ (bs : List ℕ) (good : GoodBases bs) where
   one-card i j n m h g n< m< same =
       good.apart i j h g (omega (arith, good.multiples i h, good.multiples j g, n<, m<, same))
 
-  only_one : (j n : ℕ) → j < length bs → n < 8 → (k : ℕ) → k < length bs → answersAt (base_at bs k) (base_at bs j + n) ≡ true → k ≡ j
+  only_one : (j n : ℕ) → j < length bs → n < 8 → (k : ℕ) → k < length bs → answers_at (base_at bs k) (base_at bs j + n) ≡ true → k ≡ j
   only_one j n h m k g e =
       let two = within (base_at bs k) (base_at bs j + n) e in
       one-card k j ((base_at bs j + n) - base_at bs k) n g h (omega (arith, two.0, two.1)) m (omega (arith, two.0))
 
-  nowhere : (a : ℕ) → ((i n : ℕ) → i < length bs → n < 8 → ¬ (a ≡ base_at bs i + n)) → (k : ℕ) → k < length bs → answersAt (base_at bs k) a ≡ false
-  nowhere a none k h = go (answersAt (base_at bs k) a) refl
+  nowhere : (a : ℕ) → ((i n : ℕ) → i < length bs → n < 8 → ¬ (a ≡ base_at bs i + n)) → (k : ℕ) → k < length bs → answers_at (base_at bs k) a ≡ false
+  nowhere a none k h = go (answers_at (base_at bs k) a) refl
     where
-      go : (t : Bool) → answersAt (base_at bs k) a ≡ t → answersAt (base_at bs k) a ≡ false
+      go : (t : Bool) → answers_at (base_at bs k) a ≡ t → answers_at (base_at bs k) a ≡ false
       go true e =
           let two = within (base_at bs k) a e in
           absurd (none k (a - base_at bs k) h (omega (arith, two.0, two.1)) (omega (arith, two.0)))
@@ -90,9 +90,9 @@ module _ (bs : List ℕ) (good : GoodBases bs) where
 
   pub located : Located bs
   located = record {
-    here = λ i n h m. sought 0 (base_at bs i + n) bs ∙ ap asFound (target-here 0 bs i n h m (only_one i n h m)) ∙ ap (λ (j : ℕ). found j (n % 4)) (zero-add i);
-    nowhere = λ a none. sought 0 a bs ∙ ap asFound (target-nowhere 0 bs a (nowhere a none));
-    oneCard = one-card;
-    sameRegister = λ a b i r q e f same. register-found a i r e ∙ same ∙ sym (register-found b i q f);
-    onlyThen = λ a b i r q e f same. sym (register-found a i r e) ∙ same ∙ register-found b i q f;
+    here = λ i n h m. sought 0 (base_at bs i + n) bs ∙ ap as_found (target-here 0 bs i n h m (only_one i n h m)) ∙ ap (λ (j : ℕ). found j (n % 4)) (zero-add i);
+    nowhere = λ a none. sought 0 a bs ∙ ap as_found (target-nowhere 0 bs a (nowhere a none));
+    one_card = one-card;
+    same_register = λ a b i r q e f same. register-found a i r e ∙ same ∙ sym (register-found b i q f);
+    only_then = λ a b i r q e f same. sym (register-found a i r e) ∙ same ∙ register-found b i q f;
   }

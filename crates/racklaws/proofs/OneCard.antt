@@ -9,8 +9,8 @@ use lib.Seq.{get_or-set_same, get_or-set_other}
 use Rattle.events.specs.Event.{Event, event}
 use Rattle.bus.specs.declared.Phase.{Phase}
 use Rattle.bus.specs.Refusals.{number_of}
-use Rattle.bus.specs.Device.{stepIn}
-use Rattle.bus.specs.Cycles.{phaseAfter}
+use Rattle.bus.specs.Device.{step_in}
+use Rattle.bus.specs.Cycles.{phase_after}
 use Rattle.bus.proofs.Phases.{phase-goes}
 use Rattle.chip.specs.declared.Core.{Core}
 use Rattle.chip.specs.declared.Edition.{Edition}
@@ -20,60 +20,60 @@ use Rattle.step.proofs.Outcome.{step-accepts, step-number}
 use Rattle.laws.proofs.Editions.{edition-stays}
 use Rattle.rack.specs.declared.Rack.{Rack}
 use Rattle.rack.specs.declared.event.Stepped.{Stepped}
-use Rattle.rack.specs.Bases.{mostCards}
-use Rattle.rack.specs.State.{number_at, seen_at, noCore, chipAt, cardEdition}
-use Rattle.rack.specs.Step.{reachedBy, device, asStepped}
-use Rattle.rack.proofs.OnCard.{rackIn, cardStepped, accepted-there, reached-below, one-card}
-use Rattle.racklaws.specs.Whom.{card as toCard}
-use Rattle.racklaws.specs.Promise.{ForOne, Whole, Follows, busOf}
+use Rattle.rack.specs.Bases.{most_cards}
+use Rattle.rack.specs.State.{number_at, seen_at, no_core, chip_at, card_edition}
+use Rattle.rack.specs.Step.{reached_by, device, as_stepped}
+use Rattle.rack.proofs.OnCard.{rack_in, card_stepped, accepted-there, reached-below, one-card}
+use Rattle.racklaws.specs.Whom.{card as to_card}
+use Rattle.racklaws.specs.Promise.{ForOne, Whole, Follows, bus_of}
 use Rattle.racklaws.proofs.Seen.{seen-own, seen-others}
 
-module _ (count : ℕ) (bases : List ℕ) (cores : List Core) (ph : Phase) (whole : Whole (rackIn count bases cores ph)) (i r d k : ℕ) (h : i < mostCards)
-    (n : ¬ (k ≡ 0)) (e : number_of (card.limits cardEdition) ph k r ≡ 0) where
+module _ (count : ℕ) (bases : List ℕ) (cores : List Core) (ph : Phase) (whole : Whole (rack_in count bases cores ph)) (i r d k : ℕ) (h : i < most_cards)
+    (n : ¬ (k ≡ 0)) (e : number_of (card.limits card_edition) ph k r ≡ 0) where
   abbrev rack : Rack
-  rack = rackIn count bases cores ph
+  rack = rack_in count bases cores ph
 
   abbrev place : ℕ
-  place = reachedBy ph k i
+  place = reached_by ph k i
 
   abbrev own : Event
   own = event k r d
 
   abbrev given : Stepped
-  given = asStepped (cardStepped count bases cores i r d h ph k)
+  given = as_stepped (card_stepped count bases cores i r d h ph k)
 
-  its-phase : (stepped (chipAt rack place) own).chip.phase ≡ phaseAfter (seen_at place ph) k r d
-  unfolding chipAt
-  its-phase = rw (step-accepts (chipAt rack place) k r d (accepted-there ph i r k n e)) (phase-goes card.device (chipAt rack place) k r d)
+  its-phase : (stepped (chip_at rack place) own).chip.phase ≡ phase_after (seen_at place ph) k r d
+  unfolding chip_at
+  its-phase = rw (step-accepts (chip_at rack place) k r d (accepted-there ph i r k n e)) (phase-goes card.device (chip_at rack place) k r d)
 
-  changed : chipAt given.rack place ≡ (stepped (chipAt rack place) own).chip
-  unfolding chipAt
+  changed : chip_at given.rack place ≡ (stepped (chip_at rack place) own).chip
+  unfolding chip_at
   changed =
-      let after = (stepped (chipAt rack place) own).chip in
+      let after = (stepped (chip_at rack place) own).chip in
       let below : place < length cores = omega (arith, reached-below ph k i h, whole.cores) in
-      rw (seen-own i r d h ph k n e, get_or-set_same cores place after.core noCore below)
-      (ap (λ (p : Phase). card.onBus p cardEdition after.core) (sym its-phase)
-      ∙ ap (λ (ed : Edition). card.onBus after.phase ed after.core) (sym (edition-stays (chipAt rack place) k r d)))
+      rw (seen-own i r d h ph k n e, get_or-set_same cores place after.core no_core below)
+      (ap (λ (p : Phase). card.on_bus p card_edition after.core) (sym its-phase)
+      ∙ ap (λ (ed : Edition). card.on_bus after.phase ed after.core) (sym (edition-stays (chip_at rack place) k r d)))
 
-  others : (j : ℕ) → ¬ (j ≡ place) → chipAt given.rack j ≡ chipAt rack j
-  unfolding chipAt
-  others j other = rw (seen-others i r d h ph k n e j other, get_or-set_other cores place j (stepped (chipAt rack place) own).chip.core noCore other)
+  others : (j : ℕ) → ¬ (j ≡ place) → chip_at given.rack j ≡ chip_at rack j
+  unfolding chip_at
+  others j other = rw (seen-others i r d h ph k n e j other, get_or-set_other cores place j (stepped (chip_at rack place) own).chip.core no_core other)
 
-  there : (stepped (chipAt rack place) own).number ≡ 0
-  unfolding chipAt
-  there = step-number (chipAt rack place) k r d ∙ accepted-there ph i r k n e
+  there : (stepped (chip_at rack place) own).number ≡ 0
+  unfolding chip_at
+  there = step-number (chip_at rack place) k r d ∙ accepted-there ph i r k n e
 
   one-reached : ForOne rack given place own
   one-reached = record {
     place = reached-below ph k i h;
     accepted = refl;
-    acceptedThere = there;
+    accepted_there = there;
     byte = refl;
     changed = changed;
     others = others;
   }
 
-  pub card-follows : Follows rack (asStepped (stepIn device rack k (number_at i r) d)) (toCard place own) (busOf (phaseAfter ph k (number_at i r) d))
+  pub card-follows : Follows rack (as_stepped (step_in device rack k (number_at i r) d)) (to_card place own) (bus_of (phase_after ph k (number_at i r) d))
   card-follows = rw (one-card count bases cores i r d h ph k n e) record {
     reached = one-reached;
     bus = refl;

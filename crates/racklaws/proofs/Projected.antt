@@ -10,33 +10,33 @@ use Rattle.events.specs.Event.{Event}
 use Rattle.chip.specs.declared.Chip.{Chip}
 use Rattle.rack.specs.declared.Rack.{Rack}
 use Rattle.rack.specs.declared.event.Stepped.{Stepped}
-use Rattle.rack.specs.Bases.{mostCards}
-use Rattle.rack.specs.State.{chipAt}
+use Rattle.rack.specs.Bases.{most_cards}
+use Rattle.rack.specs.State.{chip_at}
 use Rattle.fates.specs.Promise.{run}
-use Rattle.racklaws.specs.Whom.{RackEvent, Whom, nobody, everybody, card, part, busNext}
-use Rattle.racklaws.specs.Promise.{rackStepped, busOf, basesOf, whomIn, Reached, Whole, Follows, GoesOn}
+use Rattle.racklaws.specs.Whom.{RackEvent, Whom, nobody, everybody, card, part, bus_next}
+use Rattle.racklaws.specs.Promise.{rack_stepped, bus_of, bases_of, whom_in, Reached, Whole, Follows, GoesOn}
 use Rattle.racklaws.proofs.Followed.{followed}
 
 -- What an event reaches of a card, the card does.
-part-run : (r : Rack) (given : Stepped) (w : Whom) → Reached r given w → (i : ℕ) → i < mostCards → (later : List Event)
-    → run (chipAt r i) (part i w ++ later) ≡ run (chipAt given.rack i) later
-part-run r given nobody reached i h later = ap (λ (a : Rack). run (chipAt a i) later) (sym reached.unchanged)
+part-run : (r : Rack) (given : Stepped) (w : Whom) → Reached r given w → (i : ℕ) → i < most_cards → (later : List Event)
+    → run (chip_at r i) (part i w ++ later) ≡ run (chip_at given.rack i) later
+part-run r given nobody reached i h later = ap (λ (a : Rack). run (chip_at a i) later) (sym reached.unchanged)
 part-run r given (everybody own) reached i h later = ap (λ (c : Chip). run c later) (sym (reached.each i h))
 part-run r given (card j own) reached i h later = go (eqb i j) refl
   where
-    go : (t : Bool) → eqb i j ≡ t → run (chipAt r i) (cond t (own ∷ []) [] ++ later) ≡ run (chipAt given.rack i) later
+    go : (t : Bool) → eqb i j ≡ t → run (chip_at r i) (cond t (own ∷ []) [] ++ later) ≡ run (chip_at given.rack i) later
     go true e = rw (eqb-true i j e) (ap (λ (c : Chip). run c later) (sym reached.changed))
     go false e = ap (λ (c : Chip). run c later) (sym (reached.others i (eqb-false i j e)))
 
-pub goes_on : (r : Rack) → Whole r → (es : List RackEvent) → GoesOn r es
-goes_on r whole [] = record { whole = whole; bases = refl; bus = refl; card = λ i h. refl }
-goes_on r whole (e ∷ es) = next r e es (followed r whole e) (goes_on (rackStepped r e).rack (followed r whole e).whole es)
+pub goes-on : (r : Rack) → Whole r → (es : List RackEvent) → GoesOn r es
+goes-on r whole [] = record { whole = whole; bases = refl; bus = refl; card = λ i h. refl }
+goes-on r whole (e ∷ es) = next r e es (followed r whole e) (goes-on (rack_stepped r e).rack (followed r whole e).whole es)
   where
     next : (r : Rack) (e : RackEvent) (es : List RackEvent)
-        → Follows r (rackStepped r e) (whomIn r e) (busNext (basesOf r) (busOf r.bus.phase) e) → GoesOn (rackStepped r e).rack es → GoesOn r (e ∷ es)
+        → Follows r (rack_stepped r e) (whom_in r e) (bus_next (bases_of r) (bus_of r.bus.phase) e) → GoesOn (rack_stepped r e).rack es → GoesOn r (e ∷ es)
     next r e es f later = record {
       whole = later.whole;
       bases = later.bases ∙ f.bases;
       bus = later.bus ∙ rw (f.bases, f.bus);
-      card = λ i h. later.card i h ∙ rw (f.bases, f.bus) (sym (part-run r (rackStepped r e) (whomIn r e) f.reached i h _));
+      card = λ i h. later.card i h ∙ rw (f.bases, f.bus) (sym (part-run r (rack_stepped r e) (whom_in r e) f.reached i h _));
     }

@@ -6,9 +6,9 @@ use Prim.Native.Nat.{ℕ}
 use Rattle.events.specs.Event.{Event}
 use Rattle.rack.specs.declared.Rack.{Rack}
 use Rattle.rack.specs.declared.event.Stepped.{Stepped}
-use Rattle.rack.specs.State.{chipAt}
+use Rattle.rack.specs.State.{chip_at}
 use Rattle.racklaws.specs.Whom.{RackEvent, Whom, nobody, everybody, card, part}
-use Rattle.racklaws.specs.Promise.{rackStepped, whomIn, Reached, Whole}
+use Rattle.racklaws.specs.Promise.{rack_stepped, whom_in, Reached, Whole}
 use Rattle.racklaws.proofs.Followed.{followed}
 
 refused-nobody : (r : Rack) (given : Stepped) (w : Whom) → Reached r given w → ¬ (given.number ≡ 0) → w ≡ nobody
@@ -22,15 +22,15 @@ given_back s r same none = ap (λ (a : Rack). record { rack = a; number = s.numb
 
 module _ (r : Rack) (whole : Whole r) (e : RackEvent) where
   -- An event that the rack refuses reaches none of its cards.
-  pub refused-reaches-none : ¬ ((rackStepped r e).number ≡ 0) → (i : ℕ) → part i (whomIn r e) ≡ []
-  refused-reaches-none n i = ap (part i) (refused-nobody r (rackStepped r e) (whomIn r e) (followed r whole e).reached n)
+  pub refused-reaches-none : ¬ ((rack_stepped r e).number ≡ 0) → (i : ℕ) → part i (whom_in r e) ≡ []
+  refused-reaches-none n i = ap (part i) (refused-nobody r (rack_stepped r e) (whom_in r e) (followed r whole e).reached n)
 
   -- It changes nothing, in any card or on the bus, and its byte is 00.
-  pub refusal-changes-nothing : ¬ ((rackStepped r e).number ≡ 0) → rackStepped r e ≡ record { rack = r; number = (rackStepped r e).number; byte = 0 }
+  pub refusal-changes-nothing : ¬ ((rack_stepped r e).number ≡ 0) → rack_stepped r e ≡ record { rack = r; number = (rack_stepped r e).number; byte = 0 }
   refusal-changes-nothing n =
-      let f = subst (Reached r (rackStepped r e)) (refused-nobody r (rackStepped r e) (whomIn r e) (followed r whole e).reached n) (followed r whole e).reached in
-      given_back (rackStepped r e) r f.unchanged f.byte
+      let f = subst (Reached r (rack_stepped r e)) (refused-nobody r (rack_stepped r e) (whom_in r e) (followed r whole e).reached n) (followed r whole e).reached in
+      given_back (rack_stepped r e) r f.unchanged f.byte
 
   -- An event that reaches one card leaves every other as it was.
-  pub others-as-they-were : (i : ℕ) (own : Event) → whomIn r e ≡ card i own → (j : ℕ) → ¬ (j ≡ i) → chipAt (rackStepped r e).rack j ≡ chipAt r j
-  others-as-they-were i own reaches j other = (subst (Reached r (rackStepped r e)) reaches (followed r whole e).reached).others j other
+  pub others-as-they-were : (i : ℕ) (own : Event) → whom_in r e ≡ card i own → (j : ℕ) → ¬ (j ≡ i) → chip_at (rack_stepped r e).rack j ≡ chip_at r j
+  others-as-they-were i own reaches j other = (subst (Reached r (rack_stepped r e)) reaches (followed r whole e).reached).others j other

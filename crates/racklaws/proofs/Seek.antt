@@ -11,23 +11,23 @@ use borrow.Author.Tests.{ltb-true, lt-ltb, le-ltb, leb-true, leb-false, le-leb, 
 use Rattle.bits.proofs.Logic.{both}
 use Rattle.rack.specs.declared.targets.Target.{Target}
 use Rattle.rack.specs.declared.targets.Target.TheVariants.{NoCard, At}
-use Rattle.rack.specs.Targets.{answersAt, registerAt, targetFrom}
-use Rattle.racklaws.specs.Whom.{Found, noCard, found, shown, among, seek}
+use Rattle.rack.specs.Targets.{answers_at, register_at, target_from}
+use Rattle.racklaws.specs.Whom.{Found, no_card, found, shown, among, seek}
 
 -- The rack's target in those words.
-abbrev pub asFound : Target → Found
-asFound NoCard = noCard
-asFound (At i register) = found i register
+abbrev pub as_found : Target → Found
+as_found NoCard = no_card
+as_found (At i register) = found i register
 
 -- The register at location l, or what those behind it say, in numbers.
 module _ (i a l r : ℕ) (rs : List ℕ) (others : Found) where
-  abbrev inNumbers : Found
-  inNumbers = cond (leb l a && ltb a (l + suc (length rs))) (found i (get_or (r ∷ rs) (a - l) 0)) others
+  abbrev in_numbers : Found
+  in_numbers = cond (leb l a && ltb a (l + suc (length rs))) (found i (get_or (r ∷ rs) (a - l) 0)) others
 
   abbrev behind : Found
   behind = cond (leb (suc l) a && ltb a (suc l + length rs)) (found i (get_or rs (a - suc l) 0)) others
 
-  passed : (t : Bool) → leb (suc l) a ≡ t → ¬ (a ≡ l) → behind ≡ inNumbers
+  passed : (t : Bool) → leb (suc l) a ≡ t → ¬ (a ≡ l) → behind ≡ in_numbers
   passed true e n =
       let next : a - l ≡ suc (a - suc l) = omega (arith, leb-true (suc l) a e) in
       let same : suc l + length rs ≡ l + suc (length rs) = omega arith in
@@ -37,7 +37,7 @@ module _ (i a l r : ℕ) (rs : List ℕ) (others : Found) where
       before : a < suc l → a < l
       before h = omega (arith, h, n)
 
-  located : (t : Bool) → eqb a l ≡ t → cond (eqb a l) (found i r) behind ≡ inNumbers
+  located : (t : Bool) → eqb a l ≡ t → cond (eqb a l) (found i r) behind ≡ in_numbers
   located true e =
       let here = eqb-true a l e in
       let none : a - l ≡ 0 = omega (arith, here) in
@@ -55,36 +55,36 @@ among-by i a l (r ∷ rs) others =
     ap (λ (o : Found). cond (eqb a l) (found i r) o) (among-by i a (suc l) rs others) ∙ located i a l r rs others (eqb a l) refl
 
 -- The eight registers shown are the remainders by 4.
-shown_by : (n : ℕ) → n < 8 → get_or shown n 0 ≡ n % 4
-shown_by zero h = refl
-shown_by (suc zero) h = refl
-shown_by (suc (suc zero)) h = refl
-shown_by (suc (suc (suc zero))) h = refl
-shown_by (suc (suc (suc (suc zero)))) h = refl
-shown_by (suc (suc (suc (suc (suc zero))))) h = refl
-shown_by (suc (suc (suc (suc (suc (suc zero)))))) h = refl
-shown_by (suc (suc (suc (suc (suc (suc (suc zero))))))) h = refl
-shown_by (suc (suc (suc (suc (suc (suc (suc (suc n)))))))) h = absurd (omega (arith, h))
+shown-by : (n : ℕ) → n < 8 → get_or shown n 0 ≡ n % 4
+shown-by zero h = refl
+shown-by (suc zero) h = refl
+shown-by (suc (suc zero)) h = refl
+shown-by (suc (suc (suc zero))) h = refl
+shown-by (suc (suc (suc (suc zero)))) h = refl
+shown-by (suc (suc (suc (suc (suc zero))))) h = refl
+shown-by (suc (suc (suc (suc (suc (suc zero)))))) h = refl
+shown-by (suc (suc (suc (suc (suc (suc (suc zero))))))) h = refl
+shown-by (suc (suc (suc (suc (suc (suc (suc (suc n)))))))) h = absurd (omega (arith, h))
 
 -- What a card's own locations decide.
-here : (i a b : ℕ) (others : Found) (t : Bool) → answersAt b a ≡ t
-    → cond (leb b a && ltb a (b + 8)) (found i (get_or shown (a - b) 0)) others ≡ cond (answersAt b a) (found i (registerAt b a)) others
-unfolding answersAt
+here : (i a b : ℕ) (others : Found) (t : Bool) → answers_at b a ≡ t
+    → cond (leb b a && ltb a (b + 8)) (found i (get_or shown (a - b) 0)) others ≡ cond (answers_at b a) (found i (register_at b a)) others
+unfolding answers_at
 here i a b others true e =
     let there = both (leb b a) (ltb a (b + 8)) e in
-    rw (e, shown_by (a - b) (omega (arith, leb-true b a there.0, ltb-true a (b + 8) there.1)))
+    rw (e, shown-by (a - b) (omega (arith, leb-true b a there.0, ltb-true a (b + 8) there.1)))
 here i a b others false e = rw e
 
-either : (t : Bool) (x y : Target) → asFound (cond t x y) ≡ cond t (asFound x) (asFound y)
+either : (t : Bool) (x y : Target) → as_found (cond t x y) ≡ cond t (as_found x) (as_found y)
 either true x y = refl
 either false x y = refl
 
-pub sought : (i a : ℕ) (bases : List ℕ) → seek i a bases ≡ asFound (targetFrom i bases a)
-unfolding targetFrom
+pub sought : (i a : ℕ) (bases : List ℕ) → seek i a bases ≡ as_found (target_from i bases a)
+unfolding target_from
 sought i a [] = refl
 sought i a (b ∷ bs) = rw (
   among-by i a b shown (seek (suc i) a bs),
-  here i a b (seek (suc i) a bs) (answersAt b a) refl,
+  here i a b (seek (suc i) a bs) (answers_at b a) refl,
   sought (suc i) a bs,
-  either (answersAt b a) (At i (registerAt b a)) (targetFrom (suc i) bs a),
+  either (answers_at b a) (At i (register_at b a)) (target_from (suc i) bs a),
 )

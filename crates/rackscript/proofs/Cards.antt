@@ -9,8 +9,8 @@ use Rattle.rack.specs.declared.event.Stepped.{Stepped}
 use Rattle.text.specs.Lines.{lf, Line}
 use Rattle.rackscript.specs.declared.frames.RackFrame.{RackFrame}
 use Rattle.rackscript.specs.declared.frames.RackFrame.TheVariants.{Event, NoFrame}
-use Rattle.rackscript.specs.Frames.{rackFrameIn}
-use Rattle.rackscript.specs.Answers.{acted, atLine, allLevels, lineText, lineWidth}
+use Rattle.rackscript.specs.Frames.{rack_frame_in}
+use Rattle.rackscript.specs.Answers.{acted, at_line, all_levels, line_text, line_width}
 use Rattle.rack.proofs.Stays.{cards-stay}
 use Rattle.rackscript.proofs.Levels.{levels-length}
 
@@ -19,9 +19,9 @@ unfolding acted
 acted-count r (Event k x y z) = (cards-stay r k x y z).0
 acted-count r NoFrame = refl
 
-pub count-stays : (r : Rack) (l : Line) → (atLine r l).rack.count ≡ r.count
-count-stays r l = acted-count r (rackFrameIn l)
+pub count-stays : (r : Rack) (l : Line) → (at_line r l).rack.count ≡ r.count
+count-stays r l = acted-count r (rack_frame_in l)
 
-pub line-length : (s : Stepped) → length (lineText s) ≡ lineWidth s.rack.count
-unfolding lineText
-line-length s = omega (arith, length-append (allLevels s.rack) (lf ∷ []), levels-length s.rack)
+pub line-length : (s : Stepped) → length (line_text s) ≡ line_width s.rack.count
+unfolding line_text
+line-length s = omega (arith, length-append (all_levels s.rack) (lf ∷ []), levels-length s.rack)

@@ -12,56 +12,56 @@ use lib.ListN.{length, drop, length-append}
 use lib.Seq.{drop_at}
 use borrow.Author.Tests.{ltb-true, ltb-false}
 use Rattle.rack.specs.declared.Rack.{Rack}
-use Rattle.rack.specs.Bases.{badRackNumber}
-use Rattle.script.specs.Run.{longestScript, tooLong, tooLongNumber, noRoomNumber}
+use Rattle.rack.specs.Bases.{bad_rack_number}
+use Rattle.script.specs.Run.{longest_script, too_long, too_long_number, no_room_number}
 use Rattle.text.specs.Lines.{Line}
 use Rattle.rackscript.specs.declared.Ran.{Ran}
-use Rattle.rackscript.specs.Answers.{atLine, lineText, lineWidth, answersFrom}
-use Rattle.rackscript.specs.Run.{namesRack, rackNamed, toAnswer, room_for, roomForText, runNumber, ranBy, ranOf, outputLeft}
+use Rattle.rackscript.specs.Answers.{at_line, line_text, line_width, answers_from}
+use Rattle.rackscript.specs.Run.{names_rack, rack_named, to_answer, room_for, room_for_text, run_number, ran_by, ran_of, output_left}
 use Rattle.rackscript.proofs.Cards.{count-stays, line-length}
-use Rattle.rackscript.proofs.Room.{mostRoom, most-room}
+use Rattle.rackscript.proofs.Room.{most_room, most-room}
 
 -- One width to a line.
-pub answers-length : (r : Rack) (ls : List Line) → length (answersFrom r ls) ≡ room_for r ls
-unfolding answersFrom
-answers-length r [] = sym (mul-zero (lineWidth r.count))
+pub answers-length : (r : Rack) (ls : List Line) → length (answers_from r ls) ≡ room_for r ls
+unfolding answers_from
+answers-length r [] = sym (mul-zero (line_width r.count))
 answers-length r (l ∷ ls) =
-    let first = line-length (atLine r l) ∙ ap lineWidth (count-stays r l) in
-    let later = answers-length (atLine r l).rack ls ∙ ap (λ (n : ℕ). lineWidth n * length ls) (count-stays r l) in
-    length-append (lineText (atLine r l)) (answersFrom (atLine r l).rack ls)
-    ∙ rw (first, later, mul-suc (lineWidth r.count) (length ls)) (add_comm (lineWidth r.count) (lineWidth r.count * length ls))
+    let first = line-length (at_line r l) ∙ ap line_width (count-stays r l) in
+    let later = answers-length (at_line r l).rack ls ∙ ap (λ (n : ℕ). line_width n * length ls) (count-stays r l) in
+    length-append (line_text (at_line r l)) (answers_from (at_line r l).rack ls)
+    ∙ rw (first, later, mul-suc (line_width r.count) (length ls)) (add_comm (line_width r.count) (line_width r.count * length ls))
 
 -- An accepted run leaves every byte behind its answers.
-pub behind-stays : (text out : List ℕ) → runNumber text (length out) ≡ 0
-    → drop (roomForText text) (outputLeft text out) ≡ drop (roomForText text) out
+pub behind-stays : (text out : List ℕ) → run_number text (length out) ≡ 0
+    → drop (room_for_text text) (output_left text out) ≡ drop (room_for_text text) out
 behind-stays text out e =
-    let answers : List ℕ = answersFrom (rackNamed text) (toAnswer text) in
-    rw (e) (drop_at answers (drop (roomForText text) out) (roomForText text) (answers-length (rackNamed text) (toAnswer text)))
+    let answers : List ℕ = answers_from (rack_named text) (to_answer text) in
+    rw (e) (drop_at answers (drop (room_for_text text) out) (room_for_text text) (answers-length (rack_named text) (to_answer text)))
 
 -- The number of a run by its three tests.
 abbrev first_of : Bool → Bool → Bool → ℕ
-first_of long rack short = cond long tooLongNumber (cond (not rack) badRackNumber (cond short noRoomNumber 0))
+first_of long rack short = cond long too_long_number (cond (not rack) bad_rack_number (cond short no_room_number 0))
 
 -- What a run says that it wrote lies within the output.
-pub answers-fit : (text : List ℕ) (room : ℕ) (r : Ran) → r ≡ ranOf text room → r.length ≤ room
-unfolding runNumber
-answers-fit text room r is = rw (is) (go (tooLong text) (namesRack text) (ltb room (roomForText text)) refl)
+pub answers-fit : (text : List ℕ) (room : ℕ) (r : Ran) → r ≡ ran_of text room → r.length ≤ room
+unfolding run_number
+answers-fit text room r is = rw (is) (go (too_long text) (names_rack text) (ltb room (room_for_text text)) refl)
   where
-    go : (long rack short : Bool) → ltb room (roomForText text) ≡ short → (ranBy (first_of long rack short) text).length ≤ room
+    go : (long rack short : Bool) → ltb room (room_for_text text) ≡ short → (ran_by (first_of long rack short) text).length ≤ room
     go true rack short e = omega arith
     go false false short e = omega arith
     go false true true e = omega arith
-    go false true false e = ltb-false room (roomForText text) e
+    go false true false e = ltb-false room (room_for_text text) e
 
 -- Where there is room enough for any script no text is refused with 7.
-pub room-enough : (text : List ℕ) (room : ℕ) → mostRoom ≤ room → ¬ (runNumber text room ≡ noRoomNumber)
-unfolding runNumber
-room-enough text room enough = go (tooLong text) (namesRack text) (ltb room (roomForText text)) refl refl
+pub room-enough : (text : List ℕ) (room : ℕ) → most_room ≤ room → ¬ (run_number text room ≡ no_room_number)
+unfolding run_number
+room-enough text room enough = go (too_long text) (names_rack text) (ltb room (room_for_text text)) refl refl
   where
-    go : (long rack short : Bool) → tooLong text ≡ long → ltb room (roomForText text) ≡ short
-        → ¬ (first_of long rack short ≡ noRoomNumber)
+    go : (long rack short : Bool) → too_long text ≡ long → ltb room (room_for_text text) ≡ short
+        → ¬ (first_of long rack short ≡ no_room_number)
     go true rack short l e seven = omega (arith, seven)
     go false false short l e seven = omega (arith, seven)
     go false true false l e seven = omega (arith, seven)
     go false true true l e seven =
-        omega (arith, ltb-true room (roomForText text) e, enough, most-room text (ltb-false longestScript (length text) l))
+        omega (arith, ltb-true room (room_for_text text) e, enough, most-room text (ltb-false longest_script (length text) l))

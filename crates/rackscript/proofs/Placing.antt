@@ -8,38 +8,38 @@ use native.Mathlib.Numerals.{add-one}
 use native.Mathlib.Omega.{arith}
 use lib.ListN.{length, take, drop, set, length-drop, length-set}
 use lib.Seq.{drop-drop, take-suc-set}
-use Rattle.rack.specs.Bases.{mostCards}
-use Rattle.rackscript.specs.Bases.{baseDigits, leadingBase, basesOfLine}
+use Rattle.rack.specs.Bases.{most_cards}
+use Rattle.rackscript.specs.Bases.{base_digits, leading_base, bases_of_line}
 
 -- A line that is not blank is its first base and those behind it.
-first-base : (codes : List ℕ) → 0 < length codes → basesOfLine codes ≡ leadingBase codes ∷ basesOfLine (drop baseDigits codes)
-unfolding basesOfLine leadingBase
+first-base : (codes : List ℕ) → 0 < length codes → bases_of_line codes ≡ leading_base codes ∷ bases_of_line (drop base_digits codes)
+unfolding bases_of_line leading_base
 first-base [] h = absurd (not-suc-le-zero h)
 first-base (a ∷ []) h = refl
 first-base (a ∷ b ∷ []) h = refl
 first-base (a ∷ b ∷ c ∷ []) h = refl
 first-base (a ∷ b ∷ c ∷ d ∷ later) h = refl
 
-blank : (codes : List ℕ) → length codes ≤ 0 → basesOfLine codes ≡ []
-unfolding basesOfLine
+blank : (codes : List ℕ) → length codes ≤ 0 → bases_of_line codes ≡ []
+unfolding bases_of_line
 blank [] h = refl
 blank (a ∷ codes) h = absurd (not-suc-le-zero h)
 
 -- n bases are in their places, and with those that are left they are the line's.
 pub record Placed (line places : List ℕ) (n : ℕ) : Type 0 where
-  pub eight : length places ≡ mostCards
-  pub reached : baseDigits * n < length line + baseDigits
-  pub comes : take n places ++ basesOfLine (drop (baseDigits * n) line) ≡ basesOfLine line
+  pub eight : length places ≡ most_cards
+  pub reached : base_digits * n < length line + base_digits
+  pub comes : take n places ++ bases_of_line (drop (base_digits * n) line) ≡ bases_of_line line
 
-pub none_yet : (line places : List ℕ) → length places ≡ mostCards → Placed line places 0
+pub none_yet : (line places : List ℕ) → length places ≡ most_cards → Placed line places 0
 none_yet line places long = record { eight = long; reached = omega arith; comes = refl }
 
-module _ (line places : List ℕ) (n : ℕ) (few : length line ≤ baseDigits * mostCards) (so : Placed line places n) where
-  pub one_more : (b : ℕ) → baseDigits * n < length line → b ≡ leadingBase (drop (baseDigits * n) line)
+module _ (line places : List ℕ) (n : ℕ) (few : length line ≤ base_digits * most_cards) (so : Placed line places n) where
+  pub one-more : (b : ℕ) → base_digits * n < length line → b ≡ leading_base (drop (base_digits * n) line)
       → Placed line (set places n b) (n + 1)
-  one_more b more is =
-      let left = first-base (drop (baseDigits * n) line) (omega (arith, length-drop (baseDigits * n) line)) in
-      let next : baseDigits * n + baseDigits ≡ baseDigits * (n + 1) = omega arith in
+  one-more b more is =
+      let left = first-base (drop (base_digits * n) line) (omega (arith, length-drop (base_digits * n) line)) in
+      let next : base_digits * n + base_digits ≡ base_digits * (n + 1) = omega arith in
       let free : n < length places = omega (arith, so.eight) in
       let front : take (n + 1) (set places n b) ≡ take n places ++ (b ∷ []) = rw (add-one n) (take-suc-set places n b free) in
       record {
@@ -48,16 +48,16 @@ module _ (line places : List ℕ) (n : ℕ) (few : length line ≤ baseDigits * 
         comes =
             rw (
               front,
-              append_assoc (take n places) (b ∷ []) (basesOfLine (drop (baseDigits * (n + 1)) line)),
+              append_assoc (take n places) (b ∷ []) (bases_of_line (drop (base_digits * (n + 1)) line)),
               is,
               ← next,
-              ← drop-drop baseDigits (baseDigits * n) line,
+              ← drop-drop base_digits (base_digits * n) line,
               ← left,
             )
             so.comes;
       }
 
-  pub all_placed : length line ≤ baseDigits * n → (n ≤ length places) × (take n places ≡ basesOfLine line)
+  pub all_placed : length line ≤ base_digits * n → (n ≤ length places) × (take n places ≡ bases_of_line line)
   all_placed over =
-      let none = blank (drop (baseDigits * n) line) (omega (arith, length-drop (baseDigits * n) line)) in
+      let none = blank (drop (base_digits * n) line) (omega (arith, length-drop (base_digits * n) line)) in
       (omega (arith, so.reached, so.eight), rw (← so.comes, none, append-nil (take n places)))

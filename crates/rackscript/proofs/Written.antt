@@ -9,108 +9,108 @@ use lib.Dec.{eqb, leb}
 use borrow.Author.Tests.{lt-ltb, leb-true}
 use Rattle.bits.proofs.Logic.{both}
 use Rattle.events.specs.Kinds as kinds
-use Rattle.events.specs.Kinds.{isKind}
-use Rattle.rack.specs.Bases.{cardWidth, lastBase, isBase, isAmong, areBases}
-use Rattle.text.specs.Digits.{noByte, digitCode, pairValue, inDigits}
-use Rattle.text.specs.Frames.{leadingByte}
+use Rattle.events.specs.Kinds.{is_kind}
+use Rattle.rack.specs.Bases.{card_width, last_base, is_base, is_among, are_bases}
+use Rattle.text.specs.Digits.{no_byte, digit_code, pair_value, in_digits}
+use Rattle.text.specs.Frames.{leading_byte}
 use Rattle.text.proofs.Written.{pair-written}
 use Rattle.rackscript.specs.declared.frames.RackFrame.TheVariants.{Event}
-use Rattle.rackscript.specs.Bases.{base_of, leadingBase, basesOfLine}
-use Rattle.rackscript.specs.Frames.{operandBytes, isRackFrame, eventOf, rackFrameOf}
+use Rattle.rackscript.specs.Bases.{base_of, leading_base, bases_of_line}
+use Rattle.rackscript.specs.Frames.{operand_bytes, is_rack_frame, event_of, rack_frame_of}
 
 -- An address, or a base, in four digits.
-abbrev pub inFour : ℕ → List ℕ
-inFour a = inDigits (a / 256) ++ inDigits (a % 256)
+abbrev pub in_four : ℕ → List ℕ
+in_four a = in_digits (a / 256) ++ in_digits (a % 256)
 
 module _ (a : ℕ) (fits : a < 65536) where
-  high_fits : a / 256 < noByte
+  high_fits : a / 256 < no_byte
   high_fits = omega arith
 
-  low_fits : a % 256 < noByte
+  low_fits : a % 256 < no_byte
   low_fits = omega arith
 
   together : a % 256 + 256 * (a / 256) ≡ a
   together = omega arith
 
-pub reset-written : rackFrameOf (inDigits kinds.reset) ≡ Event kinds.reset 0 0 0
-unfolding rackFrameOf isRackFrame eventOf operandBytes isKind leadingByte
+pub reset-written : rack_frame_of (in_digits kinds.reset) ≡ Event kinds.reset 0 0 0
+unfolding rack_frame_of is_rack_frame event_of operand_bytes is_kind leading_byte
 reset-written = rw (pair-written kinds.reset (omega arith))
 
-pub end-written : rackFrameOf (inDigits kinds.endCycle) ≡ Event kinds.endCycle 0 0 0
-unfolding rackFrameOf isRackFrame eventOf operandBytes isKind leadingByte
-end-written = rw (pair-written kinds.endCycle (omega arith))
+pub end-written : rack_frame_of (in_digits kinds.end_cycle) ≡ Event kinds.end_cycle 0 0 0
+unfolding rack_frame_of is_rack_frame event_of operand_bytes is_kind leading_byte
+end-written = rw (pair-written kinds.end_cycle (omega arith))
 
 module _ (a : ℕ) (fits : a < 65536) where
-  high_read : pairValue (digitCode (a / 256 / 16)) (digitCode (a / 256)) ≡ a / 256
+  high_read : pair_value (digit_code (a / 256 / 16)) (digit_code (a / 256)) ≡ a / 256
   high_read = pair-written (a / 256) (high_fits a fits)
 
-  low_read : pairValue (digitCode (a % 256 / 16)) (digitCode (a % 256)) ≡ a % 256
+  low_read : pair_value (digit_code (a % 256 / 16)) (digit_code (a % 256)) ≡ a % 256
   low_read = pair-written (a % 256) (low_fits a fits)
 
-  pub read-written : rackFrameOf (inDigits kinds.beginRead ++ inFour a) ≡ Event kinds.beginRead a 0 0
-  unfolding rackFrameOf isRackFrame eventOf operandBytes isKind leadingByte
+  pub read-written : rack_frame_of (in_digits kinds.begin_read ++ in_four a) ≡ Event kinds.begin_read a 0 0
+  unfolding rack_frame_of is_rack_frame event_of operand_bytes is_kind leading_byte
   read-written =
       rw (
-        pair-written kinds.beginRead (omega arith),
+        pair-written kinds.begin_read (omega arith),
         high_read,
         low_read,
-        lt-ltb (a / 256) noByte (high_fits a fits),
-        lt-ltb (a % 256) noByte (low_fits a fits),
+        lt-ltb (a / 256) no_byte (high_fits a fits),
+        lt-ltb (a % 256) no_byte (low_fits a fits),
         together a fits,
       )
 
-  pub write-written : (d : ℕ) → d < noByte → rackFrameOf (inDigits kinds.beginWrite ++ inFour a ++ inDigits d) ≡ Event kinds.beginWrite a d 0
-  unfolding rackFrameOf isRackFrame eventOf operandBytes isKind leadingByte
+  pub write-written : (d : ℕ) → d < no_byte → rack_frame_of (in_digits kinds.begin_write ++ in_four a ++ in_digits d) ≡ Event kinds.begin_write a d 0
+  unfolding rack_frame_of is_rack_frame event_of operand_bytes is_kind leading_byte
   write-written d hd =
       rw (
-        pair-written kinds.beginWrite (omega arith),
+        pair-written kinds.begin_write (omega arith),
         high_read,
         low_read,
         pair-written d hd,
-        lt-ltb (a / 256) noByte (high_fits a fits),
-        lt-ltb (a % 256) noByte (low_fits a fits),
-        lt-ltb d noByte hd,
+        lt-ltb (a / 256) no_byte (high_fits a fits),
+        lt-ltb (a % 256) no_byte (low_fits a fits),
+        lt-ltb d no_byte hd,
         together a fits,
       )
 
-  base-written : (later : List ℕ) → leadingBase (inFour a ++ later) ≡ a
-  unfolding leadingBase base_of
+  base-written : (later : List ℕ) → leading_base (in_four a ++ later) ≡ a
+  unfolding leading_base base_of
   base-written later =
       rw (
         high_read,
         low_read,
-        lt-ltb (a / 256) noByte (high_fits a fits),
-        lt-ltb (a % 256) noByte (low_fits a fits),
+        lt-ltb (a / 256) no_byte (high_fits a fits),
+        lt-ltb (a % 256) no_byte (low_fits a fits),
         together a fits,
       )
 
-pub levels-written : (place port d : ℕ) → place < noByte → port < noByte → d < noByte
-    → rackFrameOf (inDigits kinds.outsideLevels ++ inDigits place ++ inDigits port ++ inDigits d) ≡ Event kinds.outsideLevels place port d
-unfolding rackFrameOf isRackFrame eventOf operandBytes isKind leadingByte
+pub levels-written : (place port d : ℕ) → place < no_byte → port < no_byte → d < no_byte
+    → rack_frame_of (in_digits kinds.outside_levels ++ in_digits place ++ in_digits port ++ in_digits d) ≡ Event kinds.outside_levels place port d
+unfolding rack_frame_of is_rack_frame event_of operand_bytes is_kind leading_byte
 levels-written place port d hi hp hd =
     rw (
-      pair-written kinds.outsideLevels (omega arith),
+      pair-written kinds.outside_levels (omega arith),
       pair-written place hi,
       pair-written port hp,
       pair-written d hd,
-      lt-ltb place noByte hi,
-      lt-ltb port noByte hp,
-      lt-ltb d noByte hd,
+      lt-ltb place no_byte hi,
+      lt-ltb port no_byte hp,
+      lt-ltb d no_byte hd,
     )
 
 -- Bases, one behind the other.
-abbrev pub inFours : List ℕ → List ℕ
-inFours [] = []
-inFours (b ∷ bs) = inFour b ++ inFours bs
+abbrev pub in_fours : List ℕ → List ℕ
+in_fours [] = []
+in_fours (b ∷ bs) = in_four b ++ in_fours bs
 
-base-fits : (b : ℕ) → isBase b ≡ true → b < 65536
-unfolding isBase
-base-fits b e = omega (arith, leb-true b lastBase (both (eqb (b % cardWidth) 0) (leb b lastBase) e).1)
+base-fits : (b : ℕ) → is_base b ≡ true → b < 65536
+unfolding is_base
+base-fits b e = omega (arith, leb-true b last_base (both (eqb (b % card_width) 0) (leb b last_base) e).1)
 
-pub bases-written : (bs : List ℕ) → areBases bs ≡ true → basesOfLine (inFours bs) ≡ bs
-unfolding areBases basesOfLine
+pub bases-written : (bs : List ℕ) → are_bases bs ≡ true → bases_of_line (in_fours bs) ≡ bs
+unfolding are_bases bases_of_line
 bases-written [] e = refl
 bases-written (b ∷ bs) e =
-    let each = both (isBase b) (not (isAmong b bs) && areBases bs) e in
-    ap₂ (λ (b : ℕ) (bs : List ℕ). b ∷ bs) (base-written b (base-fits b each.0) (inFours bs))
-    (bases-written bs (both (not (isAmong b bs)) (areBases bs) each.1).1)
+    let each = both (is_base b) (not (is_among b bs) && are_bases bs) e in
+    ap₂ (λ (b : ℕ) (bs : List ℕ). b ∷ bs) (base-written b (base-fits b each.0) (in_fours bs))
+    (bases-written bs (both (not (is_among b bs)) (are_bases bs) each.1).1)

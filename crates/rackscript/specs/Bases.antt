@@ -1,53 +1,53 @@
 -- The rack that the first line of a text names ("A rack of cards").
 use Rattle.std.specs.Prelude.{cond, ◌&&◌, List, [], ◌∷◌, ℕ, ◌+◌, ◌*◌, ltb}
 use Rattle.rack.specs.declared.Built.{Built}
-use Rattle.rack.specs.Bases.{badRackNumber}
-use Rattle.rack.specs.State.{noCards, builtOf}
-use Rattle.text.specs.Digits.{noByte, pairValue}
+use Rattle.rack.specs.Bases.{bad_rack_number}
+use Rattle.rack.specs.State.{no_cards, built_of}
+use Rattle.text.specs.Digits.{no_byte, pair_value}
 use Rattle.text.specs.Lines.{Line, ended, rest}
 
 -- A base has four digits.
-abbrev pub baseDigits : ℕ
-baseDigits = 4
+abbrev pub base_digits : ℕ
+base_digits = 4
 
 -- What stands where no four digits were written: it is no base, so that there is no rack with it.
-abbrev pub noBase : ℕ
-noBase = 0xffff
+abbrev pub no_base : ℕ
+no_base = 0xffff
 
 -- The number of four digits, by the bytes that two and two of them write; no base where either is none.
 unfoldable pub base_of : ℕ → ℕ → ℕ
-base_of high low = cond (ltb high noByte && ltb low noByte) (low + 256 * high) noBase
+base_of high low = cond (ltb high no_byte && ltb low no_byte) (low + 256 * high) no_base
 
 -- The base that a text begins with: of its first four codes; no base where there are fewer.
-unfoldable pub leadingBase : List ℕ → ℕ
-leadingBase [] = noBase
-leadingBase (a ∷ []) = noBase
-leadingBase (a ∷ b ∷ []) = noBase
-leadingBase (a ∷ b ∷ c ∷ []) = noBase
-leadingBase (a ∷ b ∷ c ∷ d ∷ later) = base_of (pairValue a b) (pairValue c d)
+unfoldable pub leading_base : List ℕ → ℕ
+leading_base [] = no_base
+leading_base (a ∷ []) = no_base
+leading_base (a ∷ b ∷ []) = no_base
+leading_base (a ∷ b ∷ c ∷ []) = no_base
+leading_base (a ∷ b ∷ c ∷ d ∷ later) = base_of (pair_value a b) (pair_value c d)
 
 -- The bases that a line names, four digits each; a blank line names none.
-unfoldable pub basesOfLine : List ℕ → List ℕ
-basesOfLine [] = []
-basesOfLine (a ∷ []) = noBase ∷ []
-basesOfLine (a ∷ b ∷ []) = noBase ∷ []
-basesOfLine (a ∷ b ∷ c ∷ []) = noBase ∷ []
-basesOfLine (a ∷ b ∷ c ∷ d ∷ later) = leadingBase (a ∷ b ∷ c ∷ d ∷ later) ∷ basesOfLine later
+unfoldable pub bases_of_line : List ℕ → List ℕ
+bases_of_line [] = []
+bases_of_line (a ∷ []) = no_base ∷ []
+bases_of_line (a ∷ b ∷ []) = no_base ∷ []
+bases_of_line (a ∷ b ∷ c ∷ []) = no_base ∷ []
+bases_of_line (a ∷ b ∷ c ∷ d ∷ later) = leading_base (a ∷ b ∷ c ∷ d ∷ later) ∷ bases_of_line later
 
 -- What is no rack: its number, and then there is no card.
-abbrev pub noRack : Built
-noRack = record { number = badRackNumber; rack = noCards }
+abbrev pub no_rack : Built
+no_rack = record { number = bad_rack_number; rack = no_cards }
 
 -- The rack that a line names. A rest without LF names none, however well it is formed.
-unfoldable pub rackOfLine : Line → Built
-rackOfLine (ended bytes) = builtOf (basesOfLine bytes)
-rackOfLine (rest bytes) = noRack
+unfoldable pub rack_of_line : Line → Built
+rack_of_line (ended bytes) = built_of (bases_of_line bytes)
+rack_of_line (rest bytes) = no_rack
 
 -- The rack that some lines are for, which the first of them names; and the lines behind it, which are to be answered.
-unfoldable pub rackFor : List Line → Built
-rackFor [] = noRack
-rackFor (l ∷ ls) = rackOfLine l
+unfoldable pub rack_for : List Line → Built
+rack_for [] = no_rack
+rack_for (l ∷ ls) = rack_of_line l
 
-unfoldable pub furtherLines : List Line → List Line
-furtherLines [] = []
-furtherLines (l ∷ ls) = ls
+unfoldable pub further_lines : List Line → List Line
+further_lines [] = []
+further_lines (l ∷ ls) = ls

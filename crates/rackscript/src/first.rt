@@ -1,8 +1,8 @@
 // The first line of a rack's script: the bases that it has, and the rack that they make.
 ghost use Rattle.std.specs.Prelude.{◌≡◌, ◌-◌, ◌*◌, ◌≤◌, ◌<◌, length, take, drop};
-ghost use Rattle.rack.specs.Bases.{mostCards};
-ghost use Rattle.text.specs.LineEnds.{lineBetween};
-ghost use Rattle.rackscript.specs.Bases.{baseDigits, base_of, leadingBase, basesOfLine, noRack, rackOfLine};
+ghost use Rattle.rack.specs.Bases.{most_cards};
+ghost use Rattle.text.specs.LineEnds.{line_between};
+ghost use Rattle.rackscript.specs.Bases.{base_digits, base_of, leading_base, bases_of_line, no_rack, rack_of_line};
 
 use rack::{Built, MOST_CARDS};
 use text::digits::NO_BYTE;
@@ -34,7 +34,7 @@ fn base(high: u16, low: u16) -> u16
 // The base at that place of the line.
 fn base_at(line: &[u8], at: usize) -> u16
     requires { at < length line.now }
-    ensures { result ≡ leadingBase (drop at line.now) }
+    ensures { result ≡ leading_base (drop at line.now) }
 {
     if line.len() - at < BASE_DIGITS {
         return NO_BASE;
@@ -44,8 +44,8 @@ fn base_at(line: &[u8], at: usize) -> u16
 
 // The bases of a line that has not too many digits for a rack.
 fn bases(line: &[u8]) -> Named
-    requires { length line.now ≤ baseDigits * mostCards }
-    ensures { (result.count ≤ length result.bases) × (take result.count result.bases ≡ basesOfLine line.now) }
+    requires { length line.now ≤ base_digits * most_cards }
+    ensures { (result.count ≤ length result.bases) × (take result.count result.bases ≡ bases_of_line line.now) }
 {
     let mut bases = [0; 8];
     let mut count = 0;
@@ -58,14 +58,14 @@ fn bases(line: &[u8]) -> Named
 
 // What is no rack, as a building says it of a number that is no base.
 fn none() -> Built
-    ensures { result ≡ noRack }
+    ensures { result ≡ no_rack }
 {
     rack::build(&[NO_BASE])
 }
 
 // The rack that the text's line up to a place names; none where the text ends there, and not the line.
 pub(super) fn rack(text: &[u8], end: usize) -> Built
-    ensures { result ≡ rackOfLine (lineBetween text.now 0 end) }
+    ensures { result ≡ rack_of_line (line_between text.now 0 end) }
 {
     if text.len() <= end {
         return none();

@@ -1,7 +1,7 @@
 // The further lines of a rack's script: what one says, and what the rack makes of it.
 ghost use Rattle.std.specs.Prelude.{◌≡◌};
-ghost use Rattle.text.specs.LineEnds.{lineBetween};
-ghost use Rattle.rackscript.specs.Frames.{operandBytes, eventOf, rackFrameOf, rackFrameIn};
+ghost use Rattle.text.specs.LineEnds.{line_between};
+ghost use Rattle.rackscript.specs.Frames.{operand_bytes, event_of, rack_frame_of, rack_frame_in};
 ghost use Rattle.rackscript.specs.Answers.{acted};
 
 use events::{BEGIN_READ, BEGIN_WRITE, OUTSIDE_LEVELS};
@@ -19,7 +19,7 @@ pub(super) enum RackFrame {
 
 // How many bytes the operands of a kind have; none where there is no such kind.
 fn operand_bytes(kind: u16) -> u8
-    ensures { result ≡ operandBytes kind }
+    ensures { result ≡ operand_bytes kind }
 {
     if kind == BEGIN_READ as u16 {
         return 2;
@@ -32,7 +32,7 @@ fn operand_bytes(kind: u16) -> u8
 
 // The event of a kind and the bytes behind it. The first two of a cycle are its address.
 fn event(kind: u8, first: u8, second: u8, third: u8) -> RackFrame
-    ensures { result ≡ eventOf kind first second third }
+    ensures { result ≡ event_of kind first second third }
 {
     if (kind == BEGIN_READ) | (kind == BEGIN_WRITE) {
         return RackFrame::Event(kind, bits::pair(second, first), third, 0);
@@ -42,7 +42,7 @@ fn event(kind: u8, first: u8, second: u8, third: u8) -> RackFrame
 
 // What a line says; its LF is not part of it.
 fn frame(line: &[u8]) -> RackFrame
-    ensures { result ≡ rackFrameOf line.now }
+    ensures { result ≡ rack_frame_of line.now }
 {
     let kind = line::byte_at(line, 0);
     let first = line::byte_at(line, 2);
@@ -58,7 +58,7 @@ fn frame(line: &[u8]) -> RackFrame
 
 // What the line between two places says; nothing where the text ends there, and not the line.
 pub(super) fn in_text(text: &[u8], start: usize, end: usize) -> RackFrame
-    ensures { result ≡ rackFrameIn (lineBetween text.now start end) }
+    ensures { result ≡ rack_frame_in (line_between text.now start end) }
 {
     if end < start {
         return RackFrame::NoFrame;

@@ -1,8 +1,8 @@
 // The run of a rack's script: a text whose first line has the bases of the cards, and each further line a frame, which the rack answers.
 ghost use Rattle.std.specs.Prelude.{◌≡◌, ◌≤◌, length};
-ghost use Rattle.rack.specs.Bases.{mostCards};
+ghost use Rattle.rack.specs.Bases.{most_cards};
 ghost use Rattle.text.specs.Lines.{lines_of};
-ghost use Rattle.rackscript.specs.Run.{room_for, refusedRun, ranOf, filled, outputLeft};
+ghost use Rattle.rackscript.specs.Run.{room_for, refused_run, ran_of, filled, output_left};
 
 use bus::ACCEPTED;
 use rack::{BAD_RACK, Rack};
@@ -26,7 +26,7 @@ pub struct Ran {
 
 // A run that is refused answers no line.
 fn refuse(number: u8) -> Ran
-    ensures { result ≡ refusedRun number }
+    ensures { result ≡ refused_run number }
 {
     Ran {
         number,
@@ -37,7 +37,7 @@ fn refuse(number: u8) -> Ran
 
 // Answers every line of a text, each from where the last answer stopped.
 fn answer_all(mut rack: Rack, text: &[u8], out: &mut [u8])
-    requires { (rack.count ≤ mostCards) × (room_for rack (lines_of text.now) ≤ length out.old) }
+    requires { (rack.count ≤ most_cards) × (room_for rack (lines_of text.now) ≤ length out.old) }
     ensures { out.new ≡ filled rack (lines_of text.now) out.old }
 {
     let width = writer::width(rack.count);
@@ -55,7 +55,7 @@ fn answer_all(mut rack: Rack, text: &[u8], out: &mut [u8])
 
 // Runs a text on the rack that its first line names, and leaves the output where the run is refused.
 pub fn run(text: &[u8], out: &mut [u8]) -> Ran
-    ensures { (result ≡ ranOf text.now (length out.old)) × (out.new ≡ outputLeft text.now out.old) }
+    ensures { (result ≡ ran_of text.now (length out.old)) × (out.new ≡ output_left text.now out.old) }
 {
     if LONGEST < text.len() {
         return refuse(TOO_LONG);

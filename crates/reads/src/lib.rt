@@ -1,13 +1,13 @@
 // A read, which begins and ends: it hands over the byte of a strobed input, and then empties the channel.
 ghost use Rattle.std.specs.Prelude.{◌≡◌};
-ghost use Rattle.reads.specs.Read.{fetchedFrom, doneWith, afterReadBegins, afterReadEnds};
+ghost use Rattle.reads.specs.Read.{fetched_from, done_with, after_read_begins, after_read_ends};
 
 use channel::Fill;
 use chip::{Core, Port};
 use control::Group;
 
 fn fetch(mut port: Port, strobed: bool) -> Port
-    ensures { result ≡ fetchedFrom port strobed }
+    ensures { result ≡ fetched_from port strobed }
 {
     if strobed {
         port.input = channel::hand_over(port.input, Fill::Fetching);
@@ -16,7 +16,7 @@ fn fetch(mut port: Port, strobed: bool) -> Port
 }
 
 fn finish(mut port: Port, strobed: bool) -> Port
-    ensures { result ≡ doneWith port strobed }
+    ensures { result ≡ done_with port strobed }
 {
     port.input = channel::end_read(port.input, strobed);
     port
@@ -24,7 +24,7 @@ fn finish(mut port: Port, strobed: bool) -> Port
 
 // A read of the port begins.
 pub fn begin(mut core: Core, port: u8) -> Core
-    ensures { result ≡ afterReadBegins core port }
+    ensures { result ≡ after_read_begins core port }
 {
     match port {
         chip::PORT_A => {
@@ -41,7 +41,7 @@ pub fn begin(mut core: Core, port: u8) -> Core
 
 // A read of the port ends.
 pub fn end(mut core: Core, port: u8) -> Core
-    ensures { result ≡ afterReadEnds core port }
+    ensures { result ≡ after_read_ends core port }
 {
     match port {
         chip::PORT_A => {

@@ -12,40 +12,40 @@ use Rattle.channel.specs.declared.Tally.{Tally}
 use Rattle.chip.specs.declared.Edition.{Edition}
 use Rattle.chip.specs.declared.Chip.{Chip}
 use Rattle.chip.specs.declared.Levels.{Levels}
-use Rattle.chip.specs.State.{noTally, powerUpAs, tally_of}
-use Rattle.fates.specs.Surroundings.{atPowerUp}
-use Rattle.fates.specs.Bytes.{handedOver, Byte, bytes_of}
-use Rattle.fates.specs.Promise.{run, newBytes, oldByte, Each, ShownAt, Fates}
+use Rattle.chip.specs.State.{no_tally, power_up_as, tally_of}
+use Rattle.fates.specs.Surroundings.{at_power_up}
+use Rattle.fates.specs.Bytes.{handed_over, Byte, bytes_of}
+use Rattle.fates.specs.Promise.{run, new_bytes, old_byte, Each, ShownAt, Fates}
 use Rattle.fates.proofs.Unforced.{unforced}
 use Rattle.fates.proofs.Demand.{fates, disciplined}
 use Rattle.account.specs.Account.{Account, opened}
-use Rattle.account.specs.Promise.{over, accountOf, Accounted}
+use Rattle.account.specs.Promise.{over, account_of, Accounted}
 use Rattle.account.proofs.Account.{account, account-from}
 use Rattle.image.specs.Places as places
 use Rattle.image.specs.Loaded.{state_of}
-use Rattle.image.specs.Good.{isImage, Bytes}
-use Rattle.calls.specs.Calls.{pinsAnswer, tallyAnswer, explainAnswer}
-use Rattle.restored.specs.Host.{hostRun, powerUpIn}
-use Rattle.restored.specs.Answers.{answerTo, answerBy, pinsBy, explainedBy, AnsweredAt, Answers, HostKept, ImageKept}
+use Rattle.image.specs.Good.{is_image, Bytes}
+use Rattle.calls.specs.Calls.{pins_answer, tally_answer, explain_answer}
+use Rattle.restored.specs.Host.{host_run, power_up_in}
+use Rattle.restored.specs.Answers.{answer_to, answer_by, pins_by, explained_by, AnsweredAt, Answers, HostKept, ImageKept}
 use Rattle.restored.proofs.Holds.{Holds, holds-new, holds-image, holds-run, answer-held, pins-held, explain-held}
-use Rattle.restored.proofs.Saved.{goes_on}
+use Rattle.restored.proofs.Saved.{goes-on}
 use Rattle.restored.proofs.Shown.{answered-at}
 use Rattle.restored.proofs.SameDiscipline.{same-discipline}
 use Rattle.restored.proofs.Counts.{Numbered, numbered-none, numbered-held, tally-told}
 
 module _ (l : List ℕ) (c : Chip) (a : Account) (es : List Event) (h : Holds l c) (t : Accounted c a es) where
-  next-told : (e : Event) → answerTo (hostRun l es) e ≡ answerBy (over a es) e
-  next-told e = rw (answer-held (hostRun l es) (run c es) (holds-run l c es h) e, t.number e, t.byte e)
+  next-told : (e : Event) → answer_to (host_run l es) e ≡ answer_by (over a es) e
+  next-told e = rw (answer-held (host_run l es) (run c es) (holds-run l c es h) e, t.number e, t.byte e)
 
-  pins-told : (p : ℕ) → pinsAnswer (hostRun l es) p ≡ pinsBy (over a es) p
-  pins-told p = rw (pins-held (hostRun l es) (run c es) (holds-run l c es h) p, t.levels p, t.driven p)
+  pins-told : (p : ℕ) → pins_answer (host_run l es) p ≡ pins_by (over a es) p
+  pins-told p = rw (pins-held (host_run l es) (run c es) (holds-run l c es h) p, t.levels p, t.driven p)
 
-  explained-told : (n : ℕ) → explainAnswer (hostRun l es) n ≡ explainedBy (over a es) n
-  explained-told n = rw (explain-held (hostRun l es) (run c es) (holds-run l c es h) n, t.explains n)
+  explained-told : (n : ℕ) → explain_answer (host_run l es) n ≡ explained_by (over a es) n
+  explained-told n = rw (explain-held (host_run l es) (run c es) (holds-run l c es h) n, t.explains n)
 
   all-answered : (g : Group) (s : Side) (bs : List Byte)
-      → Each (λ b. b.outcome.fate ≡ handedOver → ShownAt g s c es b.outcome.place b.offer.value) bs
-      → Each (λ b. b.outcome.fate ≡ handedOver → AnsweredAt g s l es b.outcome.place b.offer.value) bs
+      → Each (λ b. b.outcome.fate ≡ handed_over → ShownAt g s c es b.outcome.place b.offer.value) bs
+      → Each (λ b. b.outcome.fate ≡ handed_over → AnsweredAt g s l es b.outcome.place b.offer.value) bs
   all-answered g s [] shown = tt
   all-answered g s (b ∷ bs) shown =
       (λ handed. answered-at g s l c es b.outcome.place b.offer.value h (shown.0 handed), all-answered g s bs shown.1)
@@ -57,7 +57,7 @@ module _ (l : List ℕ) (c : Chip) (a : Account) (es : List Event) (h : Holds l 
     pins = pins-told;
     explains = explained-told;
     tallies = tally-told l c es h start tallies starts new all f;
-    asOffered = λ g s. all-answered g s (all g s) (f g s).asOffered;
+    as_offered = λ g s. all-answered g s (all g s) (f g s).as_offered;
   }
 
 -- From every power-up, in as many bytes as an image has, that held anything.
@@ -67,17 +67,17 @@ host-kept l ed v es long =
     let bytes : Group → Side → List Byte = λ g s. bytes_of g s ed v es in
     record {
       answers =
-          answers (powerUpIn l ed v) (powerUpAs ed v) (opened ed v) es h (account ed v es)
-          (λ k n. 0) (λ g s. noTally) numbered-none bytes bytes (λ g s. fates g s ed v es);
-      noneLost = λ g kept. disciplined g ed v es (rw (← same-discipline g (atPowerUp ed v) (powerUpIn l ed v) (powerUpAs ed v) es h) kept);
-      noneForced = λ g s. unforced g s ed v es;
+          answers (power_up_in l ed v) (power_up_as ed v) (opened ed v) es h (account ed v es)
+          (λ k n. 0) (λ g s. no_tally) numbered-none bytes bytes (λ g s. fates g s ed v es);
+      none_lost = λ g kept. disciplined g ed v es (rw (← same-discipline g (at_power_up ed v) (power_up_in l ed v) (power_up_as ed v) es h) kept);
+      none_forced = λ g s. unforced g s ed v es;
     }
 
 -- From every image.
-pub image-kept : (l : List ℕ) → Bytes l → isImage l ≡ true → (es : List Event) → ImageKept l es
+pub image-kept : (l : List ℕ) → Bytes l → is_image l ≡ true → (es : List Event) → ImageKept l es
 image-kept l bytes good es =
     let c = state_of l in
     let h = holds-image l bytes good in
-    answers l c (accountOf c) es h (account-from c es)
-    (λ k n. tallyAnswer l k n / 256) (tally_of c) (numbered-held l c h)
-    (λ g s. newBytes g s c es) (λ g s. oldByte g s c es ++ newBytes g s c es) (goes_on l bytes good es).fates
+    answers l c (account_of c) es h (account-from c es)
+    (λ k n. tally_answer l k n / 256) (tally_of c) (numbered-held l c h)
+    (λ g s. new_bytes g s c es) (λ g s. old_byte g s c es ++ new_bytes g s c es) (goes-on l bytes good es).fates

@@ -16,12 +16,12 @@ use Rattle.chip.specs.State.{tally_of}
 use Rattle.fates.specs.Promise.{SixteenBits}
 use Rattle.image.specs.Places as places
 use Rattle.image.specs.Loaded.{byte_at}
-use Rattle.image.specs.Good.{hasImage, Bytes}
+use Rattle.image.specs.Good.{has_image, Bytes}
 use Rattle.image.proofs.SameBytes.{small}
-use Rattle.older.specs.Loaded.{channelTally, olderState}
-use Rattle.older.specs.Good.{isOlder}
+use Rattle.older.specs.Loaded.{channel_tally, older_state}
+use Rattle.older.specs.Good.{is_older}
 use Rattle.older.proofs.OneImage.{tells-such}
-use Rattle.calls.specs.Calls.{convertImage}
+use Rattle.calls.specs.Calls.{convert_image}
 use Rattle.calls.proofs.Converted.{convert-good, convert-tells}
 use Rattle.restored.specs.Host.{GoesOn}
 use Rattle.restored.proofs.Saved.{two_bytes, goes-from}
@@ -31,7 +31,7 @@ module _ (o : List ℕ) (bytes : Bytes o) where
   wide-small : (i j : ℕ) → byte_at o i + 256 * byte_at o j < 65536
   wide-small i j = two_bytes (byte_at o i) (byte_at o j) (small o bytes i) (small o bytes j)
 
-  tally-small : (k : ℕ) → SixteenBits (channelTally o k)
+  tally-small : (k : ℕ) → SixteenBits (channel_tally o k)
   tally-small k = record {
     offered = wide-small _ _;
     handed = wide-small _ _;
@@ -42,21 +42,21 @@ module _ (o : List ℕ) (bytes : Bytes o) where
     struck = omega arith;
   }
 
-  sixteen-bits : (g : Group) (s : Side) → SixteenBits (tally_of (olderState o) g s)
-  unfolding olderState
+  sixteen-bits : (g : Group) (s : Side) → SixteenBits (tally_of (older_state o) g s)
+  unfolding older_state
   sixteen-bits A Input = tally-small 0
   sixteen-bits A Output = tally-small 1
   sixteen-bits B Input = tally-small 2
   sixteen-bits B Output = tally-small 3
 
 -- What the call makes of an older image goes on as the chip that this tells.
-pub converted-goes-on : (o l : List ℕ) → Bytes o → isOlder o ≡ true → length l ≡ places.length → (es : List Event) → GoesOn (convertImage o l) es
+pub converted-goes-on : (o l : List ℕ) → Bytes o → is_older o ≡ true → length l ≡ places.length → (es : List Event) → GoesOn (convert_image o l) es
 converted-goes-on o l bytes good long es =
     let told = sym (convert-tells o l bytes good long) in
-    goes-from (convertImage o l)
+    goes-from (convert_image o l)
     (record {
       image = convert-good o l bytes good long;
       state = refl;
-      has = subst (λ (c : Chip). hasImage c ≡ true) told (tells-such o bytes good);
+      has = subst (λ (c : Chip). has_image c ≡ true) told (tells-such o bytes good);
     })
     (λ g s. subst (λ (c : Chip). SixteenBits (tally_of c g s)) told (sixteen-bits o bytes g s)) es

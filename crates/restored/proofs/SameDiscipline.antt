@@ -6,22 +6,22 @@ use mathlib.Core.List.{List, [], ◌∷◌}
 use Prim.Native.Nat.{ℕ, ◌/◌, ◌%◌, ◌<◌}
 use native.Mathlib.Omega.{arith}
 use Rattle.bits.specs.Bit.{num}
-use Rattle.bits.specs.Sum.{byteBy}
+use Rattle.bits.specs.Sum.{byte_by}
 use Rattle.events.specs.Event.{Event}
 use Rattle.control.specs.declared.Group.{Group}
 use Rattle.channel.specs.declared.Side.TheVariants.{Input}
 use Rattle.chip.specs.declared.Chip.{Chip}
-use Rattle.ports.specs.Pins.{pinsOf}
-use Rattle.fates.specs.Surroundings.{Surroundings, surroundingsNext}
+use Rattle.ports.specs.Pins.{pins_of}
+use Rattle.fates.specs.Surroundings.{Surroundings, surroundings_next}
 use Rattle.fates.specs.Effects.{effect}
 use Rattle.fates.specs.Discipline.{ibf, Minds, Disciplined}
 use Rattle.fates.proofs.Followed.{after}
-use Rattle.account.specs.Views.{pinLevel}
-use Rattle.account.specs.Promise.{accountOf}
+use Rattle.account.specs.Views.{pin_level}
+use Rattle.account.specs.Promise.{account_of}
 use Rattle.account.proofs.Account.{account-from}
 use Rattle.calls.specs.Calls.{packed}
 use Rattle.restored.specs.Host.{passed}
-use Rattle.restored.specs.Answers.{ibfAnswered, HostDisciplined}
+use Rattle.restored.specs.Answers.{ibf_answered, HostDisciplined}
 use Rattle.restored.proofs.Holds.{Holds, holds-next, pins-held}
 
 -- The levels of port C are a byte, so that they can be taken out of the answer.
@@ -29,17 +29,17 @@ bit_below : (b : Bool) → num b < 2
 bit_below true = omega arith
 bit_below false = omega arith
 
-byte-below : (f : ℕ → Bool) → byteBy f < 256
+byte-below : (f : ℕ → Bool) → byte_by f < 256
 byte-below f =
     omega (arith, bit_below (f 0), bit_below (f 1), bit_below (f 2), bit_below (f 3), bit_below (f 4), bit_below (f 5), bit_below (f 6), bit_below (f 7))
 
-lines-below : (c : Chip) → (pinsOf c 2).levels < 256
-lines-below c = rw ((account-from c []).levels 2) (byte-below (pinLevel (accountOf c)))
+lines-below : (c : Chip) → (pins_of c 2).levels < 256
+lines-below c = rw ((account-from c []).levels 2) (byte-below (pin_level (account_of c)))
 
 taken_out : (levels driven : ℕ) → levels < 256 → packed 0 levels driven / 256 % 256 ≡ levels
 taken_out levels driven small = omega arith
 
-ibf-held : (g : Group) (l : List ℕ) (c : Chip) → Holds l c → ibfAnswered l g ≡ ibf c g
+ibf-held : (g : Group) (l : List ℕ) (c : Chip) → Holds l c → ibf_answered l g ≡ ibf c g
 ibf-held g l c h = rw (pins-held l c h 2, taken_out _ _ (lines-below c))
 
 -- So the one can be kept exactly where the other can.
@@ -48,4 +48,4 @@ pub same-discipline : (g : Group) (a : Surroundings) (l : List ℕ) (c : Chip) (
 same-discipline g a l c [] h = refl
 same-discipline g a l c (e ∷ es) h =
     ap₂ (λ (level : Bool) (rest : Type 0). Minds level (effect g Input a e) × rest) (ibf-held g l c h)
-    (same-discipline g (surroundingsNext a e) (passed l e) (after c e) es (holds-next l c h e))
+    (same-discipline g (surroundings_next a e) (passed l e) (after c e) es (holds-next l c h e))

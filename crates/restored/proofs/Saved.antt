@@ -15,9 +15,9 @@ use Rattle.channel.specs.declared.Side.TheVariants.{Input, Output}
 use Rattle.chip.specs.declared.Edition.{Edition}
 use Rattle.chip.specs.declared.Chip.{Chip}
 use Rattle.chip.specs.declared.Levels.{Levels}
-use Rattle.chip.specs.State.{powerUpAs, tally_of}
+use Rattle.chip.specs.State.{power_up_as, tally_of}
 use Rattle.chip.specs.Handshakes.{strobed}
-use Rattle.fates.specs.Promise.{run, surroundingsOf, WaitsByHandshake, SixteenBits}
+use Rattle.fates.specs.Promise.{run, surroundings_of, WaitsByHandshake, SixteenBits}
 use Rattle.fates.specs.Discipline.{HasFound, Disciplined}
 use Rattle.fates.proofs.Tables.{strobes-same}
 use Rattle.fates.proofs.SurroundingsKept.{surroundings-next}
@@ -29,11 +29,11 @@ use Rattle.fates.proofs.Unforced.{unforced-from}
 use Rattle.fates.proofs.Demand.{fates-from, no_read}
 use Rattle.image.specs.Places as places
 use Rattle.image.specs.Layout.{image_of}
-use Rattle.image.specs.Loaded.{byte_at, tallyAt, state_of}
-use Rattle.image.specs.Good.{allowed, hasImage, isImage, Bytes}
+use Rattle.image.specs.Loaded.{byte_at, tally_at, state_of}
+use Rattle.image.specs.Good.{allowed, has_image, is_image, Bytes}
 use Rattle.image.proofs.ComesBack.{comes_back}
 use Rattle.image.proofs.SameBytes.{small}
-use Rattle.restored.specs.Host.{powerUpIn, GoesOn, PoweredUp, StillNoneLost}
+use Rattle.restored.specs.Host.{power_up_in, GoesOn, PoweredUp, StillNoneLost}
 use Rattle.restored.proofs.Conditions.{apart}
 use Rattle.restored.proofs.Stays.{reached}
 use Rattle.restored.proofs.Holds.{Holds, holds-new, holds-image, holds-run}
@@ -46,7 +46,7 @@ module _ (l : List ℕ) (bytes : Bytes l) where
   wide-small : (i j : ℕ) → byte_at l i + 256 * byte_at l j < 65536
   wide-small i j = two_bytes (byte_at l i) (byte_at l j) (small l bytes i) (small l bytes j)
 
-  tally-small : (i : ℕ) → SixteenBits (tallyAt l i)
+  tally-small : (i : ℕ) → SixteenBits (tally_at l i)
   tally-small i = record {
     offered = wide-small i (i + 1);
     handed = wide-small (i + 2) (i + 2 + 1);
@@ -60,12 +60,12 @@ module _ (l : List ℕ) (bytes : Bytes l) where
   sixteen-bits : (g : Group) (s : Side) → SixteenBits (tally_of (state_of l) g s)
   unfolding state_of
   sixteen-bits A Input = tally-small places.tallies
-  sixteen-bits A Output = tally-small (places.tallies + places.channelTallies)
-  sixteen-bits B Input = tally-small (places.tallies + places.channelTallies * 2)
-  sixteen-bits B Output = tally-small (places.tallies + places.channelTallies * 3)
+  sixteen-bits A Output = tally-small (places.tallies + places.channel_tallies)
+  sixteen-bits B Input = tally-small (places.tallies + places.channel_tallies * 2)
+  sixteen-bits B Output = tally-small (places.tallies + places.channel_tallies * 3)
 
 -- In a chip that has an image a byte waits only where the mode word strobes the channel.
-pub waits-strobed : (g : Group) (s : Side) (c : Chip) → hasImage c ≡ true → WaitsByHandshake g s c
+pub waits-strobed : (g : Group) (s : Side) (c : Chip) → has_image c ≡ true → WaitsByHandshake g s c
 waits-strobed g s c has waits =
     let w = c.core.word in
     strobed-alone w g s (strobes-same w g s ∙ sym (ap (allowed (strobed w g s) s) waits) ∙ (apart c has).channel g s)
@@ -83,17 +83,17 @@ goes-from l h small es =
     }
 
 -- From every image.
-pub goes_on : (l : List ℕ) → Bytes l → isImage l ≡ true → (es : List Event) → GoesOn l es
-goes_on l bytes good es = goes-from l (holds-image l bytes good) (sixteen-bits l bytes) es
+pub goes-on : (l : List ℕ) → Bytes l → is_image l ≡ true → (es : List Event) → GoesOn l es
+goes-on l bytes good es = goes-from l (holds-image l bytes good) (sixteen-bits l bytes) es
 
 -- From every power-up, in as many bytes as an image has, that held anything.
 pub powered-up : (l : List ℕ) (ed : Edition) (v : Levels) (es : List Event) → length l ≡ places.length → PoweredUp l ed v es
 powered-up l ed v es long =
-    let at-end = holds-run (powerUpIn l ed v) (powerUpAs ed v) es (holds-new l ed v long) in
+    let at-end = holds-run (power_up_in l ed v) (power_up_as ed v) es (holds-new l ed v long) in
     record { image = at-end.image; state = at-end.state }
 
 -- In a run that keeps to the discipline, a read of the strobed port has always found a byte.
-has-found : (g : Group) (c : Chip) (es : List Event) → HasFound g c → Disciplined g (surroundingsOf c) c es → HasFound g (run c es)
+has-found : (g : Group) (c : Chip) (es : List Event) → HasFound g c → Disciplined g (surroundings_of c) c es → HasFound g (run c es)
 has-found g c [] found kept = found
 has-found g c (e ∷ es) found kept =
     has-found g (after c e) es (found-next g c e found kept.0) (rw (surroundings-next c e) kept.1)
@@ -101,6 +101,6 @@ has-found g c (e ∷ es) found kept =
 -- From an image saved in such a run.
 pub still-none-lost : (g : Group) (ed : Edition) (l : Levels) (before es : List Event) → StillNoneLost g ed l before es
 still-none-lost g ed l before es kept-before kept =
-    let c = run (powerUpAs ed l) before in
+    let c = run (power_up_as ed l) before in
     disciplined-from g (state_of (image_of c))
-    (subst (HasFound g) (sym (comes_back c (reached ed l before))) (has-found g (powerUpAs ed l) before (no_read g ed l) kept-before)) es kept
+    (subst (HasFound g) (sym (comes_back c (reached ed l before))) (has-found g (power_up_as ed l) before (no_read g ed l) kept-before)) es kept

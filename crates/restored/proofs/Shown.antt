@@ -12,16 +12,16 @@ use Rattle.control.specs.declared.Group.TheVariants.{A, B}
 use Rattle.channel.specs.declared.Side.{Side}
 use Rattle.channel.specs.declared.Side.TheVariants.{Input, Output}
 use Rattle.chip.specs.declared.Chip.{Chip}
-use Rattle.fates.specs.Effects.{portNumber}
+use Rattle.fates.specs.Effects.{port_number}
 use Rattle.fates.specs.Promise.{Shows, ShownAt}
 use Rattle.fates.proofs.Followed.{after}
-use Rattle.calls.specs.Calls.{lastPort}
+use Rattle.calls.specs.Calls.{last_port}
 use Rattle.restored.specs.Host.{passed}
 use Rattle.restored.specs.Answers.{AnswerShows, AnsweredAt}
 use Rattle.restored.proofs.Holds.{Holds, holds-next, answer-held, pins-held}
 
 -- The pins call refuses neither port.
-is-port : (g : Group) → ltb lastPort (portNumber g) ≡ false
+is-port : (g : Group) → ltb last_port (port_number g) ≡ false
 is-port A = refl
 is-port B = refl
 
@@ -29,7 +29,7 @@ answer-shows : (g : Group) (s : Side) (l : List ℕ) (c : Chip) (e : Event) (v :
 answer-shows g Input l c e v h shown = rw (answer-held l c h e, shown.0, shown.1)
 answer-shows g Output l c e v h shown = (
   rw (answer-held l c h e, shown.0) (omega arith),
-  pins-held (passed l e) (after c e) (holds-next l c h e) (portNumber g) ∙ rw (is-port g, shown.1),
+  pins-held (passed l e) (after c e) (holds-next l c h e) (port_number g) ∙ rw (is-port g, shown.1),
 )
 
 pub answered-at : (g : Group) (s : Side) (l : List ℕ) (c : Chip) (es : List Event) (n v : ℕ) → Holds l c → ShownAt g s c es n v

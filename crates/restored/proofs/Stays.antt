@@ -19,36 +19,36 @@ use Rattle.chip.specs.declared.Edition.{Edition}
 use Rattle.chip.specs.declared.Edition.TheVariants.{Older, Newer}
 use Rattle.chip.specs.declared.Chip.{Chip}
 use Rattle.chip.specs.declared.Levels.{Levels}
-use Rattle.chip.specs.State.{powerUpAs}
-use Rattle.fates.specs.Kinds.{Kind, reset, cycleEnded, unknown, readBegun, writeBegun, newLevels, free, readableAt, accepts, kind_of}
-use Rattle.fates.specs.Surroundings.{Surroundings, ofModeWord, brought, phaseAfter, wordAfter, surroundingsAfter, surroundingsNext}
-use Rattle.fates.specs.Effects.{clearedAway, strobes, when, ownEffect, clears, effect_of}
-use Rattle.fates.specs.Left.{afterForcedFull}
-use Rattle.fates.specs.Promise.{run, surroundingsOf}
-use Rattle.fates.proofs.Shapes.{Shape, passes, offers, plants, decides, Gone, shape_of, fillAfter}
+use Rattle.chip.specs.State.{power_up_as}
+use Rattle.fates.specs.Kinds.{Kind, reset, cycle_ended, unknown, read_begun, write_begun, new_levels, free, readable_at, accepts, kind_of}
+use Rattle.fates.specs.Surroundings.{Surroundings, of_mode_word, brought, phase_after, word_after, surroundings_after, surroundings_next}
+use Rattle.fates.specs.Effects.{cleared_away, strobes, when, own_effect, clears, effect_of}
+use Rattle.fates.specs.Left.{after_forced_full}
+use Rattle.fates.specs.Promise.{run, surroundings_of}
+use Rattle.fates.proofs.Shapes.{Shape, passes, offers, plants, decides, Gone, shape_of, fill_after}
 use Rattle.fates.proofs.Tables.{strobes-same}
 use Rattle.fates.proofs.SurroundingsKept.{surroundings-next}
 use Rattle.fates.proofs.SameByte.{word-stays}
 use Rattle.fates.proofs.Followed.{after, fill, next-fill}
-use Rattle.image.specs.Good.{canBeRead, namesItsPlace, allowed, hasImage}
+use Rattle.image.specs.Good.{can_be_read, names_its_place, allowed, has_image}
 use Rattle.restored.proofs.Conditions.{Conditions, apart, together}
 
 -- The history and the image say alike what can be read.
-same-reading : (ed : Edition) (x : ℕ) → readableAt ed x ≡ canBeRead ed x
+same-reading : (ed : Edition) (x : ℕ) → readable_at ed x ≡ can_be_read ed x
 same-reading Older x = refl
 same-reading Newer x = refl
 
 -- A cycle that an accepted event begins names its place.
-place-stays : (ed : Edition) (ph : Phase) (e : Kind) → accepts ed ph e ≡ true → namesItsPlace ed ph ≡ true → namesItsPlace ed (phaseAfter ph e) ≡ true
+place-stays : (ed : Edition) (ph : Phase) (e : Kind) → accepts ed ph e ≡ true → names_its_place ed ph ≡ true → names_its_place ed (phase_after ph e) ≡ true
 place-stays ed ph reset ok was = refl
-place-stays ed ph (readBegun x) ok was = sym (same-reading ed x) ∙ (both (readableAt ed x) (free ph) ok).0
-place-stays ed ph cycleEnded ok was = refl
-place-stays ed ph (writeBegun x d) ok was = (both (ltb x 4) (free ph) ok).0
-place-stays ed ph (newLevels x d) ok was = was
+place-stays ed ph (read_begun x) ok was = sym (same-reading ed x) ∙ (both (readable_at ed x) (free ph) ok).0
+place-stays ed ph cycle_ended ok was = refl
+place-stays ed ph (write_begun x d) ok was = (both (ltb x 4) (free ph) ok).0
+place-stays ed ph (new_levels x d) ok was = was
 place-stays ed ph unknown ok was = was
 
 -- A mode word that comes into force has bit 7 set.
-word-ends : (ph : Phase) (w : ℕ) → bit_of w 7 ≡ true → bit_of (cond (ofModeWord ph) (brought ph) w) 7 ≡ true
+word-ends : (ph : Phase) (w : ℕ) → bit_of w 7 ≡ true → bit_of (cond (of_mode_word ph) (brought ph) w) 7 ≡ true
 word-ends Idle w was = was
 word-ends (Reading p) w was = was
 word-ends (Writing x d) w was = go (eqb x 3) (bit_of d 7) refl
@@ -58,13 +58,13 @@ word-ends (Writing x d) w was = go (eqb x 3) (bit_of d 7) refl
     go true true is = is
     go true false is = was
 
-bit-7-stays : (ph : Phase) (w : ℕ) (e : Kind) → bit_of w 7 ≡ true → bit_of (wordAfter ph w e) 7 ≡ true
+bit-7-stays : (ph : Phase) (w : ℕ) (e : Kind) → bit_of w 7 ≡ true → bit_of (word_after ph w e) 7 ≡ true
 unfolding bit_of
 bit-7-stays ph w reset was = refl
-bit-7-stays ph w (readBegun x) was = was
-bit-7-stays ph w cycleEnded was = word-ends ph w was
-bit-7-stays ph w (writeBegun x d) was = was
-bit-7-stays ph w (newLevels x d) was = was
+bit-7-stays ph w (read_begun x) was = was
+bit-7-stays ph w cycle_ended was = word-ends ph w was
+bit-7-stays ph w (write_begun x d) was = was
+bit-7-stays ph w (new_levels x d) was = was
 bit-7-stays ph w unknown was = was
 
 -- What is left of a channel whose byte is gone has an image where it had one before.
@@ -75,14 +75,14 @@ gone-keeps Input f Fetching gone was = refl
 gone-keeps Output f Fetching gone was = rw (gone) at was
 
 -- So has one in which a byte may have been planted.
-planted-keeps : (s : Side) (f : Fill) → allowed true s f ≡ true → allowed true s (afterForcedFull s f) ≡ true
+planted-keeps : (s : Side) (f : Fill) → allowed true s f ≡ true → allowed true s (after_forced_full s f) ≡ true
 planted-keeps s Empty was = refl
 planted-keeps s Waiting was = refl
 planted-keeps Input Fetching was = refl
 planted-keeps Output Fetching was = refl
 
 -- No effect leaves a strobed output fetching.
-effect-keeps : (s : Side) (f : Fill) (d : Shape) → allowed true s f ≡ true → allowed true s (fillAfter s f d) ≡ true
+effect-keeps : (s : Side) (f : Fill) (d : Shape) → allowed true s f ≡ true → allowed true s (fill_after s f d) ≡ true
 effect-keeps s f (passes to) was = was
 effect-keeps s f (offers v) was = refl
 effect-keeps s f plants was = planted-keeps s f was
@@ -91,60 +91,60 @@ effect-keeps s f (decides x) was = gone-keeps s f (x.left s f) (x.gone s f) was
 -- A channel under an accepted event: all are emptied, or the word stays and only a strobed one takes part.
 module _ (g : Group) (s : Side) (a : Surroundings) (e : Kind) (f : Fill) where
   channel-accepted : allowed (strobes a.word g s) s f ≡ true
-      → allowed (strobes (wordAfter a.phase a.word e) g s) s (fillAfter s f (shape_of (effect_of g s a e))) ≡ true
+      → allowed (strobes (word_after a.phase a.word e) g s) s (fill_after s f (shape_of (effect_of g s a e))) ≡ true
   channel-accepted was = go (clears a.phase e) refl
     where
-      part : (on : Bool) → allowed on s f ≡ true → allowed on s (fillAfter s f (shape_of (when on (ownEffect g s a e)))) ≡ true
-      part true was = effect-keeps s f (shape_of (ownEffect g s a e)) was
+      part : (on : Bool) → allowed on s f ≡ true → allowed on s (fill_after s f (shape_of (when on (own_effect g s a e)))) ≡ true
+      part true was = effect-keeps s f (shape_of (own_effect g s a e)) was
       part false was = was
 
       go : (all : Bool) → clears a.phase e ≡ all
-          → allowed (strobes (wordAfter a.phase a.word e) g s) s (fillAfter s f (shape_of (cond all clearedAway (when (strobes a.word g s) (ownEffect g s a e))))) ≡ true
+          → allowed (strobes (word_after a.phase a.word e) g s) s (fill_after s f (shape_of (cond all cleared_away (when (strobes a.word g s) (own_effect g s a e))))) ≡ true
       go true all = refl
       go false none = rw (word-stays a.phase a.word e none) (part (strobes a.word g s) was)
 
   channel-stays : (accepted : Bool) → allowed (strobes a.word g s) s f ≡ true
-      → allowed (strobes (cond accepted (surroundingsAfter a e) a).word g s) s (fillAfter s f (shape_of (when accepted (effect_of g s a e)))) ≡ true
+      → allowed (strobes (cond accepted (surroundings_after a e) a).word g s) s (fill_after s f (shape_of (when accepted (effect_of g s a e)))) ≡ true
   channel-stays true was = channel-accepted was
   channel-stays false was = was
 
 -- The bus and the mode word under any event.
 module _ (a : Surroundings) (e : Kind) where
-  bus-stays : (accepted : Bool) → accepts a.edition a.phase e ≡ accepted → namesItsPlace a.edition a.phase ≡ true
-      → namesItsPlace (cond accepted (surroundingsAfter a e) a).edition (cond accepted (surroundingsAfter a e) a).phase ≡ true
+  bus-stays : (accepted : Bool) → accepts a.edition a.phase e ≡ accepted → names_its_place a.edition a.phase ≡ true
+      → names_its_place (cond accepted (surroundings_after a e) a).edition (cond accepted (surroundings_after a e) a).phase ≡ true
   bus-stays true ok was = place-stays a.edition a.phase e ok was
   bus-stays false ok was = was
 
-  force-stays : (accepted : Bool) → bit_of a.word 7 ≡ true → bit_of (cond accepted (surroundingsAfter a e) a).word 7 ≡ true
+  force-stays : (accepted : Bool) → bit_of a.word 7 ≡ true → bit_of (cond accepted (surroundings_after a e) a).word 7 ≡ true
   force-stays accepted was =
-      either_way (λ (b : Surroundings). bit_of b.word 7) true accepted (surroundingsAfter a e) a (bit-7-stays a.phase a.word e was) was
+      either_way (λ (b : Surroundings). bit_of b.word 7) true accepted (surroundings_after a e) a (bit-7-stays a.phase a.word e was) was
 
 conditions-stay : (c : Chip) (e : Event) → Conditions c → Conditions (after c e)
 conditions-stay c e k =
     let accepted = accepts c.edition c.phase (kind_of e) in
-    let surroundings : surroundingsNext (surroundingsOf c) e ≡ surroundingsOf (after c e) = sym (surroundings-next c e) in
+    let surroundings : surroundings_next (surroundings_of c) e ≡ surroundings_of (after c e) = sym (surroundings-next c e) in
     record {
-      place = subst (λ (a : Surroundings). namesItsPlace a.edition a.phase ≡ true) surroundings (bus-stays (surroundingsOf c) (kind_of e) accepted refl k.place);
-      word = subst (λ (a : Surroundings). bit_of a.word 7 ≡ true) surroundings (force-stays (surroundingsOf c) (kind_of e) accepted k.word);
+      place = subst (λ (a : Surroundings). names_its_place a.edition a.phase ≡ true) surroundings (bus-stays (surroundings_of c) (kind_of e) accepted refl k.place);
+      word = subst (λ (a : Surroundings). bit_of a.word 7 ≡ true) surroundings (force-stays (surroundings_of c) (kind_of e) accepted k.word);
       channel = λ g s.
           let on = strobes-same c.core.word g s in
           let was = subst (λ (b : Bool). allowed b s (fill g s c) ≡ true) (sym on) (k.channel g s) in
-          let now-allowed = channel-stays g s (surroundingsOf c) (kind_of e) (fill g s c) accepted was in
-          let by-fill = subst (λ (f : Fill). allowed (strobes (surroundingsNext (surroundingsOf c) e).word g s) s f ≡ true) (sym (next-fill g s c e)) now-allowed in
+          let now-allowed = channel-stays g s (surroundings_of c) (kind_of e) (fill g s c) accepted was in
+          let by-fill = subst (λ (f : Fill). allowed (strobes (surroundings_next (surroundings_of c) e).word g s) s f ≡ true) (sym (next-fill g s c e)) now-allowed in
           let by_word_lem = subst (λ (a : Surroundings). allowed (strobes a.word g s) s (fill g s (after c e)) ≡ true) surroundings by-fill in
           subst (λ (b : Bool). allowed b s (fill g s (after c e)) ≡ true) (strobes-same (after c e).core.word g s) by_word_lem;
     }
 
-pub image-stays : (c : Chip) (e : Event) → hasImage c ≡ true → hasImage (after c e) ≡ true
+pub image-stays : (c : Chip) (e : Event) → has_image c ≡ true → has_image (after c e) ≡ true
 image-stays c e has = together (after c e) (conditions-stay c e (apart c has))
 
-pub history-stays : (c : Chip) (es : List Event) → hasImage c ≡ true → hasImage (run c es) ≡ true
+pub history-stays : (c : Chip) (es : List Event) → has_image c ≡ true → has_image (run c es) ≡ true
 history-stays c [] has = has
 history-stays c (e ∷ es) has = history-stays (after c e) es (image-stays c e has)
 
-pub power-up-has : (ed : Edition) (l : Levels) → hasImage (powerUpAs ed l) ≡ true
-unfolding hasImage bit_of
+pub power-up-has : (ed : Edition) (l : Levels) → has_image (power_up_as ed l) ≡ true
+unfolding has_image bit_of
 power-up-has ed l = refl
 
-pub reached : (ed : Edition) (l : Levels) (es : List Event) → hasImage (run (powerUpAs ed l) es) ≡ true
-reached ed l es = history-stays (powerUpAs ed l) es (power-up-has ed l)
+pub reached : (ed : Edition) (l : Levels) (es : List Event) → has_image (run (power_up_as ed l) es) ≡ true
+reached ed l es = history-stays (power_up_as ed l) es (power-up-has ed l)

@@ -8,51 +8,51 @@ use Rattle.channel.specs.declared.Side.TheVariants.{Input}
 use Rattle.chip.specs.declared.Edition.{Edition}
 use Rattle.chip.specs.declared.Chip.{Chip}
 use Rattle.chip.specs.declared.Levels.{Levels}
-use Rattle.chip.specs.State.{powerUpAs, tally_of}
-use Rattle.step.specs.Step.{onBus, stepped}
-use Rattle.fates.specs.Surroundings.{atPowerUp}
-use Rattle.fates.specs.Promise.{run, surroundingsOf, newBytes, oldByte, HeldInTheLatch, Fates}
+use Rattle.chip.specs.State.{power_up_as, tally_of}
+use Rattle.step.specs.Step.{on_bus, stepped}
+use Rattle.fates.specs.Surroundings.{at_power_up}
+use Rattle.fates.specs.Promise.{run, surroundings_of, new_bytes, old_byte, HeldInTheLatch, Fates}
 use Rattle.fates.specs.Discipline.{Disciplined, NoneLost, NeverForced, NoneForced}
-use Rattle.image.specs.Layout.{editionByte, image_of}
+use Rattle.image.specs.Layout.{edition_byte, image_of}
 use Rattle.image.specs.Loaded.{state_of}
-use Rattle.image.specs.Good.{isImage}
-use Rattle.calls.specs.Calls.{powerUpAnswer, powerUpImage, powerUpImageWith, powerUpAsAnswer, powerUpAsImage, stepImage}
+use Rattle.image.specs.Good.{is_image}
+use Rattle.calls.specs.Calls.{power_up_answer, power_up_image, power_up_image_with, power_up_as_answer, power_up_as_image, step_image}
 
 -- The bytes that a call of the step leaves, where an event is passed to it,
 abbrev pub passed : List ℕ → Event → List ℕ
-passed l e = stepImage l e.kind e.first e.second
+passed l e = step_image l e.kind e.first e.second
 
 -- and those that the host holds after the events of a history.
-abbrev pub hostRun : List ℕ → List Event → List ℕ
-hostRun l [] = l
-hostRun l (e ∷ es) = hostRun (passed l e) es
+abbrev pub host_run : List ℕ → List Event → List ℕ
+host_run l [] = l
+host_run l (e ∷ es) = host_run (passed l e) es
 
 -- The bytes in which a chip of this edition was powered up under these levels.
-abbrev pub powerUpIn : List ℕ → Edition → Levels → List ℕ
-powerUpIn l ed v = powerUpAsImage l (editionByte ed) v.a v.b v.c
+abbrev pub power_up_in : List ℕ → Edition → Levels → List ℕ
+power_up_in l ed v = power_up_as_image l (edition_byte ed) v.a v.b v.c
 
 -- The power-ups that name no edition, or nothing, are those of the older edition, and of lines that are all low ("The 82C55A").
 pub record ByDefault (l : List ℕ) (a b c : ℕ) : Type 0 where
-  pub levelsAnswer : powerUpAnswer l ≡ powerUpAsAnswer l 0
-  pub levelsImage : powerUpImageWith l a b c ≡ powerUpAsImage l 0 a b c
-  pub plainImage : powerUpImage l ≡ powerUpAsImage l 0 0 0 0
+  pub levels_answer : power_up_answer l ≡ power_up_as_answer l 0
+  pub levels_image : power_up_image_with l a b c ≡ power_up_as_image l 0 a b c
+  pub plain_image : power_up_image l ≡ power_up_as_image l 0 0 0 0
 
 -- What is promised of an image and any events after it: the host always holds an image, that of the chip after these events; on each
 -- channel the counts go on from the image's tallies, a byte that waits in it counting as offered already, with the latch's value, which later
 -- levels may change; a byte that still waits in the end, be it that one, is what the latch holds then; and where no flag of the channel is
 -- forced, none is planted or struck.
 pub record GoesOn (l : List ℕ) (es : List Event) : Type 0 where
-  pub image : isImage (hostRun l es) ≡ true
-  pub state : state_of (hostRun l es) ≡ run (state_of l) es
+  pub image : is_image (host_run l es) ≡ true
+  pub state : state_of (host_run l es) ≡ run (state_of l) es
   pub fates : (g : Group) (s : Side)
-      → Fates g s (state_of l) es (tally_of (state_of l) g s) (newBytes g s (state_of l) es) (oldByte g s (state_of l) es ++ newBytes g s (state_of l) es)
-  pub held : (g : Group) (s : Side) → HeldInTheLatch g s (state_of l) es (oldByte g s (state_of l) es ++ newBytes g s (state_of l) es)
-  pub unforced : (g : Group) (s : Side) → NeverForced g s (surroundingsOf (state_of l)) es
-      → NoneForced (newBytes g s (state_of l) es) (oldByte g s (state_of l) es ++ newBytes g s (state_of l) es)
+      → Fates g s (state_of l) es (tally_of (state_of l) g s) (new_bytes g s (state_of l) es) (old_byte g s (state_of l) es ++ new_bytes g s (state_of l) es)
+  pub held : (g : Group) (s : Side) → HeldInTheLatch g s (state_of l) es (old_byte g s (state_of l) es ++ new_bytes g s (state_of l) es)
+  pub unforced : (g : Group) (s : Side) → NeverForced g s (surroundings_of (state_of l)) es
+      → NoneForced (new_bytes g s (state_of l) es) (old_byte g s (state_of l) es ++ new_bytes g s (state_of l) es)
 
 -- A chip with its cycle dropped, and all else as it is.
 abbrev pub dropped : Chip → Chip
-dropped c = onBus Idle c.edition c.core
+dropped c = on_bus Idle c.edition c.core
 
 -- The cycle that an image holds is one that its chip begins: without it, the event that would begin it is accepted.
 pub record CycleBegins (l : List ℕ) : Type 0 where
@@ -62,13 +62,13 @@ pub record CycleBegins (l : List ℕ) : Type 0 where
 -- What is promised of a host that powers its chip up, of either edition and under any levels, in 96 bytes that held anything, and passes it any
 -- events: it always holds an image, that of the chip after these events, from that power-up.
 pub record PoweredUp (l : List ℕ) (ed : Edition) (v : Levels) (es : List Event) : Type 0 where
-  pub image : isImage (hostRun (powerUpIn l ed v) es) ≡ true
-  pub state : state_of (hostRun (powerUpIn l ed v) es) ≡ run (powerUpAs ed v) es
+  pub image : is_image (host_run (power_up_in l ed v) es) ≡ true
+  pub state : state_of (host_run (power_up_in l ed v) es) ≡ run (power_up_as ed v) es
 
 -- Demand 3's last sentence for an image that was saved from a run which kept to the discipline: where what follows keeps to it too, no
 -- input byte is overwritten or swallowed, the one that waited in the image among them.
 abbrev pub StillNoneLost : Group → Edition → Levels → List Event → List Event → Type 0
 StillNoneLost g ed l before es =
-    let c = state_of (image_of (run (powerUpAs ed l) before)) in
-    Disciplined g (atPowerUp ed l) (powerUpAs ed l) before → Disciplined g (surroundingsOf c) c es
-    → NoneLost (oldByte g Input c es ++ newBytes g Input c es)
+    let c = state_of (image_of (run (power_up_as ed l) before)) in
+    Disciplined g (at_power_up ed l) (power_up_as ed l) before → Disciplined g (surroundings_of c) c es
+    → NoneLost (old_byte g Input c es ++ new_bytes g Input c es)

@@ -9,9 +9,9 @@ use Rattle.bits.specs.Bit.{bit_of}
 use Rattle.bits.proofs.Tested.{numbers-of-two}
 use Rattle.bits.proofs.BitLaws.{bit-of-assembled}
 use Rattle.control.specs.declared.Group.TheVariants.{B}
-use Rattle.control.specs.Mode.{mode_of, input_of, upperInput, lowerInput, strobedInput}
-use Rattle.roles.specs.Role.{Role, input, output, INTR, IBF, OBF, STB, ACK, number, usesOf, freeRole, roleOf}
-use Rattle.roles.specs.Pins.{isHandshake, isOutput, handshakePins, outputPins, handshakeRole}
+use Rattle.control.specs.Mode.{mode_of, input_of, upper_input, lower_input, strobed_input}
+use Rattle.roles.specs.Role.{Role, input, output, INTR, IBF, OBF, STB, ACK, number, uses_of, free_role, role_of}
+use Rattle.roles.specs.Pins.{is_handshake, is_output, handshake_pins, output_pins, handshake_role}
 
 -- Two roles with one number are one role: a number has its role back.
 abbrev numbered : ℕ → Role
@@ -31,24 +31,24 @@ number-one r s e = sym (numbered-back r) ∙ ap numbered e ∙ numbered-back s
 
 -- A pin in its handshake's role, or free.
 abbrev pub sorted : Bool → Bool → Bool → ℕ → Role
-sorted used out taking n = cond used (handshakeRole taking n) (cond out output input)
+sorted used out taking n = cond used (handshake_role taking n) (cond out output input)
 
-sorted-by-role : (w n : ℕ) → w < 256 → n < 8 → roleOf w n ≡ sorted (isHandshake (roleOf w n)) (isOutput (roleOf w n)) (strobedInput w B) n
-unfolding roleOf usesOf freeRole strobedInput mode_of input_of upperInput lowerInput bit_of
+sorted-by-role : (w n : ℕ) → w < 256 → n < 8 → role_of w n ≡ sorted (is_handshake (role_of w n)) (is_output (role_of w n)) (strobed_input w B) n
+unfolding role_of uses_of free_role strobed_input mode_of input_of upper_input lower_input bit_of
 sorted-by-role w n hw hn =
-    number-one (roleOf w n) (sorted (isHandshake (roleOf w n)) (isOutput (roleOf w n)) (strobedInput w B) n)
-    (numbers-of-two 256 8 (λ w n. number (roleOf w n))
-    (λ w n. number (sorted (isHandshake (roleOf w n)) (isOutput (roleOf w n)) (strobedInput w B) n)) tt w n hw hn)
+    number-one (role_of w n) (sorted (is_handshake (role_of w n)) (is_output (role_of w n)) (strobed_input w B) n)
+    (numbers-of-two 256 8 (λ w n. number (role_of w n))
+    (λ w n. number (sorted (is_handshake (role_of w n)) (is_output (role_of w n)) (strobed_input w B) n)) tt w n hw hn)
 
 -- What the masks say of a pin.
-pub bit-of-handshake : (w n : ℕ) → n < 8 → bit_of (handshakePins w) n ≡ isHandshake (roleOf w n)
-unfolding handshakePins
-bit-of-handshake w = bit-of-assembled (λ n. isHandshake (roleOf w n))
+pub bit-of-handshake : (w n : ℕ) → n < 8 → bit_of (handshake_pins w) n ≡ is_handshake (role_of w n)
+unfolding handshake_pins
+bit-of-handshake w = bit-of-assembled (λ n. is_handshake (role_of w n))
 
-pub bit-of-outputs : (w n : ℕ) → n < 8 → bit_of (outputPins w) n ≡ isOutput (roleOf w n)
-unfolding outputPins
-bit-of-outputs w = bit-of-assembled (λ n. isOutput (roleOf w n))
+pub bit-of-outputs : (w n : ℕ) → n < 8 → bit_of (output_pins w) n ≡ is_output (role_of w n)
+unfolding output_pins
+bit-of-outputs w = bit-of-assembled (λ n. is_output (role_of w n))
 
 pub role-by-masks : (w n : ℕ) → w < 256 → n < 8
-    → roleOf w n ≡ sorted (bit_of (handshakePins w) n) (bit_of (outputPins w) n) (strobedInput w B) n
+    → role_of w n ≡ sorted (bit_of (handshake_pins w) n) (bit_of (output_pins w) n) (strobed_input w B) n
 role-by-masks w n hw hn = rw (bit-of-handshake w n hn, bit-of-outputs w n hn) (sorted-by-role w n hw hn)

@@ -5,11 +5,11 @@ use Prim.Native.Nat.{ℕ, ◌%◌}
 use Rattle.control.specs.declared.Group.TheVariants.{A, B}
 use Rattle.control.proofs.SameWords.{SayTheSame}
 use Rattle.control.proofs.AsByte.{as_byte}
-use Rattle.roles.specs.Role.{usesOf, freeRole, roleOf}
+use Rattle.roles.specs.Role.{uses_of, free_role, role_of}
 
-pub same_roles : {v w : ℕ} → SayTheSame v w → (n : ℕ) → roleOf v n ≡ roleOf w n
-unfolding roleOf usesOf freeRole
+pub same_roles : {v w : ℕ} → SayTheSame v w → (n : ℕ) → role_of v n ≡ role_of w n
+unfolding role_of uses_of free_role
 same_roles same n = rw (same.mode A, same.mode B, same.input A, same.input B, same.upper, same.lower)
 
-pub role-as-byte : (w n : ℕ) → roleOf (w % 256) n ≡ roleOf w n
+pub role-as-byte : (w n : ℕ) → role_of (w % 256) n ≡ role_of w n
 role-as-byte w = same_roles (as_byte w)

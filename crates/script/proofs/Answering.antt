@@ -11,37 +11,37 @@ use Rattle.text.specs.Lines.{Line, lines_of}
 use Rattle.script.specs.declared.Answerer.{Answerer}
 use Rattle.script.specs.declared.Acted.{Acted}
 use Rattle.script.specs.declared.Shown.{Shown}
-use Rattle.script.specs.Answers.{atLine, shownAfter, lineText, answerWidth, answersFrom}
+use Rattle.script.specs.Answers.{at_line, shown_after, line_text, answer_width, answers_from}
 use Rattle.script.specs.Run.{room_for, filled}
 use Rattle.script.proofs.Filling.{back, back-front, back-behind, back-length}
 
-pub line-length : (r : Shown) → length (lineText r) ≡ answerWidth
-unfolding lineText
+pub line-length : (r : Shown) → length (line_text r) ≡ answer_width
+unfolding line_text
 line-length r = refl
 
 -- What the output will hold: what stands before `at`, the answers to the lines that are left, and what stands behind these.
-abbrev toCome : Answerer → List Line → ℕ → List ℕ → List ℕ
-toCome m ls at out = take at out ++ (answersFrom m ls ++ drop (at + answerWidth * length ls) out)
+abbrev to_come : Answerer → List Line → ℕ → List ℕ → List ℕ
+to_come m ls at out = take at out ++ (answers_from m ls ++ drop (at + answer_width * length ls) out)
 
-one-answered : (m : Answerer) (l : Line) (ls : List Line) (at : ℕ) (out : List ℕ) → at + answerWidth * suc (length ls) ≤ length out
-    → toCome (atLine m l).answerer ls (at + answerWidth) (back at answerWidth (lineText (shownAfter (atLine m l))) out) ≡ toCome m (l ∷ ls) at out
-unfolding answersFrom
+one-answered : (m : Answerer) (l : Line) (ls : List Line) (at : ℕ) (out : List ℕ) → at + answer_width * suc (length ls) ≤ length out
+    → to_come (at_line m l).answerer ls (at + answer_width) (back at answer_width (line_text (shown_after (at_line m l))) out) ≡ to_come m (l ∷ ls) at out
+unfolding answers_from
 one-answered m l ls at out room =
-    let line : List ℕ = lineText (shownAfter (atLine m l)) in
-    let later : List ℕ = answersFrom (atLine m l).answerer ls in
-    let wide : length line ≡ answerWidth = line-length (shownAfter (atLine m l)) in
-    let fits : at + answerWidth ≤ length out = omega (arith, room) in
-    let behind : at + answerWidth + answerWidth * length ls ≡ at + answerWidth * suc (length ls) = omega arith in
-    rw (back-front at answerWidth line out wide fits, back-behind at answerWidth line out wide fits (answerWidth * length ls), behind)
-    (append_assoc (take at out) line (later ++ drop (at + answerWidth * suc (length ls)) out)
-    ∙ ap (λ (l : List ℕ). take at out ++ l) (sym (append_assoc line later (drop (at + answerWidth * suc (length ls)) out))))
+    let line : List ℕ = line_text (shown_after (at_line m l)) in
+    let later : List ℕ = answers_from (at_line m l).answerer ls in
+    let wide : length line ≡ answer_width = line-length (shown_after (at_line m l)) in
+    let fits : at + answer_width ≤ length out = omega (arith, room) in
+    let behind : at + answer_width + answer_width * length ls ≡ at + answer_width * suc (length ls) = omega arith in
+    rw (back-front at answer_width line out wide fits, back-behind at answer_width line out wide fits (answer_width * length ls), behind)
+    (append_assoc (take at out) line (later ++ drop (at + answer_width * suc (length ls)) out)
+    ∙ ap (λ (l : List ℕ). take at out ++ l) (sym (append_assoc line later (drop (at + answer_width * suc (length ls)) out))))
 
 -- A text under way, from whoever met it, into an output that began as `first`: its lines ls are left, and the answerer m will answer them from
 -- `at` on.
 pub record UnderWay (start : Answerer) (text first out : List ℕ) (ls : List Line) (m : Answerer) (at : ℕ) : Type 0 where
   pub long : length out ≡ length first
-  pub room : at + answerWidth * length ls ≤ length out
-  pub comes : toCome m ls at out ≡ filled start text first
+  pub room : at + answer_width * length ls ≤ length out
+  pub comes : to_come m ls at out ≡ filled start text first
 
 pub starts : (start : Answerer) (text out : List ℕ) → room_for text ≤ length out → UnderWay start text out out (lines_of text) start 0
 starts start text out room = record {
@@ -54,15 +54,15 @@ starts start text out room = record {
 -- lent, as it comes back.
 module _ (start : Answerer) (text first out : List ℕ) (l : Line) (ls : List Line) (m : Answerer) (at : ℕ)
     (way : UnderWay start text first out (l ∷ ls) m at) where
-  pub room-for-one : answerWidth ≤ length (take (length out - at) (drop at out))
+  pub room-for-one : answer_width ≤ length (take (length out - at) (drop at out))
   room-for-one = rw (part_to_end out at, length-drop at out) (omega (arith, way.room))
 
-  pub goes_on : (part : List ℕ) (s : Acted) → s ≡ atLine m l
-      → part ≡ lineText (shownAfter s) ++ drop answerWidth (take (length out - at) (drop at out))
-      → UnderWay start text first (take at out ++ (part ++ drop (length out - at) (drop at out))) ls s.answerer (at + answerWidth)
-  goes_on part s made written =
-      let line : List ℕ = lineText (shownAfter (atLine m l)) in
-      let same = back-length at answerWidth line out (line-length (shownAfter (atLine m l))) (omega (arith, way.room)) in
+  pub goes-on : (part : List ℕ) (s : Acted) → s ≡ at_line m l
+      → part ≡ line_text (shown_after s) ++ drop answer_width (take (length out - at) (drop at out))
+      → UnderWay start text first (take at out ++ (part ++ drop (length out - at) (drop at out))) ls s.answerer (at + answer_width)
+  goes-on part s made written =
+      let line : List ℕ = line_text (shown_after (at_line m l)) in
+      let same = back-length at answer_width line out (line-length (shown_after (at_line m l))) (omega (arith, way.room)) in
       rw (written, made) (record {
         long = same ∙ way.long;
         room = omega (arith, way.room, same);
@@ -72,7 +72,7 @@ module _ (start : Answerer) (text first out : List ℕ) (l : Line) (ls : List Li
 -- When no line is left the output holds all that it will.
 pub arrives : (start : Answerer) (text first out : List ℕ) (m : Answerer) (at : ℕ)
     → UnderWay start text first out [] m at → out ≡ filled start text first
-unfolding answersFrom
+unfolding answers_from
 arrives start text first out m at way =
-    let whole : toCome m [] at out ≡ out = rw (add-zero at) (take-append-drop at out) in
+    let whole : to_come m [] at out ≡ out = rw (add-zero at) (take-append-drop at out) in
     sym whole ∙ way.comes

@@ -9,35 +9,35 @@ use lib.Dec.{ltb}
 use lib.ListN.{length}
 use borrow.Author.Tests.{lt-ltb, le-ltb, ltb-false, ne_eqb}
 use Rattle.script.specs.declared.Ran.{Ran}
-use Rattle.script.specs.Run.{longestScript, tooLong, room_for, tooLongNumber, noRoomNumber, runNumber, refusedRun, acceptedRun, ranBy, ranOf}
+use Rattle.script.specs.Run.{longest_script, too_long, room_for, too_long_number, no_room_number, run_number, refused_run, accepted_run, ran_by, ran_of}
 
 module _ (text : List ℕ) (room : ℕ) where
-  pub too_long : longestScript < length text → refusedRun tooLongNumber ≡ ranOf text room
-  unfolding runNumber
-  too_long h = rw (lt-ltb _ _ h)
+  pub too-long : longest_script < length text → refused_run too_long_number ≡ ran_of text room
+  unfolding run_number
+  too-long h = rw (lt-ltb _ _ h)
 
-  pub no_room : length text ≤ longestScript → room < room_for text → refusedRun noRoomNumber ≡ ranOf text room
-  unfolding runNumber
-  no_room h l = rw (le-ltb _ _ h, lt-ltb _ _ l)
+  pub no-room : length text ≤ longest_script → room < room_for text → refused_run no_room_number ≡ ran_of text room
+  unfolding run_number
+  no-room h l = rw (le-ltb _ _ h, lt-ltb _ _ l)
 
-  pub runs : length text ≤ longestScript → room_for text ≤ room → acceptedRun text ≡ ranOf text room
-  unfolding runNumber
+  pub runs : length text ≤ longest_script → room_for text ≤ room → accepted_run text ≡ ran_of text room
+  unfolding run_number
   runs h l = rw (le-ltb _ _ h, le-ltb _ _ l)
 
   -- The number that a run gives back is the run's.
-  pub number-given : (r : Ran) → r ≡ ranOf text room → r.number ≡ runNumber text room
-  number-given r is = ap (λ (r : Ran). r.number) is ∙ go (runNumber text room)
+  pub number-given : (r : Ran) → r ≡ ran_of text room → r.number ≡ run_number text room
+  number-given r is = ap (λ (r : Ran). r.number) is ∙ go (run_number text room)
     where
-      go : (n : ℕ) → (ranBy n text).number ≡ n
+      go : (n : ℕ) → (ran_by n text).number ≡ n
       go zero = refl
       go (suc n) = rw (ne_eqb (suc n) 0 (λ e. omega (arith, e)))
 
   -- An accepted run has room for its answers.
-  pub has_room : runNumber text room ≡ 0 → room_for text ≤ room
-  unfolding runNumber
-  has_room e = go (tooLong text) (ltb room (room_for text)) refl e
+  pub has-room : run_number text room ≡ 0 → room_for text ≤ room
+  unfolding run_number
+  has-room e = go (too_long text) (ltb room (room_for text)) refl e
     where
-      go : (long short : Bool) → ltb room (room_for text) ≡ short → cond long tooLongNumber (cond short noRoomNumber 0) ≡ 0
+      go : (long short : Bool) → ltb room (room_for text) ≡ short → cond long too_long_number (cond short no_room_number 0) ≡ 0
           → room_for text ≤ room
       go true short t e = absurd (omega (arith, e))
       go false true t e = absurd (omega (arith, e))

@@ -5,37 +5,37 @@ use Rattle.chip.specs.declared.Edition.TheVariants.{Older}
 use Rattle.chip.specs.declared.Chip.{Chip}
 use Rattle.step.specs.declared.Stepped.{Stepped}
 use Rattle.text.specs.Lines.{Line, lines_of}
-use Rattle.text.specs.Frames.{frameIn}
+use Rattle.text.specs.Frames.{frame_in}
 use Rattle.script.specs.declared.left.Left.{Left}
-use Rattle.script.specs.Answers.{acted, chipAtStart}
-use Rattle.script.specs.Run.{tooLong, tooLongNumber}
+use Rattle.script.specs.Answers.{acted, chip_at_start}
+use Rattle.script.specs.Run.{too_long, too_long_number}
 
 -- The chip that the text meets. No edition is named, and so it is the older.
-abbrev pub chipMet : Chip
-chipMet = chipAtStart Older
+abbrev pub chip_met : Chip
+chip_met = chip_at_start Older
 
 -- What becomes of the chip at a line.
-abbrev pub chipAtLine : Chip → Line → Stepped
-chipAtLine c l = acted c (frameIn l)
+abbrev pub chip_at_line : Chip → Line → Stepped
+chip_at_line c l = acted c (frame_in l)
 
 -- The chip that some lines leave: each meets the chip that the one before it left.
-abbrev pub chipAfter : Chip → List Line → Chip
-chipAfter c [] = c
-chipAfter c (l ∷ ls) = chipAfter (chipAtLine c l).chip ls
+abbrev pub chip_after : Chip → List Line → Chip
+chip_after c [] = c
+chip_after c (l ∷ ls) = chip_after (chip_at_line c l).chip ls
 
 -- How many of some lines are refused, each by the chip that the one before it left.
-abbrev pub refusedAmong : Chip → List Line → ℕ
-refusedAmong c [] = 0
-refusedAmong c (l ∷ ls) = num (not (eqb (chipAtLine c l).number 0)) + refusedAmong (chipAtLine c l).chip ls
+abbrev pub refused_among : Chip → List Line → ℕ
+refused_among c [] = 0
+refused_among c (l ∷ ls) = num (not (eqb (chip_at_line c l).number 0)) + refused_among (chip_at_line c l).chip ls
 
 -- The chip that the lines of a text leave.
-abbrev pub chipLeft : List ℕ → Chip
-chipLeft text = chipAfter chipMet (lines_of text)
+abbrev pub chip_left : List ℕ → Chip
+chip_left text = chip_after chip_met (lines_of text)
 
 -- What the lines of a text leave: the chip, and the count of those that were refused.
-abbrev pub walkedThrough : List ℕ → Left
-walkedThrough text = record { number = 0; chip = chipLeft text; refused = refusedAmong chipMet (lines_of text) }
+abbrev pub walked_through : List ℕ → Left
+walked_through text = record { number = 0; chip = chip_left text; refused = refused_among chip_met (lines_of text) }
 
 -- A text that is too long is not run: it has that number, and leaves the chip that it would have met.
-abbrev pub leftBy : List ℕ → Left
-leftBy text = cond (tooLong text) (record { number = tooLongNumber; chip = chipMet; refused = 0 }) (walkedThrough text)
+abbrev pub left_by : List ℕ → Left
+left_by text = cond (too_long text) (record { number = too_long_number; chip = chip_met; refused = 0 }) (walked_through text)

@@ -1,6 +1,6 @@
 // Whoever answers a script, the 8255A, the 82C55A or the 8355: how it begins, what it makes of a line, and what is shown of that.
 ghost use Rattle.std.specs.Prelude.{◌≡◌};
-ghost use Rattle.script.specs.Answers.{at_start, acted8355, actedBy, levelsOf, shownAfter};
+ghost use Rattle.script.specs.Answers.{at_start, acted8355, acted_by, levels_of, shown_after};
 
 use super::{Acted, Answerer, Device, Shown, on_8255a};
 use chip::{Edition, PORT_A, PORT_B, PORT_C};
@@ -34,7 +34,7 @@ fn act_8355(chip: Chip8355, frame: Frame) -> i8355::step::Stepped
 
 // What the answerer makes of a frame, each by its own step.
 pub(super) fn act(answerer: Answerer, frame: Frame) -> Acted
-    ensures { result ≡ actedBy answerer frame }
+    ensures { result ≡ acted_by answerer frame }
 {
     match answerer {
         Answerer::I8255A(chip) => {
@@ -60,7 +60,7 @@ pub(super) fn act(answerer: Answerer, frame: Frame) -> Acted
 
 // The levels of a port. The 8355 has no port C, and shows 00 there.
 fn levels(answerer: Answerer, port: u8) -> u8
-    ensures { result ≡ levelsOf answerer port }
+    ensures { result ≡ levels_of answerer port }
 {
     match answerer {
         Answerer::I8255A(chip) => {
@@ -76,7 +76,7 @@ fn levels(answerer: Answerer, port: u8) -> u8
 
 // What the answer to a line shows.
 pub(super) fn show(acted: Acted) -> Shown
-    ensures { result ≡ shownAfter acted }
+    ensures { result ≡ shown_after acted }
 {
     let answerer = acted.answerer;
     Shown {

@@ -1,7 +1,7 @@
 // What a script leaves on the 8255A: the chip after its last line, and how many of its lines were refused.
 ghost use Rattle.std.specs.Prelude.{◌≡◌, not, eqb};
 ghost use Rattle.bits.specs.Bit.{num};
-ghost use Rattle.script.specs.Left.{walkedThrough, leftBy};
+ghost use Rattle.script.specs.Left.{walked_through, left_by};
 
 use super::{LONGEST, TOO_LONG, on_8255a};
 use chip::{Chip, Edition};
@@ -24,7 +24,7 @@ fn refusals(number: u8) -> usize
 
 // Every line in turn.
 fn walk(text: &[u8]) -> Left
-    ensures { result ≡ walkedThrough text.now }
+    ensures { result ≡ walked_through text.now }
 {
     let mut chip = on_8255a::chip_at_start(Edition::Older);
     let mut start = 0;
@@ -45,7 +45,7 @@ fn walk(text: &[u8]) -> Left
 
 // What a text leaves. One that is too long leaves the chip as it was at the start.
 pub fn chip_after(text: &[u8]) -> Left
-    ensures { result ≡ leftBy text.now }
+    ensures { result ≡ left_by text.now }
 {
     if LONGEST < text.len() {
         return Left {

@@ -1,7 +1,7 @@
 // The run of a script: a text of frames, one to a line, answered line by line by a device just powered up.
 ghost use Rattle.std.specs.Prelude.{◌≡◌, ◌≤◌, length};
 ghost use Rattle.script.specs.Answers.{at_start};
-ghost use Rattle.script.specs.Run.{room_for, refusedRun, ranOf, filled, outputLeft};
+ghost use Rattle.script.specs.Run.{room_for, refused_run, ran_of, filled, output_left};
 
 use bus::ACCEPTED;
 use chip::Chip;
@@ -66,14 +66,14 @@ struct Shown {
 
 // A run that is refused answers no line.
 fn refuse(number: u8) -> Ran
-    ensures { result ≡ refusedRun number }
+    ensures { result ≡ refused_run number }
 {
     Ran { number, lines: 0 }
 }
 
 // What a run gives back, whoever answers: a text is refused where it is too long, and where the output has no room for the answers.
 fn judge(text: &[u8], room: usize) -> Ran
-    ensures { result ≡ ranOf text.now room }
+    ensures { result ≡ ran_of text.now room }
 {
     if LONGEST < text.len() {
         return refuse(TOO_LONG);
@@ -107,7 +107,7 @@ fn answer_all(mut answerer: Answerer, text: &[u8], out: &mut [u8])
 
 // Runs a text on a device just powered up, and leaves the output where the run is refused.
 pub fn run(device: Device, text: &[u8], out: &mut [u8]) -> Ran
-    ensures { (result ≡ ranOf text.now (length out.old)) × (out.new ≡ outputLeft (at_start device) text.now out.old) }
+    ensures { (result ≡ ran_of text.now (length out.old)) × (out.new ≡ output_left (at_start device) text.now out.old) }
 {
     let ran = judge(text, out.len());
     if ran.number != ACCEPTED {

@@ -1,7 +1,7 @@
 // The chip that a script meets, of either edition, and what it makes of a frame. It is passed by value, and to follow it the prover names the
 // types that the crate channel declares.
 ghost use Rattle.std.specs.Prelude.{◌≡◌};
-ghost use Rattle.script.specs.Answers.{chipAtStart, acted};
+ghost use Rattle.script.specs.Answers.{chip_at_start, acted};
 
 use chip::{Chip, Edition, Levels};
 use step::Stepped;
@@ -9,7 +9,7 @@ use text::Frame;
 
 // The chip that a script meets. Scripts were written for lines that idle high, so the run names these levels.
 pub(super) fn chip_at_start(edition: Edition) -> Chip
-    ensures { result ≡ chipAtStart edition }
+    ensures { result ≡ chip_at_start edition }
 {
     chip::power_up_as(
         edition,

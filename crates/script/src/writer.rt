@@ -1,8 +1,8 @@
 // The line writer: an answer line at the start of the part of the output that it is lent.
 ghost use Rattle.std.specs.Prelude.{◌≡◌, ◌++◌, ◌+◌, ◌≤◌, ◌<◌, length, drop};
 ghost use Rattle.std.proofs.lemmas.List.Edits.{sets};
-ghost use Rattle.text.specs.Digits.{inDigits};
-ghost use Rattle.script.specs.Answers.{lineText, answerWidth};
+ghost use Rattle.text.specs.Digits.{in_digits};
+ghost use Rattle.script.specs.Answers.{line_text, answer_width};
 
 use super::Shown;
 use text::LF;
@@ -10,7 +10,7 @@ use text::LF;
 // A byte as two digits at that place.
 fn put(out: &mut [u8], at: usize, byte: u8)
     requires { at + 1 < length out.old }
-    ensures { out.new ≡ sets out.old at (inDigits byte) }
+    ensures { out.new ≡ sets out.old at (in_digits byte) }
 {
     out[at] = text::digits::code(byte / 16);
     out[at + 1] = text::digits::code(byte);
@@ -18,8 +18,8 @@ fn put(out: &mut [u8], at: usize, byte: u8)
 
 // An answer line.
 pub(super) fn write(out: &mut [u8], answer: Shown)
-    requires { answerWidth ≤ length out.old }
-    ensures { out.new ≡ lineText answer ++ drop answerWidth out.old }
+    requires { answer_width ≤ length out.old }
+    ensures { out.new ≡ line_text answer ++ drop answer_width out.old }
 {
     put(out, 0, answer.number);
     put(out, 2, answer.byte);

@@ -1,13 +1,13 @@
 // What the control address sets: a mode word, which makes the chip anew, and one pin of port C, which may be a channel's flag.
 ghost use Rattle.std.specs.Prelude.{◌≡◌, ◌<◌, cond};
-ghost use Rattle.settings.specs.ModeWord.{clearedPort, afterModeWord};
-ghost use Rattle.settings.specs.ControlWord.{setAs, pinSet, afterControlWord};
+ghost use Rattle.settings.specs.ModeWord.{cleared_port, after_mode_word};
+ghost use Rattle.settings.specs.ControlWord.{set_as, pin_set, after_control_word};
 ghost use Rattle.channel.specs.declared.Side.TheVariants.{Input, Output};
-ghost use Rattle.channel.specs.Moves.{afterForce};
-ghost use Rattle.chip.specs.State.{side_of, withSide};
-ghost use Rattle.control.specs.Mode.{strobedInput};
+ghost use Rattle.channel.specs.Moves.{after_force};
+ghost use Rattle.chip.specs.State.{side_of, with_side};
+ghost use Rattle.control.specs.Mode.{strobed_input};
 ghost use Rattle.control.specs.declared.Group.TheVariants.{B};
-ghost use Rattle.roles.specs.Pins.{handshakeRole};
+ghost use Rattle.roles.specs.Pins.{handshake_role};
 
 use channel::Side;
 use chip::handshakes::{ACK_A, FLAG_B, IBF_A, LINE_B, OBF_A, STB_A};
@@ -16,7 +16,7 @@ use control::Group;
 use control::word::Control;
 
 fn clear(mut port: Port) -> Port
-    ensures { result ≡ clearedPort port }
+    ensures { result ≡ cleared_port port }
 {
     port.input = channel::clear(port.input);
     port.output = channel::clear(port.output);
@@ -25,7 +25,7 @@ fn clear(mut port: Port) -> Port
 
 // The chip under a new mode word: latches and enables zero, channels empty. The outside levels stay.
 pub fn renew(mut core: Core, word: u8) -> Core
-    ensures { result ≡ afterModeWord core word }
+    ensures { result ≡ after_mode_word core word }
 {
     let none = Enables {
         input: false,
@@ -42,7 +42,7 @@ pub fn renew(mut core: Core, word: u8) -> Core
 
 // The flag of one of a port's channels forced.
 fn force(mut port: Port, side: Side, on: bool) -> Port
-    ensures { result ≡ withSide port side (afterForce side on (side_of port side)) }
+    ensures { result ≡ with_side port side (after_force side on (side_of port side)) }
 {
     match side {
         Side::Input => {
@@ -58,7 +58,7 @@ fn force(mut port: Port, side: Side, on: bool) -> Port
 
 // The side of group B that its one flag belongs to, where it has a handshake.
 fn side_of_b(word: u8) -> Side
-    ensures { result ≡ cond (strobedInput word B) Input Output }
+    ensures { result ≡ cond (strobed_input word B) Input Output }
 {
     if control::mode::strobed_input(word, Group::B) {
         Side::Input
@@ -70,7 +70,7 @@ fn side_of_b(word: u8) -> Side
 // A pin that a handshake uses: the enable behind STB or ACK, or a flag, which is forced. INTR has nothing to set.
 fn set_line(mut core: Core, pin: u8, on: bool) -> Core
     requires { pin < 8 }
-    ensures { result ≡ setAs core pin on (handshakeRole (strobedInput core.word B) pin) }
+    ensures { result ≡ set_as core pin on (handshake_role (strobed_input core.word B) pin) }
 {
     match pin {
         STB_A => {
@@ -104,7 +104,7 @@ fn set_line(mut core: Core, pin: u8, on: bool) -> Core
 // One pin of port C set or reset: the latch of a free output, or what a handshake has there.
 fn set_pin(mut core: Core, pin: u8, on: bool) -> Core
     requires { pin < 8 }
-    ensures { result ≡ pinSet core pin on }
+    ensures { result ≡ pin_set core pin on }
 {
     if bits::bit(roles::handshake(core.word), pin) {
         return set_line(core, pin, on);
@@ -118,7 +118,7 @@ fn set_pin(mut core: Core, pin: u8, on: bool) -> Core
 
 // The end of a write to the control address.
 pub fn command(core: Core, byte: u8) -> Core
-    ensures { result ≡ afterControlWord core byte }
+    ensures { result ≡ after_control_word core byte }
 {
     let control = control::word::decode(byte);
     match control {

@@ -15,8 +15,8 @@ use Rattle.chip.specs.declared.Chip.{Chip}
 use Rattle.chip.specs.Handshakes.{strobed}
 use Rattle.status.specs.declared.reasons.Explained.{Explained}
 use Rattle.status.specs.declared.reasons.Explained.TheVariants.{ModeZero, InputHalf, OutputHalf, BothHalves}
-use Rattle.status.specs.Status.{requestOf, intrOf}
-use Rattle.status.specs.Reasons.{reasonOf, oneWay, explainedIn, saysHigh}
+use Rattle.status.specs.Status.{request_of, intr_of}
+use Rattle.status.specs.Reasons.{reason_of, one_way, explained_in, says_high}
 use Rattle.status.proofs.ByReason.{quiet, named-high}
 
 module _ (c : Chip) (g : Group) where
@@ -27,22 +27,22 @@ module _ (c : Chip) (g : Group) where
   pub by_mode : (P : Explained → Type 0)
       → (mode_of word g ≡ 0 → strobed word g Input ≡ false → strobed word g Output ≡ false → P ModeZero)
       → (mode_of word g ≡ 1 → strobed word g Input ≡ true → strobed word g Output ≡ false
-      → P (InputHalf (reasonOf c g Input)))
+      → P (InputHalf (reason_of c g Input)))
       → (mode_of word g ≡ 1 → strobed word g Input ≡ false → strobed word g Output ≡ true
-      → P (OutputHalf (reasonOf c g Output)))
+      → P (OutputHalf (reason_of c g Output)))
       → (mode_of word g ≡ 2 → strobed word g Input ≡ true → strobed word g Output ≡ true
-      → P (BothHalves (reasonOf c g Input) (reasonOf c g Output)))
-      → P (explainedIn c g)
-  unfolding explainedIn
+      → P (BothHalves (reason_of c g Input) (reason_of c g Output)))
+      → P (explained_in c g)
+  unfolding explained_in
   by_mode P zero input output both = go (eqb (mode_of word g) 0) (eqb (mode_of word g) 2) refl refl
     where
-      one_way : (i : Bool) → input_of word g ≡ i → mode_of word g ≡ 1
-          → P (cond (not i) (OutputHalf (reasonOf c g Output)) (InputHalf (reasonOf c g Input)))
-      one_way true is one = input one (mode-1-takes word g one ∙ is) (mode-1-gives word g one ∙ ap not is)
-      one_way false is one = output one (mode-1-takes word g one ∙ is) (mode-1-gives word g one ∙ ap not is)
+      one-way : (i : Bool) → input_of word g ≡ i → mode_of word g ≡ 1
+          → P (cond (not i) (OutputHalf (reason_of c g Output)) (InputHalf (reason_of c g Input)))
+      one-way true is one = input one (mode-1-takes word g one ∙ is) (mode-1-gives word g one ∙ ap not is)
+      one-way false is one = output one (mode-1-takes word g one ∙ is) (mode-1-gives word g one ∙ ap not is)
 
       go : (none two : Bool) → eqb (mode_of word g) 0 ≡ none → eqb (mode_of word g) 2 ≡ two
-          → P (cond none ModeZero (cond two (BothHalves (reasonOf c g Input) (reasonOf c g Output)) (oneWay c g)))
+          → P (cond none ModeZero (cond two (BothHalves (reason_of c g Input) (reason_of c g Output)) (one_way c g)))
       go true two n t = let m = eqb-true (mode_of word g) 0 n in zero m (mode-0-takes word g m) (mode-0-gives word g m)
       go false true n t =
           let m = eqb-true (mode_of word g) 2 t in
@@ -51,12 +51,12 @@ module _ (c : Chip) (g : Group) where
       go false false n t =
           let other : ¬ (mode_of word g ≡ 2) = eqb-false (mode_of word g) 2 t in
           rw (output-by-direction word g other)
-          (one_way (input_of word g) refl (omega (arith, mode-below-3 word g, eqb-false (mode_of word g) 0 n, other)))
+          (one-way (input_of word g) refl (omega (arith, mode-below-3 word g, eqb-false (mode_of word g) 0 n, other)))
 
-  pub says-high : saysHigh (explainedIn c g) ≡ intrOf c g
-  unfolding intrOf
-  says-high = by_mode (λ r. saysHigh r ≡ (requestOf c g Input || requestOf c g Output))
+  pub says-high : says_high (explained_in c g) ≡ intr_of c g
+  unfolding intr_of
+  says-high = by_mode (λ r. says_high r ≡ (request_of c g Input || request_of c g Output))
       (λ m i o. rw (quiet c g Input i, quiet c g Output o))
-      (λ m i o. rw (quiet c g Output o, named-high c g Input i) (sym (or-false (requestOf c g Input))))
+      (λ m i o. rw (quiet c g Output o, named-high c g Input i) (sym (or-false (request_of c g Input))))
       (λ m i o. rw (quiet c g Input i, named-high c g Output o))
       (λ m i o. rw (named-high c g Input i, named-high c g Output o))

@@ -8,11 +8,11 @@ use Rattle.bits.specs.Bit.{bit_of}
 use Rattle.control.specs.declared.Group.{Group}
 use Rattle.channel.specs.declared.Side.{Side}
 use Rattle.chip.specs.declared.Chip.{Chip}
-use Rattle.chip.specs.Handshakes.{strobed, linePin, enableOf}
+use Rattle.chip.specs.Handshakes.{strobed, line_pin, enable_of}
 use Rattle.status.specs.declared.reasons.Reason.{Reason}
 use Rattle.status.specs.declared.reasons.Reason.TheVariants.{EnableOff, FlagWrong, LineLow, OwnCycle, High}
-use Rattle.status.specs.Status.{flagAt, requestOf}
-use Rattle.status.specs.Reasons.{holds, reasonOf, isHigh}
+use Rattle.status.specs.Status.{flag_at, request_of}
+use Rattle.status.specs.Reasons.{holds, reason_of, is_high}
 
 -- No reason for a low half holds.
 pub record NoneHolds (c : Chip) (g : Group) (s : Side) : Type 0 where
@@ -29,8 +29,8 @@ module _ (c : Chip) (g : Group) (s : Side) where
       → (holds c g s EnableOff ≡ false → holds c g s FlagWrong ≡ false → holds c g s LineLow ≡ true → P LineLow)
       → (holds c g s EnableOff ≡ false → holds c g s FlagWrong ≡ false → holds c g s LineLow ≡ false → holds c g s OwnCycle ≡ true → P OwnCycle)
       → (NoneHolds c g s → P High)
-      → P (reasonOf c g s)
-  unfolding reasonOf
+      → P (reason_of c g s)
+  unfolding reason_of
   by-reason P off wrong low runs high =
       go (holds c g s EnableOff) (holds c g s FlagWrong) (holds c g s LineLow) (holds c g s OwnCycle) refl refl refl refl
     where
@@ -42,33 +42,33 @@ module _ (c : Chip) (g : Group) (s : Side) where
       go false false false true e₁ e₂ e₃ e₄ = runs e₁ e₂ e₃ e₄
       go false false false false e₁ e₂ e₃ e₄ = high (record { on = e₁; right = e₂; up = e₃; idle = e₄ })
 
-  pub none_named : NoneHolds c g s → reasonOf c g s ≡ High
-  unfolding reasonOf
+  pub none_named : NoneHolds c g s → reason_of c g s ≡ High
+  unfolding reason_of
   none_named none = rw (none.on, none.right, none.up, none.idle)
 
   -- A side without a handshake asks for nothing.
-  pub quiet : strobed c.core.word g s ≡ false → requestOf c g s ≡ false
-  unfolding requestOf
+  pub quiet : strobed c.core.word g s ≡ false → request_of c g s ≡ false
+  unfolding request_of
   quiet off = rw (off)
 
   abbrev enabled : Bool
-  enabled = enableOf c.core.inte g s
+  enabled = enable_of c.core.inte g s
 
   abbrev flag : Bool
-  flag = flagAt c.core g s
+  flag = flag_at c.core g s
 
   abbrev line : Bool
-  line = bit_of c.core.c.outside (linePin g s)
+  line = bit_of c.core.c.outside (line_pin g s)
 
   module _ (there : strobed c.core.word g s ≡ true) where
-    pub none-asks : NoneHolds c g s → requestOf c g s ≡ true
-    unfolding requestOf
+    pub none-asks : NoneHolds c g s → request_of c g s ≡ true
+    unfolding request_of
     none-asks none =
         rw (there, not-false enabled none.on, not-false flag none.right, not-false line none.up, none.idle)
 
-    pub named-high : isHigh (reasonOf c g s) ≡ requestOf c g s
-    unfolding requestOf
-    named-high = by-reason (λ r. isHigh r ≡ requestOf c g s)
+    pub named-high : is_high (reason_of c g s) ≡ request_of c g s
+    unfolding request_of
+    named-high = by-reason (λ r. is_high r ≡ request_of c g s)
         (λ off. rw (there, not-true enabled off))
         (λ on wrong. rw (there, not-false enabled on, not-true flag wrong))
         (λ on right low. rw (there, not-false enabled on, not-false flag right, not-true line low))

@@ -1,6 +1,6 @@
 // The interrupt requests, why one is not made, and the status word: what port C tells of both handshakes.
 ghost use Rattle.std.specs.Prelude.{◌≡◌};
-ghost use Rattle.status.specs.Status.{flagAt, requestOf, intrOf, flagOfB, statusOf};
+ghost use Rattle.status.specs.Status.{flag_at, request_of, intr_of, flag_of_b, status_of};
 
 pub mod reasons;
 
@@ -9,7 +9,7 @@ use chip::{Chip, Core, handshakes};
 use control::Group;
 
 fn flag(core: Core, group: Group, side: Side) -> bool
-    ensures { result ≡ flagAt core group side }
+    ensures { result ≡ flag_at core group side }
 {
     let channel = chip::channels::find(core, group, side);
     let fill = channel.fill;
@@ -18,7 +18,7 @@ fn flag(core: Core, group: Group, side: Side) -> bool
 
 // Whether the channel asks for an interrupt: one half of its group's INTR.
 fn request(chip: Chip, group: Group, side: Side) -> bool
-    ensures { result ≡ requestOf chip group side }
+    ensures { result ≡ request_of chip group side }
 {
     let core = chip.core;
     let inte = core.inte;
@@ -32,14 +32,14 @@ fn request(chip: Chip, group: Group, side: Side) -> bool
 
 // The group's INTR.
 fn intr(chip: Chip, group: Group) -> bool
-    ensures { result ≡ intrOf chip group }
+    ensures { result ≡ intr_of chip group }
 {
     request(chip, group, Side::Input) | request(chip, group, Side::Output)
 }
 
 // Group B's flag: its two channels share the pin.
 fn flag_of_b(core: Core) -> bool
-    ensures { result ≡ flagOfB core }
+    ensures { result ≡ flag_of_b core }
 {
     let taken = control::mode::strobed_input(core.word, Group::B);
     (taken & flag(core, Group::B, Side::Input)) | (!taken & flag(core, Group::B, Side::Output))
@@ -47,7 +47,7 @@ fn flag_of_b(core: Core) -> bool
 
 // Every flag, enable and request on the pin that tells it.
 pub fn status(chip: Chip) -> u8
-    ensures { result ≡ statusOf chip }
+    ensures { result ≡ status_of chip }
 {
     let core = chip.core;
     let inte = core.inte;

@@ -1,6 +1,6 @@
 // Why a group's INTR is low: of each half the first reason, or that it is high; and the numbers of these answers.
 ghost use Rattle.std.specs.Prelude.{◌≡◌, cond};
-ghost use Rattle.status.specs.Reasons.{reasonOf, oneWay, explainedIn, explainedOf, reasonNumber, numbersOf};
+ghost use Rattle.status.specs.Reasons.{reason_of, one_way, explained_in, explained_of, reason_number, numbers_of};
 
 use bus::{ACCEPTED, OUT_OF_RANGE};
 use channel::Side;
@@ -70,7 +70,7 @@ fn first(off: bool, wrong: bool, low: bool, runs: bool) -> Reason
 }
 
 fn half(chip: Chip, group: Group, side: Side) -> Reason
-    ensures { result ≡ reasonOf chip group side }
+    ensures { result ≡ reason_of chip group side }
 {
     let core = chip.core;
     let inte = core.inte;
@@ -85,7 +85,7 @@ fn half(chip: Chip, group: Group, side: Side) -> Reason
 
 // In mode 1 a port goes one way.
 fn one_way(chip: Chip, group: Group) -> Explained
-    ensures { result ≡ oneWay chip group }
+    ensures { result ≡ one_way chip group }
 {
     if control::mode::output(chip.core.word, group) {
         Explained::OutputHalf(half(chip, group, Side::Output))
@@ -95,7 +95,7 @@ fn one_way(chip: Chip, group: Group) -> Explained
 }
 
 fn in_group(chip: Chip, group: Group) -> Explained
-    ensures { result ≡ explainedIn chip group }
+    ensures { result ≡ explained_in chip group }
 {
     let mode = control::mode::mode(chip.core.word, group);
     match mode {
@@ -110,7 +110,7 @@ fn in_group(chip: Chip, group: Group) -> Explained
 
 // Explains the INTR of group 0 or 1, A or B.
 pub fn explain(chip: Chip, group: u8) -> Explained
-    ensures { result ≡ explainedOf chip group }
+    ensures { result ≡ explained_of chip group }
 {
     match group {
         0 => in_group(chip, Group::A),
@@ -120,7 +120,7 @@ pub fn explain(chip: Chip, group: u8) -> Explained
 }
 
 fn reason_number(reason: Reason) -> u8
-    ensures { result ≡ reasonNumber reason }
+    ensures { result ≡ reason_number reason }
 {
     match reason {
         Reason::EnableOff => ENABLE_OFF,
@@ -133,7 +133,7 @@ fn reason_number(reason: Reason) -> u8
 
 // What is said, in numbers.
 pub fn numbered(explained: Explained) -> Numbers
-    ensures { result ≡ numbersOf explained }
+    ensures { result ≡ numbers_of explained }
 {
     match explained {
         Explained::NoGroup => Numbers {

@@ -1,14 +1,14 @@
 // What an accepted event of each kind makes of the chip. Each kind stands alone, so that who has chosen one has to do with no other. The
 // whole core is passed by value, and to follow it the prover names the types that the crate channel declares.
 ghost use Rattle.std.specs.Prelude.{◌≡◌};
-ghost use Rattle.bus.specs.Device.{resetIn, readBegunIn, cycleEndedIn, writeBegunIn, levelsPutIn};
-ghost use Rattle.step.specs.Step.{onBus, after_end, device};
+ghost use Rattle.bus.specs.Device.{reset_in, read_begun_in, cycle_ended_in, write_begun_in, levels_put_in};
+ghost use Rattle.step.specs.Step.{on_bus, after_end, device};
 
 use bus::Phase;
 use chip::{Chip, Core, Edition};
 
 fn on_bus(phase: Phase, edition: Edition, core: Core) -> Chip
-    ensures { result ≡ onBus phase edition core }
+    ensures { result ≡ on_bus phase edition core }
 {
     Chip {
         phase,
@@ -18,7 +18,7 @@ fn on_bus(phase: Phase, edition: Edition, core: Core) -> Chip
 }
 
 pub fn reset(chip: Chip) -> Chip
-    ensures { result ≡ resetIn device chip }
+    ensures { result ≡ reset_in device chip }
 {
     let edition = chip.edition;
     let core = settings::renew(chip.core, chip::POWER_UP_WORD);
@@ -26,7 +26,7 @@ pub fn reset(chip: Chip) -> Chip
 }
 
 pub fn begin_read(chip: Chip, address: u8) -> Chip
-    ensures { result ≡ readBegunIn device chip address }
+    ensures { result ≡ read_begun_in device chip address }
 {
     let edition = chip.edition;
     let core = reads::begin(chip.core, address);
@@ -46,7 +46,7 @@ fn end(core: Core, phase: Phase) -> Core
 
 // Whatever runs on the bus ends.
 pub fn end_cycle(chip: Chip) -> Chip
-    ensures { result ≡ cycleEndedIn device chip }
+    ensures { result ≡ cycle_ended_in device chip }
 {
     let phase = chip.phase;
     let edition = chip.edition;
@@ -54,7 +54,7 @@ pub fn end_cycle(chip: Chip) -> Chip
 }
 
 pub fn begin_write(chip: Chip, address: u8, byte: u8) -> Chip
-    ensures { result ≡ writeBegunIn device chip address byte }
+    ensures { result ≡ write_begun_in device chip address byte }
 {
     let edition = chip.edition;
     on_bus(Phase::Writing(address, byte), edition, chip.core)
@@ -62,7 +62,7 @@ pub fn begin_write(chip: Chip, address: u8, byte: u8) -> Chip
 
 // Levels leave the bus as it is.
 pub fn levels(chip: Chip, port: u8, levels: u8) -> Chip
-    ensures { result ≡ levelsPutIn device chip port levels }
+    ensures { result ≡ levels_put_in device chip port levels }
 {
     let phase = chip.phase;
     let edition = chip.edition;

@@ -1,7 +1,7 @@
 // One event of the chip: refused by its number, and then nothing changes, or accepted, with its effect and the byte of a read.
 ghost use Rattle.std.specs.Prelude.{◌≡◌};
 ghost use Rattle.bus.specs.Refusals.{number_of};
-ghost use Rattle.bus.specs.Device.{afterIn, byteIn};
+ghost use Rattle.bus.specs.Device.{after_in, byte_in};
 ghost use Rattle.step.specs.Step.{readable, limits, device, step_of};
 
 use bus::{Limits, Phase};
@@ -43,7 +43,7 @@ pub fn number(edition: Edition, phase: Phase, kind: u8, first: u8) -> u8
 }
 
 fn after(chip: Chip, kind: u8, first: u8, second: u8) -> Chip
-    ensures { result ≡ afterIn device chip kind first second }
+    ensures { result ≡ after_in device chip kind first second }
 {
     match kind {
         events::RESET => kinds::reset(chip),
@@ -56,7 +56,7 @@ fn after(chip: Chip, kind: u8, first: u8, second: u8) -> Chip
 
 // Only a read that begins has a byte to give.
 fn byte(chip: Chip, kind: u8, first: u8) -> u8
-    ensures { result ≡ byteIn device chip kind first }
+    ensures { result ≡ byte_in device chip kind first }
 {
     if kind == events::BEGIN_READ {
         return ports::read::value(chip, first);

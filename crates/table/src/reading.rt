@@ -1,13 +1,13 @@
 // An answer read from the published table.
 ghost use Rattle.std.specs.Prelude.{◌≡◌};
-ghost use Rattle.lookup.specs.Lookup.{lookupOf};
+ghost use Rattle.lookup.specs.Lookup.{lookup_of};
 
 use super::entries;
 
 // The table's entry for a word and a pin; 255 where it has none. The contract is that of the lookup: so the two agree, at every word
 // and every pin.
 pub(super) fn answer(word: u8, pin: u8) -> u8
-    ensures { result ≡ lookupOf word pin }
+    ensures { result ≡ lookup_of word pin }
 {
     if (word < 128) | (7 < pin) {
         return 255;

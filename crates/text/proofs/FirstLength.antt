@@ -11,26 +11,26 @@ use lib.ListN.{length, get_or, drop, drop_of_length-le}
 use lib.Seq.{drop-cons}
 use borrow.Author.Tests.{eq-eqb, ne_eqb}
 use Rattle.text.specs.Lines.{lf}
-use Rattle.text.specs.LineEnds.{firstLength}
+use Rattle.text.specs.LineEnds.{first_length}
 
-pub at-end : (text : List ℕ) (at : ℕ) → length text ≤ at → firstLength (drop at text) ≡ 0
-unfolding firstLength
+pub at-end : (text : List ℕ) (at : ℕ) → length text ≤ at → first_length (drop at text) ≡ 0
+unfolding first_length
 at-end text at h = rw (drop_of_length-le text {i = at} h)
 
-pub at-lf : (text : List ℕ) (at : ℕ) → at < length text → get_or text at 0 ≡ lf → firstLength (drop at text) ≡ 0
-unfolding firstLength
+pub at-lf : (text : List ℕ) (at : ℕ) → at < length text → get_or text at 0 ≡ lf → first_length (drop at text) ≡ 0
+unfolding first_length
 at-lf text at h e = rw (drop-cons text at 0 h, eq-eqb _ _ e)
 
 pub within : (text : List ℕ) (at : ℕ) → at < length text → ¬ (get_or text at 0 ≡ lf)
-    → firstLength (drop at text) ≡ suc (firstLength (drop (at + 1) text))
-unfolding firstLength
+    → first_length (drop at text) ≡ suc (first_length (drop (at + 1) text))
+unfolding first_length
 within text at h other = rw (add-one at, drop-cons text at 0 h, ne_eqb _ _ other)
 
-pub no_longer : (text : List ℕ) → firstLength text ≤ length text
-unfolding firstLength
+pub no_longer : (text : List ℕ) → first_length text ≤ length text
+unfolding first_length
 no_longer [] = omega arith
 no_longer (b ∷ text) = go (eqb b lf) (no_longer text)
   where
-    go : (t : Bool) → firstLength text ≤ length text → cond t 0 (suc (firstLength text)) ≤ suc (length text)
+    go : (t : Bool) → first_length text ≤ length text → cond t 0 (suc (first_length text)) ≤ suc (length text)
     go true h = omega arith
     go false h = omega arith

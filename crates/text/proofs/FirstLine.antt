@@ -9,52 +9,52 @@ use native.Mathlib.Omega.{arith}
 use borrow.Author.Tests.{lt-ltb}
 use lib.Dec.{eqb, ltb, leb-suc-suc}
 use lib.ListN.{length, take, drop}
-use Rattle.text.specs.Lines.{lf, Line, ended, rest, withByte, beforeLines, lines_of}
-use Rattle.text.specs.LineEnds.{firstLength, firstLine}
+use Rattle.text.specs.Lines.{lf, Line, ended, rest, with_byte, before_lines, lines_of}
+use Rattle.text.specs.LineEnds.{first_length, first_line}
 
 -- A byte in front of a text makes its first line longer by one.
-with_byte : (b n : ℕ) (text : List ℕ) → withByte b (firstLine n text) ≡ firstLine (suc n) (b ∷ text)
-with_byte b n text = rw (leb-suc-suc (suc n) (length text)) (go (ltb n (length text)))
+with-byte : (b n : ℕ) (text : List ℕ) → with_byte b (first_line n text) ≡ first_line (suc n) (b ∷ text)
+with-byte b n text = rw (leb-suc-suc (suc n) (length text)) (go (ltb n (length text)))
   where
     go : (t : Bool)
-        → withByte b (cond t (ended (take n text)) (rest (take n text))) ≡ cond t (ended (b ∷ take n text)) (rest (b ∷ take n text))
+        → with_byte b (cond t (ended (take n text)) (rest (take n text))) ≡ cond t (ended (b ∷ take n text)) (rest (b ∷ take n text))
     go true = refl
     go false = refl
 
 -- A text that begins with LF begins with a blank line.
-blank : (b : ℕ) (text : List ℕ) → ended [] ≡ firstLine 0 (b ∷ text)
+blank : (b : ℕ) (text : List ℕ) → ended [] ≡ first_line 0 (b ∷ text)
 blank b text = rw (lt-ltb 0 (suc (length text)) (omega arith))
 
 -- The first line of a text, and the lines behind it.
 abbrev pub FirstAndRest : List ℕ → Type 0
-FirstAndRest text = lines_of text ≡ firstLine (firstLength text) text ∷ lines_of (drop (suc (firstLength text)) text)
+FirstAndRest text = lines_of text ≡ first_line (first_length text) text ∷ lines_of (drop (suc (first_length text)) text)
 
 -- It follows for a text with a byte more in front, LF or not.
-one_more : (b d : ℕ) (text : List ℕ) → FirstAndRest (d ∷ text) → FirstAndRest (b ∷ d ∷ text)
-unfolding lines_of firstLength
-one_more b d text behind = go (eqb b lf)
+one-more : (b d : ℕ) (text : List ℕ) → FirstAndRest (d ∷ text) → FirstAndRest (b ∷ d ∷ text)
+unfolding lines_of first_length
+one-more b d text behind = go (eqb b lf)
   where
     k : ℕ
-    k = firstLength (d ∷ text)
+    k = first_length (d ∷ text)
 
     go : (t : Bool)
-        → cond t (ended [] ∷ lines_of (d ∷ text)) (beforeLines b (lines_of (d ∷ text)))
-        ≡ firstLine (cond t 0 (suc k)) (b ∷ d ∷ text) ∷ lines_of (drop (suc (cond t 0 (suc k))) (b ∷ d ∷ text))
+        → cond t (ended [] ∷ lines_of (d ∷ text)) (before_lines b (lines_of (d ∷ text)))
+        ≡ first_line (cond t 0 (suc k)) (b ∷ d ∷ text) ∷ lines_of (drop (suc (cond t 0 (suc k))) (b ∷ d ∷ text))
     go true = ap (λ (l : Line). l ∷ lines_of (d ∷ text)) (blank b (d ∷ text))
-    go false = ap (beforeLines b) behind ∙ ap (λ (l : Line). l ∷ lines_of (drop (suc k) (d ∷ text))) (with_byte b k (d ∷ text))
+    go false = ap (before_lines b) behind ∙ ap (λ (l : Line). l ∷ lines_of (drop (suc k) (d ∷ text))) (with-byte b k (d ∷ text))
 
 one_byte : (b : ℕ) → FirstAndRest (b ∷ [])
-unfolding lines_of firstLength
+unfolding lines_of first_length
 one_byte b = go (eqb b lf)
   where
     go : (t : Bool)
-        → cond t (ended [] ∷ []) (rest (b ∷ []) ∷ []) ≡ firstLine (cond t 0 1) (b ∷ []) ∷ lines_of (drop (suc (cond t 0 1)) (b ∷ []))
+        → cond t (ended [] ∷ []) (rest (b ∷ []) ∷ []) ≡ first_line (cond t 0 1) (b ∷ []) ∷ lines_of (drop (suc (cond t 0 1)) (b ∷ []))
     go true = refl
     go false = refl
 
 begins : (b : ℕ) (text : List ℕ) → FirstAndRest (b ∷ text)
 begins b [] = one_byte b
-begins b (d ∷ text) = one_more b d text (begins d text)
+begins b (d ∷ text) = one-more b d text (begins d text)
 
 -- Of every text that is not empty.
 pub first-and-rest : (text : List ℕ) → 0 < length text → FirstAndRest text

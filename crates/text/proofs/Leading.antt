@@ -7,18 +7,18 @@ use native.Mathlib.Numerals.{add-one}
 use native.Mathlib.Omega.{arith}
 use lib.ListN.{length, get_or, drop, drop_of_length-le}
 use lib.Seq.{drop-cons}
-use Rattle.text.specs.Digits.{noByte, pairValue}
-use Rattle.text.specs.Frames.{leadingByte}
+use Rattle.text.specs.Digits.{no_byte, pair_value}
+use Rattle.text.specs.Frames.{leading_byte}
 
-pub none_left : (line : List ℕ) (at : ℕ) → length line ≤ at → leadingByte (drop at line) ≡ 0
-unfolding leadingByte
+pub none_left : (line : List ℕ) (at : ℕ) → length line ≤ at → leading_byte (drop at line) ≡ 0
+unfolding leading_byte
 none_left line at h = rw (drop_of_length-le line {i = at} h)
 
-pub one_left : (line : List ℕ) (at : ℕ) → length line ≡ suc at → leadingByte (drop at line) ≡ noByte
-unfolding leadingByte
+pub one_left : (line : List ℕ) (at : ℕ) → length line ≡ suc at → leading_byte (drop at line) ≡ no_byte
+unfolding leading_byte
 one_left line at e = rw (drop-cons line at 0 (omega (arith, e)), drop_of_length-le line {i = suc at} (omega (arith, e)))
 
 pub two-left : (line : List ℕ) (at : ℕ) → at + 1 < length line
-    → leadingByte (drop at line) ≡ pairValue (get_or line at 0) (get_or line (at + 1) 0)
-unfolding leadingByte
+    → leading_byte (drop at line) ≡ pair_value (get_or line at 0) (get_or line (at + 1) 0)
+unfolding leading_byte
 two-left line at h = rw (add-one at, drop-cons line at 0 (omega (arith, h)), drop-cons line (suc at) 0 (omega (arith, h)))

@@ -8,10 +8,10 @@ use native.Mathlib.Nat.{not-suc-le-zero}
 use native.Mathlib.Omega.{arith}
 use lib.Dec.{eqb}
 use lib.ListN.{length, length-append}
-use Rattle.text.specs.Lines.{lf, Line, ended, beforeLines, lines_of}
+use Rattle.text.specs.Lines.{lf, Line, ended, before_lines, lines_of}
 use Rattle.text.proofs.FirstLine.{a-line}
 
-before-append : (b : ℕ) (ls ms : List Line) → 0 < length ls → beforeLines b (ls ++ ms) ≡ beforeLines b ls ++ ms
+before-append : (b : ℕ) (ls ms : List Line) → 0 < length ls → before_lines b (ls ++ ms) ≡ before_lines b ls ++ ms
 before-append b [] ms h = absurd (not-suc-le-zero h)
 before-append b (l ∷ ls) ms h = refl
 
@@ -23,7 +23,7 @@ lines-append (b ∷ text) later = go (eqb b lf) (lines-append text later) (a-lin
     go : (t : Bool)
         → lines_of (text ++ lf ∷ later) ≡ lines_of (text ++ lf ∷ []) ++ lines_of later
         → 0 < length (lines_of (text ++ lf ∷ []))
-        → cond t (ended [] ∷ lines_of (text ++ lf ∷ later)) (beforeLines b (lines_of (text ++ lf ∷ later)))
-        ≡ cond t (ended [] ∷ lines_of (text ++ lf ∷ [])) (beforeLines b (lines_of (text ++ lf ∷ []))) ++ lines_of later
+        → cond t (ended [] ∷ lines_of (text ++ lf ∷ later)) (before_lines b (lines_of (text ++ lf ∷ later)))
+        ≡ cond t (ended [] ∷ lines_of (text ++ lf ∷ [])) (before_lines b (lines_of (text ++ lf ∷ []))) ++ lines_of later
     go true same some = ap (λ (ls : List Line). ended [] ∷ ls) same
-    go false same some = ap (λ (ls : List Line). beforeLines b ls) same ∙ before-append b (lines_of (text ++ lf ∷ [])) (lines_of later) some
+    go false same some = ap (λ (ls : List Line). before_lines b ls) same ∙ before-append b (lines_of (text ++ lf ∷ [])) (lines_of later) some

@@ -8,7 +8,7 @@ use native.Mathlib.Omega.{arith}
 use lib.ListN.{length, drop, length-drop}
 use lib.Seq.{drop-drop}
 use Rattle.text.specs.Lines.{Line, lines_of}
-use Rattle.text.specs.LineEnds.{firstLength, lineEnd, lineBetween}
+use Rattle.text.specs.LineEnds.{first_length, line_end, line_between}
 use Rattle.text.proofs.FirstLength.{no_longer}
 use Rattle.text.proofs.FirstLine.{first-and-rest, no_line}
 
@@ -21,13 +21,13 @@ lines_from text start = lines_of (drop start text)
 pub record Turn (text : List ℕ) (start end : ℕ) : Type 0 where
   pub inside : end ≤ length text
   pub onward : length text - (end + 1) < length text - start
-  pub lines : lines_from text start ≡ lineBetween text start end ∷ lines_from text (end + 1)
+  pub lines : lines_from text start ≡ line_between text start end ∷ lines_from text (end + 1)
 
-pub turn : (text : List ℕ) (start end : ℕ) → end ≡ lineEnd text start → start < length text → Turn text start end
+pub turn : (text : List ℕ) (start end : ℕ) → end ≡ line_end text start → start < length text → Turn text start end
 turn text start end is within =
     let left : List ℕ = drop start text in
     let size : length left ≡ length text - start = length-drop start text in
-    let long : end - start ≡ firstLength left = omega (arith, is) in
+    let long : end - start ≡ first_length left = omega (arith, is) in
     let next : start + suc (end - start) ≡ end + 1 = omega (arith, is) in
     record {
       inside = omega (arith, is, within, size, no_longer left);

@@ -7,30 +7,30 @@ use Prim.Native.Nat.{ℕ, ◌/◌, ◌<◌}
 use native.Mathlib.Omega.{arith}
 use borrow.Author.Tests.{lt-ltb}
 use Rattle.bits.proofs.Tested.{numbers}
-use Rattle.events.specs.Kinds.{isKind, operandsOf}
+use Rattle.events.specs.Kinds.{is_kind, operands_of}
 use Rattle.events.proofs.ByKind.{kind-small}
 use Rattle.text.specs.declared.Frame.TheVariants.{Event}
-use Rattle.text.specs.Digits.{noByte, digitValue, digitCode, pairValue, inDigits}
-use Rattle.text.specs.Frames.{leadingByte, isFrame, frame_of}
+use Rattle.text.specs.Digits.{no_byte, digit_value, digit_code, pair_value, in_digits}
+use Rattle.text.specs.Frames.{leading_byte, is_frame, frame_of}
 
 -- Two digits that write a byte are read as that byte.
-pub pair-written : (v : ℕ) → v < noByte → pairValue (digitCode (v / 16)) (digitCode v) ≡ v
-unfolding pairValue digitCode digitValue
-pair-written v h = numbers noByte (λ v. pairValue (digitCode (v / 16)) (digitCode v)) (λ v. v) tt v h
+pub pair-written : (v : ℕ) → v < no_byte → pair_value (digit_code (v / 16)) (digit_code v) ≡ v
+unfolding pair_value digit_code digit_value
+pair-written v h = numbers no_byte (λ v. pair_value (digit_code (v / 16)) (digit_code v)) (λ v. v) tt v h
 
-module _ (k : ℕ) (kind : isKind k ≡ true) where
-  read-kind : pairValue (digitCode (k / 16)) (digitCode k) ≡ k
+module _ (k : ℕ) (kind : is_kind k ≡ true) where
+  read-kind : pair_value (digit_code (k / 16)) (digit_code k) ≡ k
   read-kind = pair-written k (omega (arith, kind-small k kind))
 
-  pub kind-alone : operandsOf k ≡ 0 → frame_of (inDigits k) ≡ Event k 0 0
-  unfolding frame_of isFrame leadingByte
+  pub kind-alone : operands_of k ≡ 0 → frame_of (in_digits k) ≡ Event k 0 0
+  unfolding frame_of is_frame leading_byte
   kind-alone none = rw (read-kind, none, kind)
 
-  pub with-one : (x : ℕ) → x < noByte → operandsOf k ≡ 1 → frame_of (inDigits k ++ inDigits x) ≡ Event k x 0
-  unfolding frame_of isFrame leadingByte
-  with-one x hx one = rw (read-kind, pair-written x hx, one, kind, lt-ltb x noByte hx)
+  pub with-one : (x : ℕ) → x < no_byte → operands_of k ≡ 1 → frame_of (in_digits k ++ in_digits x) ≡ Event k x 0
+  unfolding frame_of is_frame leading_byte
+  with-one x hx one = rw (read-kind, pair-written x hx, one, kind, lt-ltb x no_byte hx)
 
-  pub with_two : (x d : ℕ) → x < noByte → d < noByte → operandsOf k ≡ 2 → frame_of (inDigits k ++ inDigits x ++ inDigits d) ≡ Event k x d
-  unfolding frame_of isFrame leadingByte
+  pub with_two : (x d : ℕ) → x < no_byte → d < no_byte → operands_of k ≡ 2 → frame_of (in_digits k ++ in_digits x ++ in_digits d) ≡ Event k x d
+  unfolding frame_of is_frame leading_byte
   with_two x d hx hd two =
-      rw (read-kind, pair-written x hx, pair-written d hd, two, kind, lt-ltb x noByte hx, lt-ltb d noByte hd)
+      rw (read-kind, pair-written x hx, pair-written d hd, two, kind, lt-ltb x no_byte hx, lt-ltb d no_byte hd)

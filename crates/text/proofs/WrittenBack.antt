@@ -11,13 +11,13 @@ use lib.Seq.{drop-drop}
 use borrow.Author.Tests.{eqb-true, ltb-true, ltb-false, lt-ltb, ne_eqb}
 use Rattle.bits.proofs.Logic.{both, contrary}
 use Rattle.bits.proofs.Tested.{numbers}
-use Rattle.events.specs.Kinds.{isKind, noKind, operandsOf}
+use Rattle.events.specs.Kinds.{is_kind, no_kind, operands_of}
 use Rattle.events.specs.Event.{Event, event}
 use Rattle.events.proofs.ByKind.{by_kind, kind-small}
 use Rattle.text.specs.declared.Frame.TheVariants.{Event as Frame-as-Event}
-use Rattle.text.specs.Digits.{digits, placeFrom, digitValue, digitCode, inDigits, noByte, pairValue}
-use Rattle.text.specs.Frames.{leadingByte, kindIn, firstIn, secondIn, isFrame, frame_of}
-use Rattle.text.specs.Written.{operandsOut, writtenOut, Exact}
+use Rattle.text.specs.Digits.{digits, place_from, digit_value, digit_code, in_digits, no_byte, pair_value}
+use Rattle.text.specs.Frames.{leading_byte, kind_in, first_in, second_in, is_frame, frame_of}
+use Rattle.text.specs.Written.{operands_out, written_out, Exact}
 use Rattle.text.proofs.Leading.{none_left}
 use Rattle.text.proofs.Written.{kind-alone, with-one, with_two}
 
@@ -27,7 +27,7 @@ all_below bound [] = true
 all_below bound (x ∷ xs) = ltb x bound && all_below bound xs
 
 -- A code from there on has no place in the list.
-pub no_place : (xs : List ℕ) (n bound code : ℕ) → all_below bound xs ≡ true → bound ≤ code → placeFrom n xs code ≡ n + length xs
+pub no_place : (xs : List ℕ) (n bound code : ℕ) → all_below bound xs ≡ true → bound ≤ code → place_from n xs code ≡ n + length xs
 no_place [] n bound code below above = omega arith
 no_place (x ∷ xs) n bound code below above =
     let k = both (ltb x bound) (all_below bound xs) below in
@@ -35,128 +35,128 @@ no_place (x ∷ xs) n bound code below above =
     (no_place xs (suc n) bound code k.1 above ∙ omega arith)
 
 -- The last digit is F, 70.
-abbrev pastDigits : ℕ
-pastDigits = 71
+abbrev past_digits : ℕ
+past_digits = 71
 
 -- A digit is the code of what it is worth.
-pub digit-back : (code : ℕ) → digitValue code < 16 → digitCode (digitValue code) ≡ code
-unfolding digitValue digitCode
-digit-back code digit = go (ltb code pastDigits) refl
+pub digit-back : (code : ℕ) → digit_value code < 16 → digit_code (digit_value code) ≡ code
+unfolding digit_value digit_code
+digit-back code digit = go (ltb code past_digits) refl
   where
-    go : (small : Bool) → ltb code pastDigits ≡ small → digitCode (digitValue code) ≡ code
+    go : (small : Bool) → ltb code past_digits ≡ small → digit_code (digit_value code) ≡ code
     go true s =
-        let test = numbers pastDigits (λ k. cond (ltb (digitValue k) 16) (digitCode (digitValue k)) k) (λ k. k) tt code (ltb-true code pastDigits s) in
-        rw (lt-ltb (digitValue code) 16 digit) at test
-    go false s = absurd (omega (arith, digit, no_place digits 0 pastDigits code refl (ltb-false code pastDigits s)))
+        let test = numbers past_digits (λ k. cond (ltb (digit_value k) 16) (digit_code (digit_value k)) k) (λ k. k) tt code (ltb-true code past_digits s) in
+        rw (lt-ltb (digit_value code) 16 digit) at test
+    go false s = absurd (omega (arith, digit, no_place digits 0 past_digits code refl (ltb-false code past_digits s)))
 
 -- Two codes that write a byte are its two digits.
-module _ (high low : ℕ) (byte : pairValue high low < noByte) where
-  both-digits : (digitValue high < 16) × (digitValue low < 16) × (pairValue high low ≡ 16 * digitValue high + digitValue low)
-  unfolding pairValue
-  both-digits = go (ltb (digitValue high) 16 && ltb (digitValue low) 16) refl
+module _ (high low : ℕ) (byte : pair_value high low < no_byte) where
+  both-digits : (digit_value high < 16) × (digit_value low < 16) × (pair_value high low ≡ 16 * digit_value high + digit_value low)
+  unfolding pair_value
+  both-digits = go (ltb (digit_value high) 16 && ltb (digit_value low) 16) refl
     where
-      go : (t : Bool) → (ltb (digitValue high) 16 && ltb (digitValue low) 16) ≡ t
-          → (digitValue high < 16) × (digitValue low < 16) × (pairValue high low ≡ 16 * digitValue high + digitValue low)
+      go : (t : Bool) → (ltb (digit_value high) 16 && ltb (digit_value low) 16) ≡ t
+          → (digit_value high < 16) × (digit_value low < 16) × (pair_value high low ≡ 16 * digit_value high + digit_value low)
       go true t =
-          let k = both (ltb (digitValue high) 16) (ltb (digitValue low) 16) t in
-          (ltb-true (digitValue high) 16 k.0, ltb-true (digitValue low) 16 k.1, rw (t))
+          let k = both (ltb (digit_value high) 16) (ltb (digit_value low) 16) t in
+          (ltb-true (digit_value high) 16 k.0, ltb-true (digit_value low) 16 k.1, rw (t))
       go false t = absurd (omega (arith, rw (t) at byte))
 
-  pub pair-back : (digitCode (pairValue high low / 16) ≡ high) × (digitCode (pairValue high low) ≡ low)
-  unfolding digitCode
+  pub pair-back : (digit_code (pair_value high low / 16) ≡ high) × (digit_code (pair_value high low) ≡ low)
+  unfolding digit_code
   pair-back =
       let k = both-digits in
-      let sixteens : pairValue high low / 16 % 16 ≡ digitValue high % 16 = omega (arith, k.0, k.1, k.2) in
-      let ones : pairValue high low % 16 ≡ digitValue low % 16 = omega (arith, k.1, k.2) in
+      let sixteens : pair_value high low / 16 % 16 ≡ digit_value high % 16 = omega (arith, k.0, k.1, k.2) in
+      let ones : pair_value high low % 16 ≡ digit_value low % 16 = omega (arith, k.1, k.2) in
       (ap (λ n. get_or digits n 0) sixteens ∙ digit-back high k.0, ap (λ n. get_or digits n 0) ones ∙ digit-back low k.1)
 
 -- A line that begins with a byte is that byte, written out, and what stands behind it.
-pub leading-back : (line : List ℕ) → 2 ≤ length line → leadingByte line < noByte → inDigits (leadingByte line) ++ drop 2 line ≡ line
-unfolding leadingByte
+pub leading-back : (line : List ℕ) → 2 ≤ length line → leading_byte line < no_byte → in_digits (leading_byte line) ++ drop 2 line ≡ line
+unfolding leading_byte
 leading-back [] long byte = absurd (omega (arith, long))
 leading-back (high ∷ []) long byte = absurd (omega (arith, long))
 leading-back (high ∷ low ∷ later) long byte = let k = pair-back high low byte in λ i. k.0 i ∷ k.1 i ∷ later
 
-few-operands : (k : ℕ) → isKind k ≡ true → operandsOf k ≤ 2
-unfolding operandsOf
+few-operands : (k : ℕ) → is_kind k ≡ true → operands_of k ≤ 2
+unfolding operands_of
 few-operands =
-    by_kind (λ k. isKind k ≡ true → operandsOf k ≤ 2)
+    by_kind (λ k. is_kind k ≡ true → operands_of k ≤ 2)
     (λ is. omega arith) (λ is. omega arith) (λ is. omega arith) (λ is. omega arith) (λ is. omega arith)
-    (λ k none is. absurd (contrary (noKind k) (rw (is)) none))
+    (λ k none is. absurd (contrary (no_kind k) (rw (is)) none))
 
 -- The event that a line says, where it is a frame.
-abbrev pub eventIn : List ℕ → Event
-eventIn line = event (kindIn line) (firstIn line) (secondIn line)
+abbrev pub event_in : List ℕ → Event
+event_in line = event (kind_in line) (first_in line) (second_in line)
 
 -- What its being a frame says.
-module _ (line : List ℕ) (is : isFrame line ≡ true) where
-  parts : (isKind (kindIn line) ≡ true) × (length line ≡ 2 + 2 * operandsOf (kindIn line)) × (firstIn line < noByte) × (secondIn line < noByte)
-  unfolding isFrame
+module _ (line : List ℕ) (is : is_frame line ≡ true) where
+  parts : (is_kind (kind_in line) ≡ true) × (length line ≡ 2 + 2 * operands_of (kind_in line)) × (first_in line < no_byte) × (second_in line < no_byte)
+  unfolding is_frame
   parts =
-      let known = isKind (kindIn line) in
-      let exact = eqb (length line) (2 + 2 * operandsOf (kindIn line)) in
-      let all = both (known && exact && ltb (firstIn line) noByte) (ltb (secondIn line) noByte) is in
-      let front = both (known && exact) (ltb (firstIn line) noByte) all.0 in
+      let known = is_kind (kind_in line) in
+      let exact = eqb (length line) (2 + 2 * operands_of (kind_in line)) in
+      let all = both (known && exact && ltb (first_in line) no_byte) (ltb (second_in line) no_byte) is in
+      let front = both (known && exact) (ltb (first_in line) no_byte) all.0 in
       let kind = both known exact front.0 in (
         kind.0,
-        eqb-true (length line) (2 + 2 * operandsOf (kindIn line)) kind.1,
-        ltb-true (firstIn line) noByte front.1,
-        ltb-true (secondIn line) noByte all.1,
+        eqb-true (length line) (2 + 2 * operands_of (kind_in line)) kind.1,
+        ltb-true (first_in line) no_byte front.1,
+        ltb-true (second_in line) no_byte all.1,
       )
 
   pub no-longer-than-six : length line ≤ 6
-  no-longer-than-six = omega (arith, parts.1, few-operands (kindIn line) parts.0)
+  no-longer-than-six = omega (arith, parts.1, few-operands (kind_in line) parts.0)
 
-  pub exact-event : Exact (eventIn line)
+  pub exact-event : Exact (event_in line)
   exact-event = record {
     known = parts.0;
-    firstByte = parts.2;
-    secondByte = parts.3;
-    noFirst = λ none. none_left line 2 (omega (arith, parts.1, none));
-    noSecond = λ few. none_left line 4 (omega (arith, parts.1, few));
+    first_byte = parts.2;
+    second_byte = parts.3;
+    no_first = λ none. none_left line 2 (omega (arith, parts.1, none));
+    no_second = λ few. none_left line 4 (omega (arith, parts.1, few));
   }
 
   -- The line is that event, written out.
-  pub written_back : line ≡ writtenOut (eventIn line)
-  unfolding writtenOut
-  written_back = go (operandsOf (kindIn line)) parts.1 (few-operands (kindIn line) parts.0)
+  pub written_back : line ≡ written_out (event_in line)
+  unfolding written_out
+  written_back = go (operands_of (kind_in line)) parts.1 (few-operands (kind_in line) parts.0)
     where
-      kind : inDigits (kindIn line) ++ drop 2 line ≡ line
-      kind = leading-back line (omega (arith, parts.1)) (omega (arith, kind-small (kindIn line) parts.0))
+      kind : in_digits (kind_in line) ++ drop 2 line ≡ line
+      kind = leading-back line (omega (arith, parts.1)) (omega (arith, kind-small (kind_in line) parts.0))
 
-      behind : (n : ℕ) → 2 + n ≤ length line → leadingByte (drop n line) < noByte
-          → drop n line ≡ inDigits (leadingByte (drop n line)) ++ drop (n + 2) line
+      behind : (n : ℕ) → 2 + n ≤ length line → leading_byte (drop n line) < no_byte
+          → drop n line ≡ in_digits (leading_byte (drop n line)) ++ drop (n + 2) line
       behind n long byte =
           sym (leading-back (drop n line) (omega (arith, long, length-drop n line)) byte)
-          ∙ ap (λ later. inDigits (leadingByte (drop n line)) ++ later) (drop-drop 2 n line)
+          ∙ ap (λ later. in_digits (leading_byte (drop n line)) ++ later) (drop-drop 2 n line)
 
       none : (n : ℕ) → length line ≤ n → drop n line ≡ []
       none n short = drop_of_length-le line short
 
-      go : (n : ℕ) → length line ≡ 2 + 2 * n → n ≤ 2 → line ≡ inDigits (kindIn line) ++ operandsOut n (firstIn line) (secondIn line)
-      go zero long few = sym kind ∙ ap (λ later. inDigits (kindIn line) ++ later) (none 2 (omega (arith, long)))
+      go : (n : ℕ) → length line ≡ 2 + 2 * n → n ≤ 2 → line ≡ in_digits (kind_in line) ++ operands_out n (first_in line) (second_in line)
+      go zero long few = sym kind ∙ ap (λ later. in_digits (kind_in line) ++ later) (none 2 (omega (arith, long)))
       go (suc zero) long few =
           sym kind
-          ∙ ap (λ later. inDigits (kindIn line) ++ later)
-          (behind 2 (omega (arith, long)) parts.2 ∙ ap (λ later. inDigits (firstIn line) ++ later) (none 4 (omega (arith, long))))
+          ∙ ap (λ later. in_digits (kind_in line) ++ later)
+          (behind 2 (omega (arith, long)) parts.2 ∙ ap (λ later. in_digits (first_in line) ++ later) (none 4 (omega (arith, long))))
       go (suc (suc zero)) long few =
           sym kind
-          ∙ ap (λ later. inDigits (kindIn line) ++ later)
+          ∙ ap (λ later. in_digits (kind_in line) ++ later)
           (behind 2 (omega (arith, long)) parts.2
-          ∙ ap (λ later. inDigits (firstIn line) ++ later)
-          (behind 4 (omega (arith, long)) parts.3 ∙ ap (λ later. inDigits (secondIn line) ++ later) (none 6 (omega (arith, long)))))
+          ∙ ap (λ later. in_digits (first_in line) ++ later)
+          (behind 4 (omega (arith, long)) parts.3 ∙ ap (λ later. in_digits (second_in line) ++ later) (none 6 (omega (arith, long)))))
       go (suc (suc (suc n))) long few = absurd (omega (arith, few))
 
 -- And every event that a line can say is said by the line that it is written out as.
-pub says : (e : Event) → Exact e → frame_of (writtenOut e) ≡ Frame-as-Event e.kind e.first e.second
-unfolding writtenOut
-says e ok = go (operandsOf e.kind) refl
+pub says : (e : Event) → Exact e → frame_of (written_out e) ≡ Frame-as-Event e.kind e.first e.second
+unfolding written_out
+says e ok = go (operands_of e.kind) refl
   where
-    go : (n : ℕ) → operandsOf e.kind ≡ n
-        → frame_of (inDigits e.kind ++ operandsOut n e.first e.second) ≡ Frame-as-Event e.kind e.first e.second
+    go : (n : ℕ) → operands_of e.kind ≡ n
+        → frame_of (in_digits e.kind ++ operands_out n e.first e.second) ≡ Frame-as-Event e.kind e.first e.second
     go zero n =
-        rw (ok.noFirst n, ok.noSecond (omega (arith, n))) (kind-alone e.kind ok.known n)
+        rw (ok.no_first n, ok.no_second (omega (arith, n))) (kind-alone e.kind ok.known n)
     go (suc zero) n =
-        rw (ok.noSecond (omega (arith, n))) (with-one e.kind ok.known e.first ok.firstByte n)
-    go (suc (suc zero)) n = with_two e.kind ok.known e.first e.second ok.firstByte ok.secondByte n
+        rw (ok.no_second (omega (arith, n))) (with-one e.kind ok.known e.first ok.first_byte n)
+    go (suc (suc zero)) n = with_two e.kind ok.known e.first e.second ok.first_byte ok.second_byte n
     go (suc (suc (suc k))) n = absurd (omega (arith, n, few-operands e.kind ok.known))

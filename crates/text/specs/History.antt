@@ -4,13 +4,13 @@ use Rattle.events.specs.Event.{Event, event}
 use Rattle.text.specs.declared.Frame.{Frame}
 use Rattle.text.specs.declared.Frame.TheVariants.{Event as Frame-as-Event, NoFrame}
 use Rattle.text.specs.Lines.{Line, lines_of}
-use Rattle.text.specs.Frames.{frameIn}
+use Rattle.text.specs.Frames.{frame_in}
 
 -- A frame is its event; what is no frame is an event of no kind, so that the place of an event is the number of its line.
-abbrev pub eventOf : Frame → Event
-eventOf (Frame-as-Event k x d) = event k x d
-eventOf NoFrame = event 0xff 0 0
+abbrev pub event_of : Frame → Event
+event_of (Frame-as-Event k x d) = event k x d
+event_of NoFrame = event 0xff 0 0
 
 -- The history of a text: an event for each line.
-abbrev pub historyOf : List ℕ → List Event
-historyOf text = map (λ (l : Line). eventOf (frameIn l)) (lines_of text)
+abbrev pub history_of : List ℕ → List Event
+history_of text = map (λ (l : Line). event_of (frame_in l)) (lines_of text)

@@ -11,20 +11,20 @@ pub data Line : Type 0 where
   rest : List ℕ → Line
 
 -- A byte set before a line.
-abbrev pub withByte : ℕ → Line → Line
-withByte b (ended bytes) = ended (b ∷ bytes)
-withByte b (rest bytes) = rest (b ∷ bytes)
+abbrev pub with_byte : ℕ → Line → Line
+with_byte b (ended bytes) = ended (b ∷ bytes)
+with_byte b (rest bytes) = rest (b ∷ bytes)
 
 -- A byte set before the first of some lines; before none, it is a rest.
-abbrev pub beforeLines : ℕ → List Line → List Line
-beforeLines b [] = rest (b ∷ []) ∷ []
-beforeLines b (l ∷ ls) = withByte b l ∷ ls
+abbrev pub before_lines : ℕ → List Line → List Line
+before_lines b [] = rest (b ∷ []) ∷ []
+before_lines b (l ∷ ls) = with_byte b l ∷ ls
 
 -- Each LF ends a line, which may be blank. What follows the last LF, if anything does, is one line more.
 unfoldable pub lines_of : List ℕ → List Line
 lines_of [] = []
-lines_of (b ∷ text) = cond (eqb b lf) (ended [] ∷ lines_of text) (beforeLines b (lines_of text))
+lines_of (b ∷ text) = cond (eqb b lf) (ended [] ∷ lines_of text) (before_lines b (lines_of text))
 
 -- How many lines a text has, well formed or not.
-abbrev pub lineCount : List ℕ → ℕ
-lineCount text = length (lines_of text)
+abbrev pub line_count : List ℕ → ℕ
+line_count text = length (lines_of text)

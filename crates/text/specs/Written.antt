@@ -1,23 +1,23 @@
 -- An event written out as a line of a script ("Script and program").
 use Rattle.std.specs.Prelude.{◌≡◌, true, List, [], ◌++◌, ℕ, zero, suc, ◌<◌}
-use Rattle.events.specs.Kinds.{isKind, operandsOf}
+use Rattle.events.specs.Kinds.{is_kind, operands_of}
 use Rattle.events.specs.Event.{Event}
-use Rattle.text.specs.Digits.{inDigits, noByte}
+use Rattle.text.specs.Digits.{in_digits, no_byte}
 
 -- The first n of two operands.
-abbrev pub operandsOut : ℕ → ℕ → ℕ → List ℕ
-operandsOut zero x d = []
-operandsOut (suc zero) x d = inDigits x
-operandsOut (suc (suc n)) x d = inDigits x ++ inDigits d
+abbrev pub operands_out : ℕ → ℕ → ℕ → List ℕ
+operands_out zero x d = []
+operands_out (suc zero) x d = in_digits x
+operands_out (suc (suc n)) x d = in_digits x ++ in_digits d
 
 -- The kind, and just the operands that the kind has, two digits each. The LF is not part of it.
-unfoldable pub writtenOut : Event → List ℕ
-writtenOut e = inDigits e.kind ++ operandsOut (operandsOf e.kind) e.first e.second
+unfoldable pub written_out : Event → List ℕ
+written_out e = in_digits e.kind ++ operands_out (operands_of e.kind) e.first e.second
 
 -- An event that a line can say: there is such a kind, its operands are bytes, and those that the kind lacks are 0.
 pub record Exact (e : Event) : Type 0 where
-  pub known : isKind e.kind ≡ true
-  pub firstByte : e.first < noByte
-  pub secondByte : e.second < noByte
-  pub noFirst : operandsOf e.kind ≡ 0 → e.first ≡ 0
-  pub noSecond : operandsOf e.kind < 2 → e.second ≡ 0
+  pub known : is_kind e.kind ≡ true
+  pub first_byte : e.first < no_byte
+  pub second_byte : e.second < no_byte
+  pub no_first : operands_of e.kind ≡ 0 → e.first ≡ 0
+  pub no_second : operands_of e.kind < 2 → e.second ≡ 0

@@ -1,13 +1,13 @@
 // The sixteen digits: what a code is worth, the code of a value, and the byte of two codes.
 ghost use Rattle.std.specs.Prelude.{◌≡◌};
-ghost use Rattle.text.specs.Digits.{digitValue, digitCode, pairValue};
+ghost use Rattle.text.specs.Digits.{digit_value, digit_code, pair_value};
 
 // What stands where no byte was written: every byte is below it.
 pub const NO_BYTE: u16 = 256;
 
 // What a code is worth as a digit; 16 where it is none.
 fn value(code: u8) -> u8
-    ensures { result ≡ digitValue code }
+    ensures { result ≡ digit_value code }
 {
     if (b'0' <= code) & (code <= b'9') {
         return code % 16;
@@ -20,7 +20,7 @@ fn value(code: u8) -> u8
 
 // The code of the digit worth n % 16.
 pub fn code(n: u8) -> u8
-    ensures { result ≡ digitCode n }
+    ensures { result ≡ digit_code n }
 {
     let value = n % 16;
     if value < 10 {
@@ -32,7 +32,7 @@ pub fn code(n: u8) -> u8
 
 // The byte that two codes write, or NO_BYTE.
 pub(super) fn pair(high: u8, low: u8) -> u16
-    ensures { result ≡ pairValue high low }
+    ensures { result ≡ pair_value high low }
 {
     let sixteens = value(high);
     let ones = value(low);

@@ -1,13 +1,13 @@
 // What one line of a script says.
 ghost use Rattle.std.specs.Prelude.{◌≡◌, ◌+◌, ◌*◌, drop};
-ghost use Rattle.text.specs.Frames.{leadingByte, frame_of};
+ghost use Rattle.text.specs.Frames.{leading_byte, frame_of};
 
 use super::digits::NO_BYTE;
 use super::{Frame, digits};
 
 // The byte that two digits make at that place of the line; NO_BYTE where they are no two digits, 0 where the line is over.
 pub fn byte_at(line: &[u8], at: usize) -> u16
-    ensures { result ≡ leadingByte (drop at line.now) }
+    ensures { result ≡ leading_byte (drop at line.now) }
 {
     if line.len() <= at {
         return 0;

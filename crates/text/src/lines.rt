@@ -1,14 +1,14 @@
 // The lines of a text: where one ends, what it says, and how many there are. A line begins at the start of the text, or past an LF.
 ghost use Rattle.std.specs.Prelude.{◌≡◌};
-ghost use Rattle.text.specs.Lines.{lineCount};
-ghost use Rattle.text.specs.LineEnds.{lineEnd, lineBetween};
-ghost use Rattle.text.specs.Frames.{frameIn};
+ghost use Rattle.text.specs.Lines.{line_count};
+ghost use Rattle.text.specs.LineEnds.{line_end, line_between};
+ghost use Rattle.text.specs.Frames.{frame_in};
 
 use super::{Frame, LF, line};
 
 // Where the line that begins at a place ends: at its LF, or where the text does.
 pub fn end(text: &[u8], start: usize) -> usize
-    ensures { result ≡ lineEnd text.now start }
+    ensures { result ≡ line_end text.now start }
 {
     let mut at = start;
     while at < text.len() {
@@ -22,7 +22,7 @@ pub fn end(text: &[u8], start: usize) -> usize
 
 // What the line between two places says; nothing where the text ends there, and not the line.
 pub fn frame(text: &[u8], start: usize, end: usize) -> Frame
-    ensures { result ≡ frameIn (lineBetween text.now start end) }
+    ensures { result ≡ frame_in (line_between text.now start end) }
 {
     if end < start {
         return Frame::NoFrame;
@@ -35,7 +35,7 @@ pub fn frame(text: &[u8], start: usize, end: usize) -> Frame
 
 // How many lines a text has.
 pub fn count(text: &[u8]) -> usize
-    ensures { result ≡ lineCount text.now }
+    ensures { result ≡ line_count text.now }
 {
     let mut start = 0;
     let mut lines = 0;

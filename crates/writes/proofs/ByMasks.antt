@@ -11,25 +11,25 @@ use Rattle.bits.proofs.BitLaws.{assembled-same}
 use Rattle.bits.proofs.MaskLaws.{bit-and, blend-assembled}
 use Rattle.control.specs.declared.Group.TheVariants.{A}
 use Rattle.control.specs.Mode.{mode_of}
-use Rattle.roles.specs.Role.{inLowerHalf}
-use Rattle.roles.specs.Pins.{outputPins}
+use Rattle.roles.specs.Role.{in_lower_half}
+use Rattle.roles.specs.Pins.{output_pins}
 use Rattle.roles.proofs.PinByMasks.{bit-of-outputs}
-use Rattle.writes.specs.Write.{writable, latchWritten}
+use Rattle.writes.specs.Write.{writable, latch_written}
 
 -- All eight bits, or the lower four.
 abbrev reached : Bool → ℕ
 reached all = cond all 0xff 0x0f
 
-bit-of-reached : (all : Bool) (n : ℕ) → n < 8 → bit_of (reached all) n ≡ (inLowerHalf n || all)
+bit-of-reached : (all : Bool) (n : ℕ) → n < 8 → bit_of (reached all) n ≡ (in_lower_half n || all)
 unfolding bit_of
-bit-of-reached true = bits 8 (λ n. bit_of (reached true) n) (λ n. inLowerHalf n || true) tt
-bit-of-reached false = bits 8 (λ n. bit_of (reached false) n) (λ n. inLowerHalf n || false) tt
+bit-of-reached true = bits 8 (λ n. bit_of (reached true) n) (λ n. in_lower_half n || true) tt
+bit-of-reached false = bits 8 (λ n. bit_of (reached false) n) (λ n. in_lower_half n || false) tt
 
 pub latch-by-masks : (w x d : ℕ)
-    → blend_of (bit_and (outputPins w) (reached (eqb (mode_of w A) 0))) d x ≡ latchWritten w x d
-unfolding latchWritten
+    → blend_of (bit_and (output_pins w) (reached (eqb (mode_of w A) 0))) d x ≡ latch_written w x d
+unfolding latch_written
 latch-by-masks w x d =
-    let mask = bit_and (outputPins w) (reached (eqb (mode_of w A) 0)) in
+    let mask = bit_and (output_pins w) (reached (eqb (mode_of w A) 0)) in
     blend-assembled mask d x
     ∙ assembled-same (λ n. cond (bit_of mask n) (bit_of d n) (bit_of x n)) (λ n. cond (writable w n) (bit_of d n) (bit_of x n))
-    (λ n hn. rw (bit-and (outputPins w) (reached (eqb (mode_of w A) 0)) n, bit-of-outputs w n hn, bit-of-reached (eqb (mode_of w A) 0) n hn))
+    (λ n hn. rw (bit-and (output_pins w) (reached (eqb (mode_of w A) 0)) n, bit-of-outputs w n hn, bit-of-reached (eqb (mode_of w A) 0) n hn))

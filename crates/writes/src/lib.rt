@@ -1,6 +1,6 @@
 // The end of a write, when the byte takes effect.
 ghost use Rattle.std.specs.Prelude.{◌≡◌};
-ghost use Rattle.writes.specs.Write.{storedIn, storedBy, latchWritten, afterWriteEnds};
+ghost use Rattle.writes.specs.Write.{stored_in, stored_by, latch_written, after_write_ends};
 
 use channel::Channel;
 use chip::{Core, Port};
@@ -8,7 +8,7 @@ use control::Group;
 
 // What a write leaves of an output channel: offered where ACK takes the bytes, and otherwise only stored.
 fn stored(channel: Channel, strobed: bool, byte: u8) -> Channel
-    ensures { result ≡ storedIn channel strobed byte }
+    ensures { result ≡ stored_in channel strobed byte }
 {
     if strobed {
         return channel::offer(channel, byte);
@@ -20,7 +20,7 @@ fn stored(channel: Channel, strobed: bool, byte: u8) -> Channel
 
 // A write to port A or B: nothing happens where the port is no output.
 fn store(mut port: Port, word: u8, group: Group, byte: u8) -> Port
-    ensures { result ≡ storedBy port word group byte }
+    ensures { result ≡ stored_by port word group byte }
 {
     if control::mode::output(word, group) {
         port.output = stored(
@@ -34,7 +34,7 @@ fn store(mut port: Port, word: u8, group: Group, byte: u8) -> Port
 
 // Port C's latch: the free outputs take the byte, but the upper ones only in A's mode 0.
 fn latch(word: u8, before: u8, byte: u8) -> u8
-    ensures { result ≡ latchWritten word before byte }
+    ensures { result ≡ latch_written word before byte }
 {
     let half = bits::choose(control::mode::mode(word, Group::A) == 0, 0xff, 0x0f);
     bits::blend(roles::outputs(word) & half, byte, before)
@@ -42,7 +42,7 @@ fn latch(word: u8, before: u8, byte: u8) -> u8
 
 // A write of the byte to the address ends.
 pub fn end(mut core: Core, address: u8, byte: u8) -> Core
-    ensures { result ≡ afterWriteEnds core address byte }
+    ensures { result ≡ after_write_ends core address byte }
 {
     match address {
         chip::PORT_A => {

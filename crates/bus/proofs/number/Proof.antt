@@ -3,9 +3,9 @@
 use mathlib.Core.Path.{◌≡◌, refl}
 use mathlib.Core.Bool.{Bool, true, false, cond, not, or-false}
 use Prim.Native.Nat.{ℕ}
-use Rattle.events.specs.Kinds.{isKind, noKind}
+use Rattle.events.specs.Kinds.{is_kind, no_kind}
 use Rattle.events.proofs.ByKind.{by_kind}
-use Rattle.bus.specs.Refusals.{isBusy, number_of}
+use Rattle.bus.specs.Refusals.{is_busy, number_of}
 use Rattle.bus.proofs.number.Statement.{statement}
 use Rattle.bus.proofs.number.Tie as tie
 
@@ -15,9 +15,9 @@ unless true = refl
 unless false = refl
 
 -- What is none of the five is no kind.
-none_of : (k : ℕ) → ¬ (k ≡ 0) → ¬ (k ≡ 1) → ¬ (k ≡ 2) → ¬ (k ≡ 3) → ¬ (k ≡ 5) → noKind k ≡ true
+none_of : (k : ℕ) → ¬ (k ≡ 0) → ¬ (k ≡ 1) → ¬ (k ≡ 2) → ¬ (k ≡ 3) → ¬ (k ≡ 5) → no_kind k ≡ true
 none_of =
-    by_kind (λ k. ¬ (k ≡ 0) → ¬ (k ≡ 1) → ¬ (k ≡ 2) → ¬ (k ≡ 3) → ¬ (k ≡ 5) → noKind k ≡ true)
+    by_kind (λ k. ¬ (k ≡ 0) → ¬ (k ≡ 1) → ¬ (k ≡ 2) → ¬ (k ≡ 3) → ¬ (k ≡ 5) → no_kind k ≡ true)
     (λ a b c d e. absurd (a refl))
     (λ a b c d e. absurd (b refl))
     (λ a b c d e. absurd (c refl))
@@ -26,7 +26,7 @@ none_of =
     (λ k none a b c d e. none)
 
 pub number-spec : {M : Type 1} → statement M
-unfolding number_of isKind
+unfolding number_of is_kind
 number-spec = tie.close (tie.spec
     (λ c κs. tt) (λ c κs. tt) (λ c κs. tt) (λ c κs. tt) (λ c κs. tt) (λ c κs. tt) (λ c κs. tt)
     (λ c. rw c.match.keys1)
@@ -41,7 +41,7 @@ number-spec = tie.close (tie.spec
     (λ c. let known = c.before.before.before.before in rw (
       c.choose4.ensures,
       known.busy.ensures,
-      unless (isBusy known.before.args.phase),
+      unless (is_busy known.before.args.phase),
       c.before.match.keys3,
     ))
     (λ c. let taken = c.before.before.before in rw (

@@ -1,11 +1,11 @@
 -- `calls::counter` meets its contract, number by number.
 use borrow.Author.Tests.{ne_eqb}
-use Rattle.calls.specs.Calls.{counterNumbered}
+use Rattle.calls.specs.Calls.{counter_numbered}
 use Rattle.calls.proofs.counter.Statement.{statement}
 use Rattle.calls.proofs.counter.Tie as tie
 
 pub counter-spec : {M : Type 1} → statement M
-unfolding counterNumbered
+unfolding counter_numbered
 counter-spec = tie.close (tie.spec
     (λ c. rw c.match.keys1)
     (λ c. rw c.match.keys2)

@@ -4,12 +4,12 @@ use lib.ListN.{length}
 use borrow.Author.Rules.{rules}
 use borrow.Author.Tests.{eq-eqb, ne_eqb}
 use Rattle.image.specs.Places as places
-use Rattle.image.specs.Slices.{savedIn}
+use Rattle.image.specs.Slices.{saved_in}
 use Rattle.calls.proofs.start.Statement.{statement}
 use Rattle.calls.proofs.start.Tie as tie
 
 pub start_spec : {M : Type 1} → statement M
-unfolding savedIn
+unfolding saved_in
 start_spec = tie.close (tie.spec
     (λ c.
     let l = c.before.before.args.image.now in

@@ -5,19 +5,19 @@ use lib.ListN.{length}
 use borrow.Author.Rules.{rules}
 use borrow.Author.Tests.{eq-eqb, not-true, not-false}
 use Rattle.image.specs.Places as places
-use Rattle.image.specs.Slices.{savedIn}
+use Rattle.image.specs.Slices.{saved_in}
 use Rattle.image.proofs.Asked.{is-bad, is-good}
 use Rattle.image.proofs.SameBytes.{bytes-by}
 use Rattle.older.specs.Places as older
-use Rattle.older.specs.Slices.{convertedIn}
+use Rattle.older.specs.Slices.{converted_in}
 use Rattle.older.proofs.Long.{is-long}
 use Rattle.older.proofs.OneImage.{converted}
-use Rattle.calls.specs.Calls.{convertAnswer, convertImage}
+use Rattle.calls.specs.Calls.{convert_answer, convert_image}
 use Rattle.calls.proofs.towanchor_convert.Statement.{statement}
 use Rattle.calls.proofs.towanchor_convert.Tie as tie
 
 pub towanchor-convert-spec : {M : Type 1} → statement M
-unfolding convertAnswer convertImage savedIn convertedIn
+unfolding convert_answer convert_image saved_in converted_in
 towanchor-convert-spec = tie.close (tie.spec
     (λ c κs. tt)
     (λ c. let bad = is-bad _ _ c.before.good2.ensures c.if1.true in (rw (bad), rw (bad)))

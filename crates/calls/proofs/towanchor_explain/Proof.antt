@@ -1,12 +1,12 @@
 -- `calls::towanchor_explain` meets its contract: 8 before all else, and then what is said of the state.
-use Rattle.calls.specs.Calls.{explainAnswer}
+use Rattle.calls.specs.Calls.{explain_answer}
 use Rattle.image.proofs.Long.{is-long}
 use Rattle.image.proofs.Asked.{is-bad, is-good}
 use Rattle.calls.proofs.towanchor_explain.Statement.{statement}
 use Rattle.calls.proofs.towanchor_explain.Tie as tie
 
 pub towanchor-explain-spec : {M : Type 1} → statement M
-unfolding explainAnswer
+unfolding explain_answer
 towanchor-explain-spec = tie.close (tie.spec
     (λ c κs. tt)
     (λ c. rw (is-bad _ _ c.before.good2.ensures c.if1.true))

@@ -3,12 +3,12 @@ use native.Mathlib.Omega.{arith}
 use borrow.Author.Rules.{rules}
 use borrow.Author.Tests.{lt-ltb, le-ltb}
 use Rattle.image.specs.Places as places
-use Rattle.calls.specs.Calls.{powerUpAsAnswer, powerUpAsImage}
+use Rattle.calls.specs.Calls.{power_up_as_answer, power_up_as_image}
 use Rattle.calls.proofs.towanchor_power_up_as.Statement.{statement}
 use Rattle.calls.proofs.towanchor_power_up_as.Tie as tie
 
 pub towanchor-power-up-as-spec : {M : Type 1} → statement M
-unfolding powerUpAsAnswer powerUpAsImage
+unfolding power_up_as_answer power_up_as_image
 towanchor-power-up-as-spec = tie.close (tie.spec
     (λ c. let none = lt-ltb places.newer c.before.before.args.edition (omega (arith, c.if1.true)) in (rw (none), rw (none)))
     (λ c κs. tt)

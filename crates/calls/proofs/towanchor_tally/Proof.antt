@@ -1,13 +1,13 @@
 -- `calls::towanchor_tally` meets its contract: 8 before 2, and then the tally.
 use borrow.Author.Rules.{rules}
-use Rattle.calls.specs.Calls.{tallyAnswer}
+use Rattle.calls.specs.Calls.{tally_answer}
 use Rattle.image.proofs.Long.{is-long}
 use Rattle.image.proofs.Asked.{is-bad, is-good}
 use Rattle.calls.proofs.towanchor_tally.Statement.{statement}
 use Rattle.calls.proofs.towanchor_tally.Tie as tie
 
 pub towanchor-tally-spec : {M : Type 1} → statement M
-unfolding tallyAnswer
+unfolding tally_answer
 towanchor-tally-spec = tie.close (tie.spec
     (λ c κs. tt)
     (λ c. rw (is-bad _ _ c.before.good2.ensures c.if1.true))

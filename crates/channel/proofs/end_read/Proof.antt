@@ -2,15 +2,15 @@
 use Rattle.std.proofs.Common.{◌≡◌, Bool, true, false, cond, ◌&&◌, refl}
 use Rattle.channel.specs.declared.Fill.TheVariants.{Empty}
 use Rattle.channel.specs.declared.Channel.{Channel}
-use Rattle.channel.specs.Channel.{isWaiting, counted, swallowed}
-use Rattle.channel.specs.Moves.{afterEndRead}
+use Rattle.channel.specs.Channel.{is_waiting, counted, swallowed}
+use Rattle.channel.specs.Moves.{after_end_read}
 use Rattle.channel.proofs.end_read.Statement.{statement}
 use Rattle.channel.proofs.end_read.Tie as tie
 
 field-by-field : (on : Bool) (ch : Channel)
-    → record { fill = cond on Empty ch.fill; latch = ch.latch; tally = counted swallowed (on && isWaiting ch.fill) ch.tally }
-    ≡ cond on (afterEndRead ch) ch
-unfolding afterEndRead
+    → record { fill = cond on Empty ch.fill; latch = ch.latch; tally = counted swallowed (on && is_waiting ch.fill) ch.tally }
+    ≡ cond on (after_end_read ch) ch
+unfolding after_end_read
 field-by-field true ch = refl
 field-by-field false ch = refl
 

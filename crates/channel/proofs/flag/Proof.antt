@@ -1,11 +1,11 @@
 -- `channel::flag` meets its contract, on either side.
 use Rattle.std.proofs.Common.{rules}
-use Rattle.channel.specs.Channel.{flagOf}
+use Rattle.channel.specs.Channel.{flag_of}
 use Rattle.channel.proofs.flag.Statement.{statement}
 use Rattle.channel.proofs.flag.Tie as tie
 
 pub flag-spec : {M : Type 1} → statement M
-unfolding flagOf
+unfolding flag_of
 flag-spec =
     tie.close
     (tie.spec (λ c. search rules) (λ c κs. tt) (λ c. search rules) (λ c κs. tt)

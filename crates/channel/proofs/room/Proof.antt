@@ -4,13 +4,13 @@ use Rattle.channel.specs.declared.Side.{Side}
 use Rattle.channel.specs.declared.Side.TheVariants.{Input, Output}
 use Rattle.channel.specs.declared.Fill.{Fill}
 use Rattle.channel.specs.declared.Fill.TheVariants.{Empty, Waiting, Fetching}
-use Rattle.channel.specs.Channel.{flagOf, hasRoom}
-use Rattle.channel.specs.Moves.{tellsOfAByte}
+use Rattle.channel.specs.Channel.{flag_of, has_room}
+use Rattle.channel.specs.Moves.{tells_of_a_byte}
 use Rattle.channel.proofs.room.Statement.{statement}
 use Rattle.channel.proofs.room.Tie as tie
 
-by_flag : (s : Side) (f : Fill) → not (tellsOfAByte s (flagOf s f)) ≡ hasRoom s f
-unfolding flagOf hasRoom
+by_flag : (s : Side) (f : Fill) → not (tells_of_a_byte s (flag_of s f)) ≡ has_room s f
+unfolding flag_of has_room
 by_flag Input Empty = refl
 by_flag Input Waiting = refl
 by_flag Input Fetching = refl

@@ -13,7 +13,7 @@ use Rattle.bits.specs.Bit.{bit_of}
 use Rattle.bits.proofs.Tested.{all, each, same, bits}
 use Rattle.bits.proofs.Tabled.{table_at}
 use Rattle.control.specs.declared.Directions.{Directions}
-use Rattle.control.specs.Mode.{input_of, upperInput, lowerInput, directionsOf}
+use Rattle.control.specs.Mode.{input_of, upper_input, lower_input, directions_of}
 use Rattle.chart.proofs.row.Statement.{statement}
 use Rattle.chart.proofs.row.Tie as tie
 
@@ -35,8 +35,8 @@ listed l = record { a = get_or l 0 false; upper = get_or l 1 false; b = get_or l
 moved : (i j : ℕ) → T (all 256 (λ w. same (bit_of (index w) i) (bit_of w j))) → (w : ℕ) → w < 256 → bit_of (index w) i ≡ bit_of w j
 moved i j = bits 256 (λ w. bit_of (index w) i) (λ w. bit_of w j)
 
-line-of-word : (w : ℕ) → w < 256 → listed (line_at (index w)) ≡ directionsOf w
-unfolding bit_of input_of upperInput lowerInput
+line-of-word : (w : ℕ) → w < 256 → listed (line_at (index w)) ≡ directions_of w
+unfolding bit_of input_of upper_input lower_input
 line-of-word w h = rw (moved 3 4 tt w h, moved 2 3 tt w h, moved 1 1 tt w h, moved 0 0 tt w h)
 
 within : tie.Need-array-copy-out-line

@@ -7,10 +7,10 @@ use native.Mathlib.Omega.{arith}
 use lib.ListN.{length}
 use borrow.Author.Rules.{rules}
 use Rattle.chip.specs.declared.Chip.{Chip}
-use Rattle.chip.specs.State.{levelsBy, powerUpAs}
-use Rattle.image.specs.Loaded.{editionAs}
+use Rattle.chip.specs.State.{levels_by, power_up_as}
+use Rattle.image.specs.Loaded.{edition_as}
 use Rattle.restored.proofs.Stays.{power-up-has}
-use Rattle.journal.specs.Trim.{keptFrom, keptOf, mostWords, trimNumber, filledUp}
+use Rattle.journal.specs.Trim.{kept_from, kept_of, most_words, trim_number, filled_up}
 use Rattle.journal.proofs.Trimming.{kept-at-most, when-accepted, refused-answer, refused-words, accepted-answer, accepted-words}
 use Rattle.journal.proofs.towanchor_trim.Statement.{statement}
 use Rattle.journal.proofs.towanchor_trim.Tie as tie
@@ -19,18 +19,18 @@ returns : tie.Need-returns
 returns c =
     let asked = c.before in
     let a = asked.before.before.before.args in
-    let refused : ¬ (trimNumber a.words.now a.edition ≡ 0) = λ e. omega (arith, asked.number.ensures, e, c.if1.true) in (
+    let refused : ¬ (trim_number a.words.now a.edition ≡ 0) = λ e. omega (arith, asked.number.ensures, e, c.if1.true) in (
       asked.number.ensures ∙ refused-answer a.words.now a.edition a.a a.b a.c refused,
       refused-words a.words.now a.edition a.a a.b a.c refused,
     )
 
 -- The number is 0 where the call goes on, and the chip is the one at power-up.
-zero : (c : tie.Else1) → let a = c.before.before.before.before.args in trimNumber a.words.now a.edition ≡ 0
+zero : (c : tie.Else1) → let a = c.before.before.before.before.args in trim_number a.words.now a.edition ≡ 0
 zero c = sym c.before.number.ensures ∙ omega (arith, c.if1.false)
 
 powered-up : (c : tie.After-power-up-as)
     → let a = c.before.before.before.before.before.before.args in
-    c.power-up-as.result ≡ powerUpAs (editionAs a.edition) (levelsBy a.a a.b a.c)
+    c.power-up-as.result ≡ power_up_as (edition_as a.edition) (levels_by a.a a.b a.c)
 powered-up c = rw (c.power-up-as.ensures, c.before.edition.ensures)
 
 keep-requires : tie.Need-keep-requires
@@ -40,17 +40,17 @@ keep-requires c κs =
     (rw (powered-up up) (power-up-has _ _), (when-accepted a.words.now a.edition (zero up.before.before)).frames)
 
 -- What is kept, of the words that were lent, and what is kept by the contract.
-abbrev keptIn : tie.After-keep → List ℕ
-keptIn c = keptFrom c.before.before.power-up-as.result c.before.before.before.before.before.before.before.before.args.words.now
+abbrev kept_in : tie.After-keep → List ℕ
+kept_in c = kept_from c.before.before.power-up-as.result c.before.before.before.before.before.before.before.before.args.words.now
 
 as_said : (c : tie.After-keep)
     → let a = c.before.before.before.before.before.before.before.before.args in
-    keptIn c ≡ keptOf a.words.now a.edition a.a a.b a.c
+    kept_in c ≡ kept_of a.words.now a.edition a.a a.b a.c
 as_said c =
-    ap (λ (chip : Chip). keptFrom chip c.before.before.before.before.before.before.before.before.args.words.now) (powered-up c.before.before)
+    ap (λ (chip : Chip). kept_from chip c.before.before.before.before.before.before.before.before.args.words.now) (powered-up c.before.before)
 
 -- No more are kept than there are words, of which there are few.
-few : (c : tie.After-keep) → c.keep.result ≤ mostWords
+few : (c : tie.After-keep) → c.keep.result ≤ most_words
 few c =
     let a = c.before.before.before.before.before.before.before.before.args in
     let most = kept-at-most c.before.before.power-up-as.result a.words.now in
@@ -64,7 +64,7 @@ returns-2 c =
       ap (λ (n : ℕ). 256 * n) (kept.keep.ensures.0 ∙ ap length (as_said kept))
           ∙ accepted-answer a.words.now a.edition a.a a.b a.c accepted,
       kept.keep.ensures.1
-          ∙ ap (λ (ks : List ℕ). filledUp ks (length a.words.now)) (as_said kept)
+          ∙ ap (λ (ks : List ℕ). filled_up ks (length a.words.now)) (as_said kept)
           ∙ accepted-words a.words.now a.edition a.a a.b a.c accepted,
     )
 

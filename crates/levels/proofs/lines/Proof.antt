@@ -1,10 +1,10 @@
 -- `levels::lines` meets its contract, edge by edge.
-use Rattle.levels.specs.Levels.{afterLevelsOnC}
+use Rattle.levels.specs.Levels.{after_levels_on_c}
 use Rattle.levels.proofs.lines.Statement.{statement}
 use Rattle.levels.proofs.lines.Tie as tie
 
 pub lines-spec : {M : Type 1} → statement M
-unfolding afterLevelsOnC
+unfolding after_levels_on_c
 lines-spec = tie.close (tie.spec (λ c κs. tt) (λ c κs. tt) (λ c κs. tt) (λ c κs. tt) (λ c κs. tt) (λ c κs. tt) (λ c κs. tt) (λ c κs. tt) (λ c κs. tt)
     (λ c. rw (
       c.before.edges2.ensures,

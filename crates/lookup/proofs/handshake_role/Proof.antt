@@ -7,9 +7,9 @@ use native.Mathlib.Omega.{arith}
 use borrow.Author.Rules.{rules}
 use Rattle.bits.proofs.Tested.{numbers}
 use Rattle.control.specs.declared.Group.TheVariants.{B}
-use Rattle.control.specs.Mode.{strobedInput}
+use Rattle.control.specs.Mode.{strobed_input}
 use Rattle.roles.specs.Role.{number}
-use Rattle.roles.specs.Pins.{handshakeRole}
+use Rattle.roles.specs.Pins.{handshake_role}
 use Rattle.lookup.proofs.handshake_role.Statement.{statement}
 use Rattle.lookup.proofs.handshake_role.Tie as tie
 
@@ -17,9 +17,9 @@ use Rattle.lookup.proofs.handshake_role.Tie as tie
 abbrev digit : Bool → ℕ → ℕ
 digit taking n = 0x4635_2642_4635_2532 / 2 ^ (cond taking 0 32 + 4 * n) % 16
 
-role-digit : (taking : Bool) (n : ℕ) → n < 8 → digit taking n ≡ number (handshakeRole taking n)
-role-digit true = numbers 8 (digit true) (λ n. number (handshakeRole true n)) tt
-role-digit false = numbers 8 (digit false) (λ n. number (handshakeRole false n)) tt
+role-digit : (taking : Bool) (n : ℕ) → n < 8 → digit taking n ≡ number (handshake_role taking n)
+role-digit true = numbers 8 (digit true) (λ n. number (handshake_role true n)) tt
+role-digit false = numbers 8 (digit false) (λ n. number (handshake_role false n)) tt
 
 -- A digit's place is within the 64 bits, so that it can be worked out in a byte and shifted by.
 within : (taking : Bool) (n : ℕ) → n < 8 → cond taking 0 32 + 4 * n < 64
@@ -35,7 +35,7 @@ shr-result c = rw c.choose.ensures (within c.before.strobed-input.result c.befor
 returns : tie.Need-returns
 returns c =
     rw (c.choose.ensures, c.before.strobed-input.ensures)
-    (role-digit (strobedInput c.before.before.args.word B) c.before.before.args.pin (search rules))
+    (role-digit (strobed_input c.before.before.args.word B) c.before.before.args.pin (search rules))
 
 pub handshake-role-spec : {M : Type 1} → statement M
 handshake-role-spec =

@@ -8,19 +8,19 @@ use lib.Dec.{ltb}
 use borrow.Author.Rules.{rules}
 use Rattle.bits.specs.Bit.{bit_of}
 use Rattle.control.specs.declared.Group.TheVariants.{B}
-use Rattle.control.specs.Mode.{strobedInput}
+use Rattle.control.specs.Mode.{strobed_input}
 use Rattle.roles.specs.Role.{input, output, number}
-use Rattle.roles.specs.Pins.{handshakePins, outputPins}
+use Rattle.roles.specs.Pins.{handshake_pins, output_pins}
 use Rattle.roles.proofs.PinByMasks.{sorted, role-by-masks}
-use Rattle.lookup.specs.Lookup.{lookupOf}
+use Rattle.lookup.specs.Lookup.{lookup_of}
 use Rattle.lookup.proofs.InRange.{in-range}
 use Rattle.lookup.proofs.role.Statement.{statement}
 use Rattle.lookup.proofs.role.Tie as tie
 
 -- The answer, where it is not 255, by the masks.
 by-masks : (w n : ℕ) → w < 256 → (ltb w 128 || ltb 7 n) ≡ false
-    → lookupOf w n ≡ number (sorted (bit_of (handshakePins w) n) (bit_of (outputPins w) n) (strobedInput w B) n)
-unfolding lookupOf
+    → lookup_of w n ≡ number (sorted (bit_of (handshake_pins w) n) (bit_of (output_pins w) n) (strobed_input w B) n)
+unfolding lookup_of
 by-masks w n word there = rw (there, role-by-masks w n word (omega (arith, in-range w n there)))
 
 -- The number of a free pin's role.
@@ -29,7 +29,7 @@ free-number true = refl
 free-number false = refl
 
 returns : tie.Need-returns
-unfolding lookupOf
+unfolding lookup_of
 returns c = rw c.if1.true
 
 handshake-role-requires : tie.Need-handshake-role-requires
@@ -60,7 +60,7 @@ returns-3 c =
       c.before.bit2.ensures,
       c.before.before.outputs.ensures,
     )
-    (free-number (bit_of (outputPins a.word) a.pin))
+    (free-number (bit_of (output_pins a.word) a.pin))
 
 pub role-spec : {M : Type 1} → statement M
 role-spec =

@@ -5,17 +5,17 @@ use Prim.Native.Nat.{◌+◌, ◌*◌, ◌≤◌}
 use native.Mathlib.Omega.{arith}
 use lib.ListN.{length}
 use borrow.Author.Rules.{rules}
-use Rattle.script.specs.Run.{longestScript}
+use Rattle.script.specs.Run.{longest_script}
 use Rattle.text.proofs.LineCount.{lines-at-most}
 use Rattle.mend.specs.declared.Outcome.{Outcome}
-use Rattle.mend.specs.Mend.{mendNumber, accepted}
+use Rattle.mend.specs.Mend.{mend_number, accepted}
 use Rattle.mend.proofs.Numbers.{signs-counted, Accepted, number_is, lengths-are, when-accepted, refused, written}
 use Rattle.mend.proofs.towanchor_mend.Statement.{statement}
 use Rattle.mend.proofs.towanchor_mend.Tie as tie
 
 -- The number that was judged is the call's.
 judged : (c : tie.After-judge) → let a = c.before.before.before.before.args in
-    c.judge.result.number ≡ mendNumber a.text.now (length a.clean.now) (length a.report.now)
+    c.judge.result.number ≡ mend_number a.text.now (length a.clean.now) (length a.report.now)
 judged c = ap (λ (o : Outcome). o.number) c.judge.ensures ∙ number_is _ _ _
 
 returns : tie.Need-returns
@@ -27,7 +27,7 @@ returns c =
 
 -- The number is 0 where the call goes on; then all fits, and the lengths are those that were judged.
 zero : (c : tie.Else1) → let a = c.before.before.before.before.before.before.args in
-    mendNumber a.text.now (length a.clean.now) (length a.report.now) ≡ 0
+    mend_number a.text.now (length a.clean.now) (length a.report.now) ≡ 0
 zero c = sym (judged c.before.before) ∙ omega (arith, c.if1.false)
 
 fits : (c : tie.Else1) → let a = c.before.before.before.before.before.before.args in
@@ -39,10 +39,10 @@ lengths : (c : tie.Else1) → let judge = c.before.before in
 lengths c = c.before.before.judge.ensures ∙ lengths-are _ _ _ (zero c)
 
 -- Both are small.
-few : (c : tie.Else1) → (c.before.before.judge.result.clean ≤ longestScript) × (c.before.before.judge.result.report ≤ longestScript)
+few : (c : tie.Else1) → (c.before.before.judge.result.clean ≤ longest_script) × (c.before.before.judge.result.report ≤ longest_script)
 few c =
     let text = c.before.before.before.before.before.before.args.text.now in (
-      omega (arith, ap (λ (o : Outcome). o.clean) (lengths c), (fits c).shortClean),
+      omega (arith, ap (λ (o : Outcome). o.clean) (lengths c), (fits c).short_clean),
       omega (arith, ap (λ (o : Outcome). o.report) (lengths c), signs-counted text, lines-at-most text, (fits c).short),
     )
 
@@ -64,8 +64,8 @@ towanchor-mend-spec =
     (λ c κs. tt)
     (λ c. search rules)
     returns
-    (λ c κs. (fits c.before).cleanFits)
-    (λ c κs. (fits c.before.before.before.before.before).reportFits)
+    (λ c κs. (fits c.before).clean_fits)
+    (λ c κs. (fits c.before.before.before.before.before).report_fits)
     (λ c. omega (arith, few (going c)))
     (λ c. omega (arith, few (going c)))
     (λ c. omega (arith, few (going c)))

@@ -7,12 +7,12 @@ use borrow.Author.Tests.{eqb-true}
 use Rattle.bits.proofs.Logic.{both}
 use Rattle.image.specs.Places as now
 use Rattle.older.specs.Places as places
-use Rattle.older.specs.Slices.{convertedIn}
+use Rattle.older.specs.Slices.{converted_in}
 use Rattle.older.proofs.convert.Statement.{statement}
 use Rattle.older.proofs.convert.Tie as tie
 
 pub convert-spec : {M : Type 1} → statement M
-unfolding convertedIn
+unfolding converted_in
 convert-spec = tie.close (tie.spec
     (λ c κs.
     let args = c.before.before.before.before.args in

@@ -6,17 +6,17 @@ use native.Mathlib.Omega.{arith}
 use lib.ListN.{length, take, drop, drop_of_length-le}
 use borrow.Author.Rules.{rules}
 use Rattle.image.specs.Places as now
-use Rattle.older.specs.Loaded.{olderState}
-use Rattle.older.specs.Slices.{movedOf}
+use Rattle.older.specs.Loaded.{older_state}
+use Rattle.older.specs.Slices.{moved_of}
 use Rattle.older.proofs.whole.Statement.{statement}
 use Rattle.older.proofs.whole.Tie as tie
 
 -- As many bytes are copied as there are.
-all-copied : (o l : List ℕ) → length l ≡ now.length → take now.length (movedOf o) ++ drop now.length l ≡ movedOf o
-all-copied o l long = rw (drop_of_length-le l {i = now.length} (omega (arith, long))) (append-nil (movedOf o))
+all-copied : (o l : List ℕ) → length l ≡ now.length → take now.length (moved_of o) ++ drop now.length l ≡ moved_of o
+all-copied o l long = rw (drop_of_length-le l {i = now.length} (omega (arith, long))) (append-nil (moved_of o))
 
 pub whole-spec : {M : Type 1} → statement M
-unfolding olderState
+unfolding older_state
 whole-spec = tie.close (tie.spec
     (λ c κs. search rules) (λ c. search rules) (λ c. search rules) (λ c. search rules) (λ c κs. tt) (λ c. search rules)
     (λ c κs. search rules) (λ c κs. tt) (λ c. search rules)

@@ -5,13 +5,13 @@ use Prim.Native.Nat.{◌-◌}
 use native.Mathlib.Numerals.{add-one}
 use lib.ListN.{length, drop}
 use borrow.Author.Rules.{rules}
-use Rattle.rack.specs.Bases.{isAmong}
+use Rattle.rack.specs.Bases.{is_among}
 use Rattle.rack.proofs.InBases.{among_none, among-here, among_later}
 use Rattle.rack.proofs.among.Statement.{statement}
 use Rattle.rack.proofs.among.Tie as tie
 
 abbrev invariant-loop : tie.invariant-loop
-invariant-loop base bases at₀ at = isAmong base bases ≡ isAmong base (drop at bases)
+invariant-loop base bases at₀ at = is_among base bases ≡ is_among base (drop at bases)
 
 abbrev decreases-loop : tie.decreases-loop
 decreases-loop base bases at₀ at = length bases - at

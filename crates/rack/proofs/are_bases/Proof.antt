@@ -6,13 +6,13 @@ use Prim.Native.Nat.{suc, ◌-◌}
 use native.Mathlib.Numerals.{add-one}
 use lib.ListN.{length, drop, get_or}
 use borrow.Author.Rules.{rules}
-use Rattle.rack.specs.Bases.{isBase, isAmong, areBases}
+use Rattle.rack.specs.Bases.{is_base, is_among, are_bases}
 use Rattle.rack.proofs.InBases.{bases-none, not-bases, bases-behind, part_left}
 use Rattle.rack.proofs.are_bases.Statement.{statement}
 use Rattle.rack.proofs.are_bases.Tie as tie
 
 abbrev invariant-loop : tie.invariant-loop
-invariant-loop bases at₀ at = areBases bases ≡ areBases (drop at bases)
+invariant-loop bases at₀ at = are_bases bases ≡ are_bases (drop at bases)
 
 abbrev decreases-loop : tie.decreases-loop
 decreases-loop bases at₀ at = length bases - at
@@ -22,7 +22,7 @@ tested : (c : tie.After-is-base invariant-loop decreases-loop)
     → let turn = c.before.before.before.before.before in
     let bases = turn.before.before.args.bases.now in
     (not c.is_base.result || c.before.among.result)
-    ≡ (not (isBase (get_or bases turn.loop.at 0)) || isAmong (get_or bases turn.loop.at 0) (drop (suc turn.loop.at) bases))
+    ≡ (not (is_base (get_or bases turn.loop.at 0)) || is_among (get_or bases turn.loop.at 0) (drop (suc turn.loop.at) bases))
 tested c =
     let turn = c.before.before.before.before.before in
     let bases = turn.before.before.args.bases.now in

@@ -2,13 +2,13 @@
 -- Rests on InBases.
 use mathlib.Core.Path.{sym, ◌∙◌}
 use borrow.Author.Rules.{rules}
-use Rattle.rack.specs.State.{builtOf}
+use Rattle.rack.specs.State.{built_of}
 use Rattle.rack.proofs.InBases.{few}
 use Rattle.rack.proofs.build.Statement.{statement}
 use Rattle.rack.proofs.build.Tie as tie
 
 pub build-spec : {M : Type 1} → statement M
-unfolding builtOf
+unfolding built_of
 build-spec = tie.close (tie.spec
     (λ c κs. tt)
     (λ c κs. few _ (sym c.before.makes-rack.ensures ∙ c.if1.true))

@@ -7,7 +7,7 @@ use native.Mathlib.Numerals.{add-one}
 use lib.ListN.{length}
 use lib.Seq.{take-length}
 use borrow.Author.Rules.{rules}
-use Rattle.rack.proofs.Held.{held, held_next}
+use Rattle.rack.proofs.Held.{held, held-next}
 use Rattle.rack.proofs.in_places.Statement.{statement}
 use Rattle.rack.proofs.in_places.Tie as tie
 
@@ -24,7 +24,7 @@ loop-again : tie.Need-loop-preserved invariant-loop decreases-loop
 loop-again c =
     let turn = c.before.before in
     let bases = turn.before.args.bases.now in
-    (omega arith, rw (add-one turn.loop.at, turn.loop.invariant.1) (held_next bases turn.loop.at (search rules) turn.before.requires))
+    (omega arith, rw (add-one turn.loop.at, turn.loop.invariant.1) (held-next bases turn.loop.at (search rules) turn.before.requires))
 
 returns : tie.Need-returns invariant-loop decreases-loop
 returns c =

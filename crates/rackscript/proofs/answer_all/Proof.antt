@@ -7,10 +7,10 @@ use lib.ListN.{length}
 use borrow.Author.Rules.{rules}
 use Rattle.text.proofs.Turn.{lines_from, Turn, turn, no_more}
 use Rattle.text.specs.Lines.{lines_of}
-use Rattle.text.specs.LineEnds.{lineBetween}
+use Rattle.text.specs.LineEnds.{line_between}
 use Rattle.rackscript.specs.declared.frames.RackFrame.{RackFrame}
-use Rattle.rackscript.specs.Answers.{acted, atLine}
-use Rattle.rackscript.proofs.Answering.{UnderWay, starts, same-cards, room-for-one, goes_on, arrives}
+use Rattle.rackscript.specs.Answers.{acted, at_line}
+use Rattle.rackscript.proofs.Answering.{UnderWay, starts, same-cards, room-for-one, goes-on, arrives}
 use Rattle.rackscript.proofs.answer_all.Statement.{statement}
 use Rattle.rackscript.proofs.answer_all.Tie as tie
 
@@ -31,8 +31,8 @@ here c = turn _ _ _ c.end.ensures (search rules)
 -- What the rack makes of that line.
 made : (c : tie.After-act invariant-loop decreases-loop)
     → c.act.result
-    ≡ atLine c.before.before.before.before.loop.rack
-    (lineBetween c.before.before.before.before.before.before.before.before.args.text.now
+    ≡ at_line c.before.before.before.before.loop.rack
+    (line_between c.before.before.before.before.before.before.before.before.args.text.now
     c.before.before.before.before.loop.start c.before.before.end.result)
 made c = c.act.ensures ∙ ap (λ (f : RackFrame). acted c.before.before.before.before.loop.rack f) c.before.in-text.ensures
 
@@ -55,7 +55,7 @@ loop-again c =
     let act = write.before.before in
     let end = act.before.before in
     let top = end.before.before in
-    goes_on _ _ _ top.loop.out _ _ _ _ top.loop.at (rw (here end).lines at top.loop.invariant) _ (made act) _ write.write.ensures
+    goes-on _ _ _ top.loop.out _ _ _ _ top.loop.at (rw (here end).lines at top.loop.invariant) _ (made act) _ write.write.ensures
 
 add_at : tie.Need-overflow-add-at invariant-loop decreases-loop
 add_at c = omega (arith, (loop-again c).room, (loop-again c).long)

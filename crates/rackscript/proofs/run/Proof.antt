@@ -5,17 +5,17 @@ use Prim.Native.Nat.{◌*◌}
 use native.Mathlib.Omega.{arith}
 use borrow.Author.Rules.{rules}
 use Rattle.rack.specs.declared.Built.{Built}
-use Rattle.rackscript.specs.Run.{roomForText}
+use Rattle.rackscript.specs.Run.{room_for_text}
 use Rattle.rackscript.proofs.FirstLine.{rack-found}
 use Rattle.rackscript.proofs.Opened.{Opened, opened, room-is, given_back, length-fits, filled_is}
-use Rattle.rackscript.proofs.Outcome.{refused, accepted, too_long, no-rack, no_room, runs}
+use Rattle.rackscript.proofs.Outcome.{refused, accepted, too-long, no-rack, no-room, runs}
 use Rattle.rackscript.proofs.run.Statement.{statement}
 use Rattle.rackscript.proofs.run.Tie as tie
 
 returns : tie.Need-returns
 returns c =
     let a = c.before.before.before.before.args in
-    let ran = refused a.text.now a.out.now 6 (λ e. omega (arith, e)) (too_long _ _ (omega (arith, c.before.if1.true))) in
+    let ran = refused a.text.now a.out.now 6 (λ e. omega (arith, e)) (too-long _ _ (omega (arith, c.before.if1.true))) in
     (c.refuse.ensures ∙ ran.0, ran.1)
 
 returns-2 : tie.Need-returns-2
@@ -45,7 +45,7 @@ mul-length c =
 
 -- The room that the answers take, where it is worked out.
 room_for : (c : tie.After-width)
-    → roomForText c.before.before.before.before.before.before.before.before.before.before.before.args.text.now
+    → room_for_text c.before.before.before.before.before.before.before.before.before.before.before.args.text.now
     ≡ c.width.result * c.before.count.result
 room_for c = room-is _ _ _ (here c.before.before.before) _ _ c.width.ensures c.before.count.ensures
 
@@ -56,7 +56,7 @@ returns-3 c =
     let short = named.before.before.before.before.before in
     let a = short.before.before.before.args in
     let ran = refused a.text.now a.out.now 7 (λ e. omega (arith, e))
-    (no_room _ _ short.if1.false (here named).named (omega (arith, room_for width, c.before.if3.true))) in
+    (no-room _ _ short.if1.false (here named).named (omega (arith, room_for width, c.before.if3.true))) in
     (c.refuse3.ensures ∙ ran.0, ran.1)
 
 answer-all-requires : tie.Need-answer-all-requires

@@ -1,11 +1,11 @@
 -- `reads::begin` meets its contract, port by port.
 use borrow.Author.Tests.{ne_eqb}
-use Rattle.reads.specs.Read.{afterReadBegins}
+use Rattle.reads.specs.Read.{after_read_begins}
 use Rattle.reads.proofs.begin.Statement.{statement}
 use Rattle.reads.proofs.begin.Tie as tie
 
 pub begin-spec : {M : Type 1} → statement M
-unfolding afterReadBegins
+unfolding after_read_begins
 begin-spec = tie.close (tie.spec (λ c κs. tt) (λ c κs. tt) (λ c κs. tt) (λ c κs. tt)
     (λ c. rw (c.fetch.ensures, c.before.strobed-input.ensures, c.before.before.match.keys1))
     (λ c. rw (c.fetch2.ensures, c.before.strobed-input2.ensures, c.before.before.match.keys2))

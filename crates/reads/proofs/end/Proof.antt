@@ -1,11 +1,11 @@
 -- `reads::end` meets its contract, port by port.
 use borrow.Author.Tests.{ne_eqb}
-use Rattle.reads.specs.Read.{afterReadEnds}
+use Rattle.reads.specs.Read.{after_read_ends}
 use Rattle.reads.proofs.end.Statement.{statement}
 use Rattle.reads.proofs.end.Tie as tie
 
 pub end-spec : {M : Type 1} → statement M
-unfolding afterReadEnds
+unfolding after_read_ends
 end-spec = tie.close (tie.spec (λ c κs. tt) (λ c κs. tt) (λ c κs. tt) (λ c κs. tt)
     (λ c. rw (c.finish.ensures, c.before.strobed-input.ensures, c.before.before.match.keys1))
     (λ c. rw (c.finish2.ensures, c.before.strobed-input2.ensures, c.before.before.match.keys2))

@@ -7,9 +7,9 @@ use lib.Bits.{bit_and, bit_or, and_le_r}
 use borrow.Author.Rules.{rules}
 use Rattle.bits.specs.Bit.{bit_of, value_of}
 use Rattle.bits.proofs.Tested.{numbers}
-use Rattle.control.specs.Mode.{mode_of, input_of, upperInput, lowerInput}
-use Rattle.roles.specs.Role.{usesOf, freeRole, roleOf}
-use Rattle.roles.specs.Pins.{handshakePins}
+use Rattle.control.specs.Mode.{mode_of, input_of, upper_input, lower_input}
+use Rattle.roles.specs.Role.{uses_of, free_role, role_of}
+use Rattle.roles.specs.Pins.{handshake_pins}
 use Rattle.roles.proofs.handshake.Statement.{statement}
 use Rattle.roles.proofs.handshake.Tie as tie
 
@@ -25,10 +25,10 @@ shr-result : tie.Need-overflow-shr-result
 shr-result c = omega (arith, and_le_r (c.before.before.args.word / 2) 0x38)
 
 returns : tie.Need-returns
-unfolding handshakePins roleOf usesOf freeRole mode_of input_of upperInput lowerInput bit_of value_of
+unfolding handshake_pins role_of uses_of free_role mode_of input_of upper_input lower_input bit_of value_of
 returns c =
     rw (c.choose.ensures, c.before.bit.ensures)
-    (numbers 256 mask handshakePins tt c.before.before.args.word (search rules))
+    (numbers 256 mask handshake_pins tt c.before.before.args.word (search rules))
 
 pub handshake-spec : {M : Type 1} → statement M
 handshake-spec = tie.close (tie.spec cast-at (λ c κs. tt) (λ c κs. tt) shr-result (λ c. search rules) returns)

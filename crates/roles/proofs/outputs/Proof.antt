@@ -6,18 +6,18 @@ use lib.Bits.{bit_or}
 use borrow.Author.Rules.{rules}
 use Rattle.bits.specs.Bit.{bit_of, value_of}
 use Rattle.bits.proofs.Tested.{numbers}
-use Rattle.control.specs.Mode.{mode_of, input_of, upperInput, lowerInput}
-use Rattle.roles.specs.Role.{usesOf, freeRole, roleOf}
-use Rattle.roles.specs.Pins.{handshakePins, outputPins}
+use Rattle.control.specs.Mode.{mode_of, input_of, upper_input, lower_input}
+use Rattle.roles.specs.Role.{uses_of, free_role, role_of}
+use Rattle.roles.specs.Pins.{handshake_pins, output_pins}
 use Rattle.roles.proofs.outputs.Statement.{statement}
 use Rattle.roles.proofs.outputs.Tie as tie
 
 -- What the code works out of a word.
 abbrev mask : ℕ → ℕ
-mask w = 255 - bit_or (bit_or (handshakePins w) (cond (bit_of w 3) 0xf0 0)) (cond (bit_of w 0) 0x0f 0)
+mask w = 255 - bit_or (bit_or (handshake_pins w) (cond (bit_of w 3) 0xf0 0)) (cond (bit_of w 0) 0x0f 0)
 
 returns : tie.Need-returns
-unfolding outputPins handshakePins roleOf usesOf freeRole mode_of input_of upperInput lowerInput bit_of value_of
+unfolding output_pins handshake_pins role_of uses_of free_role mode_of input_of upper_input lower_input bit_of value_of
 returns c =
     rw (
       c.handshake.ensures,
@@ -26,7 +26,7 @@ returns c =
       c.before.before.before.choose.ensures,
       c.before.before.before.before.bit.ensures,
     )
-    (numbers 256 mask outputPins tt c.before.before.before.before.before.args.word (search rules))
+    (numbers 256 mask output_pins tt c.before.before.before.before.before.args.word (search rules))
 
 pub outputs-spec : {M : Type 1} → statement M
 outputs-spec = tie.close (tie.spec (λ c κs. tt) (λ c κs. tt) (λ c κs. tt) (λ c κs. tt) (λ c κs. tt) returns)

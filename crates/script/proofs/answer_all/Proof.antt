@@ -9,8 +9,8 @@ use borrow.Author.Rules.{rules}
 use Rattle.text.specs.declared.Frame.{Frame}
 use Rattle.text.proofs.Turn.{lines_from, Turn, turn, no_more}
 use Rattle.script.specs.declared.Shown.{Shown}
-use Rattle.script.specs.Answers.{actedBy, lineText, answerWidth}
-use Rattle.script.proofs.Answering.{UnderWay, starts, room-for-one, goes_on, arrives}
+use Rattle.script.specs.Answers.{acted_by, line_text, answer_width}
+use Rattle.script.proofs.Answering.{UnderWay, starts, room-for-one, goes-on, arrives}
 use Rattle.script.proofs.answer_all.Statement.{statement}
 use Rattle.script.proofs.answer_all.Tie as tie
 
@@ -41,9 +41,9 @@ loop-again c =
     let end = act.before.before in
     let top = end.before.before in
     let lent = take (length top.loop.out - top.loop.at) (drop top.loop.at top.loop.out) in
-    goes_on _ _ _ top.loop.out _ _ _ top.loop.at (rw (here end).lines at top.loop.invariant) _ _
-    (act.act.ensures ∙ ap (λ (f : Frame). actedBy top.loop.answerer f) act.before.frame.ensures)
-    (write.write.ensures ∙ ap (λ (r : Shown). lineText r ++ drop answerWidth lent) write.before.show.ensures)
+    goes-on _ _ _ top.loop.out _ _ _ top.loop.at (rw (here end).lines at top.loop.invariant) _ _
+    (act.act.ensures ∙ ap (λ (f : Frame). acted_by top.loop.answerer f) act.before.frame.ensures)
+    (write.write.ensures ∙ ap (λ (r : Shown). line_text r ++ drop answer_width lent) write.before.show.ensures)
 
 add_at : tie.Need-overflow-add-at invariant-loop decreases-loop
 add_at c =

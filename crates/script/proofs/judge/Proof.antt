@@ -2,12 +2,12 @@
 -- Rests on text's LineCount, Numbers and the contracts of what it calls.
 use native.Mathlib.Omega.{arith}
 use Rattle.text.proofs.LineCount.{lines-at-most}
-use Rattle.script.proofs.Numbers.{too_long, no_room, runs}
+use Rattle.script.proofs.Numbers.{too-long, no-room, runs}
 use Rattle.script.proofs.judge.Statement.{statement}
 use Rattle.script.proofs.judge.Tie as tie
 
 returns : tie.Need-returns
-returns c = rw c.refuse.ensures (too_long _ _ c.before.if1.true)
+returns c = rw c.refuse.ensures (too-long _ _ c.before.if1.true)
 
 mul-if2 : tie.Need-overflow-mul-if2
 mul-if2 c = omega (arith, c.count.ensures, lines-at-most c.before.before.before.args.text.now, c.before.if1.false)
@@ -15,7 +15,7 @@ mul-if2 c = omega (arith, c.count.ensures, lines-at-most c.before.before.before.
 returns-2 : tie.Need-returns-2
 returns-2 c =
     let count = c.before.before in
-    rw c.refuse2.ensures (no_room _ _ count.before.if1.false (rw (← count.count.ensures) c.before.if2.true))
+    rw c.refuse2.ensures (no-room _ _ count.before.if1.false (rw (← count.count.ensures) c.before.if2.true))
 
 returns-3 : tie.Need-returns-3
 returns-3 c =

@@ -2,7 +2,7 @@
 -- Rests on Numbers, Outcome and the contracts of judge, answer::start and answer_all.
 use mathlib.Core.Path.{◌∙◌, sym}
 use borrow.Author.Rules.{rules}
-use Rattle.script.proofs.Numbers.{number-given, has_room}
+use Rattle.script.proofs.Numbers.{number-given, has-room}
 use Rattle.script.proofs.Outcome.{refused-leaves, accepted-fills}
 use Rattle.script.proofs.run.Statement.{statement}
 use Rattle.script.proofs.run.Tie as tie
@@ -15,7 +15,7 @@ returns c =
 answer-all-requires : tie.Need-answer-all-requires
 answer-all-requires c κs =
     let accepted = c.before.before in
-    has_room _ _ (sym (number-given _ _ _ accepted.before.before.judge.ensures) ∙ accepted.if1.false)
+    has-room _ _ (sym (number-given _ _ _ accepted.before.before.judge.ensures) ∙ accepted.if1.false)
 
 returns-2 : tie.Need-returns-2
 returns-2 c =

@@ -2,14 +2,14 @@
 -- Rests on image's Parts.
 use borrow.Author.Rules.{rules}
 use borrow.Author.Tests.{ne_eqb}
-use Rattle.reads.specs.Read.{afterReadBegins}
+use Rattle.reads.specs.Read.{after_read_begins}
 use Rattle.image.specs.Good.{Told}
 use Rattle.image.proofs.Parts.{told-long, bus-saved}
 use Rattle.calls.proofs.accepted.read_other.Statement.{statement}
 use Rattle.calls.proofs.accepted.read_other.Tie as tie
 
 pub read-other-spec : {M : Type 1} → statement M
-unfolding afterReadBegins
+unfolding after_read_begins
 read-other-spec = tie.close (tie.spec
     (λ c κs. told-long c.before.before.args.image.now (search rules)) (λ c κs. tt) (λ c κs. tt) (λ c. search rules)
     (λ c.

@@ -7,29 +7,29 @@ use lib.Dec.{eqb}
 use borrow.Author.Rules.{rules}
 use Rattle.bits.specs.Bit.{bit_of}
 use Rattle.control.specs.declared.Group.TheVariants.{A, B}
-use Rattle.control.specs.Mode.{strobedOutput, mode_of, input_of}
+use Rattle.control.specs.Mode.{strobed_output, mode_of, input_of}
 use Rattle.control.proofs.ByGroup.{bit-of-group}
 use Rattle.control.proofs.mode.strobed_output.Statement.{statement}
 use Rattle.control.proofs.mode.strobed_output.Tie as tie
 
 -- What the code works out of a word, for each group.
-abbrev codeA : ℕ → Bool
-codeA w = eqb (bit_and w 0x40) 0x40 || eqb (bit_and w 0x30) 0x20
+abbrev code_a : ℕ → Bool
+code_a w = eqb (bit_and w 0x40) 0x40 || eqb (bit_and w 0x30) 0x20
 
-abbrev codeB : ℕ → Bool
-codeB w = eqb (bit_and w 0x06) 0x04
+abbrev code_b : ℕ → Bool
+code_b w = eqb (bit_and w 0x06) 0x04
 
 returns : tie.Need-returns
-unfolding strobedOutput mode_of input_of bit_of
+unfolding strobed_output mode_of input_of bit_of
 returns c =
     let a = c.before.before.args in
-    bit-of-group codeA strobedOutput A tt a.word a.group (search rules) c.enum_told.given.1
+    bit-of-group code_a strobed_output A tt a.word a.group (search rules) c.enum_told.given.1
 
 returns-2 : tie.Need-returns-2
-unfolding strobedOutput mode_of input_of bit_of
+unfolding strobed_output mode_of input_of bit_of
 returns-2 c =
     let a = c.before.before.args in
-    bit-of-group codeB strobedOutput B tt a.word a.group (search rules) c.enum-told2.given.1
+    bit-of-group code_b strobed_output B tt a.word a.group (search rules) c.enum-told2.given.1
 
 pub strobed-output-spec : {M : Type 1} → statement M
 strobed-output-spec = tie.close (tie.spec (λ c. search rules) (λ c. search rules) returns returns-2)

@@ -2,16 +2,16 @@
 -- Rests on the contract of bits::bit.
 use Prim.Native.Nat.{◌/◌}
 use lib.Bits.{and_mask}
-use Rattle.control.specs.Word.{controlOf}
+use Rattle.control.specs.Word.{control_of}
 use Rattle.control.proofs.word.decode.Statement.{statement}
 use Rattle.control.proofs.word.decode.Tie as tie
 
 returns : tie.Need-returns
-unfolding controlOf
+unfolding control_of
 returns c = rw (← c.before.bit.ensures, c.if1.true)
 
 returns-2 : tie.Need-returns-2
-unfolding controlOf
+unfolding control_of
 returns-2 c =
     rw (← c.before.before.bit.ensures, c.before.if1.false, c.bit2.ensures, and_mask (c.before.before.before.args.byte / 2) 3)
 

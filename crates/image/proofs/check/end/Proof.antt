@@ -2,7 +2,7 @@
 -- Rests on Zeros.
 use borrow.Author.Rules.{rules}
 use Rattle.image.specs.Places as places
-use Rattle.image.proofs.Zeros.{end_fits}
+use Rattle.image.proofs.Zeros.{end-fits}
 use Rattle.image.proofs.check.end.Statement.{statement}
 use Rattle.image.proofs.check.end.Tie as tie
 
@@ -28,4 +28,4 @@ end-spec = tie.close (tie.spec
       edition.wide2.ensures,
       bus.wide.ensures,
     )
-    (end_fits l (known.shared-slice-known.given places.bus).fits)))
+    (end-fits l (known.shared-slice-known.given places.bus).fits)))

@@ -1,12 +1,12 @@
 -- `check::good` meets its contract: the length first.
 use borrow.Author.Rules.{rules}
 use borrow.Author.Tests.{eq-eqb, ne_eqb}
-use Rattle.image.specs.Good.{isImage}
+use Rattle.image.specs.Good.{is_image}
 use Rattle.image.proofs.check.good.Statement.{statement}
 use Rattle.image.proofs.check.good.Tie as tie
 
 pub good-spec : {M : Type 1} → statement M
-unfolding isImage
+unfolding is_image
 good-spec = tie.close (tie.spec
     (λ c. rw (ne_eqb _ _ c.if1.true))
     (λ c κs. search rules)

@@ -1,12 +1,12 @@
 -- `save::core` meets its contract, by the length.
 use borrow.Author.Rules.{rules}
 use borrow.Author.Tests.{eq-eqb, ne_eqb}
-use Rattle.image.specs.Slices.{coreSavedIn}
+use Rattle.image.specs.Slices.{core_saved_in}
 use Rattle.image.proofs.save.core.Statement.{statement}
 use Rattle.image.proofs.save.core.Tie as tie
 
 pub core_spec : {M : Type 1} → statement M
-unfolding coreSavedIn
+unfolding core_saved_in
 core_spec = tie.close (tie.spec
     (λ c κs. search rules)
     (λ c. search rules)

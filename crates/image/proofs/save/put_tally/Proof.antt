@@ -2,7 +2,7 @@
 -- Rests on Behind.
 use mathlib.Core.List.{◌++◌}
 use borrow.Author.Rules.{rules}
-use Rattle.image.specs.Layout.{wideBytes, fiveTallies}
+use Rattle.image.specs.Layout.{wide_bytes, five_tallies}
 use Rattle.image.proofs.Behind.{behind}
 use Rattle.image.proofs.save.put_tally.Statement.{statement}
 use Rattle.image.proofs.save.put_tally.Tie as tie
@@ -23,8 +23,8 @@ put-tally-spec = tie.close (tie.spec
     let a = first.before.before.before.args in
     let l = a.image.now in
     let t = a.tally in
-    let two = wideBytes t.offered ++ wideBytes t.handed in
-    let three = two ++ wideBytes t.overwritten in
+    let two = wide_bytes t.offered ++ wide_bytes t.handed in
+    let three = two ++ wide_bytes t.overwritten in
     rw (
       seventh.put-wide7.ensures,
       sixth.put-wide6.ensures,
@@ -33,10 +33,10 @@ put-tally-spec = tie.close (tie.spec
       third.put-wide3.ensures,
       second.put-wide2.ensures,
       first.put-wide.ensures,
-      behind l a.at (wideBytes t.offered) (wideBytes t.handed),
-      behind l a.at two (wideBytes t.overwritten),
-      behind l a.at three (wideBytes t.swallowed),
-      behind l a.at (three ++ wideBytes t.swallowed) (wideBytes t.cleared),
-      behind l a.at (fiveTallies t) (wideBytes t.planted),
-      behind l a.at (fiveTallies t ++ wideBytes t.planted) (wideBytes t.struck),
+      behind l a.at (wide_bytes t.offered) (wide_bytes t.handed),
+      behind l a.at two (wide_bytes t.overwritten),
+      behind l a.at three (wide_bytes t.swallowed),
+      behind l a.at (three ++ wide_bytes t.swallowed) (wide_bytes t.cleared),
+      behind l a.at (five_tallies t) (wide_bytes t.planted),
+      behind l a.at (five_tallies t ++ wide_bytes t.planted) (wide_bytes t.struck),
     )))

@@ -8,7 +8,7 @@ use lib.Seq.{sets, sets-eq}
 use borrow.Author.Rules.{rules}
 use Rattle.chip.specs.declared.Chip.{Chip}
 use Rattle.image.specs.Places as places
-use Rattle.image.specs.Layout.{coreBytes, busBytes, editionByte, image_of}
+use Rattle.image.specs.Layout.{core_bytes, bus_bytes, edition_byte, image_of}
 use Rattle.image.proofs.save.whole.Statement.{statement}
 use Rattle.image.proofs.save.whole.Tie as tie
 
@@ -16,13 +16,13 @@ abbrev eight : List ℕ
 eight = replicate 8 0
 
 abbrev parted : List ℕ → Chip → List ℕ
-parted l c = sets (sets l places.tallies (coreBytes c.core)) places.bus (busBytes c.phase)
+parted l c = sets (sets l places.tallies (core_bytes c.core)) places.bus (bus_bytes c.phase)
 
 abbrev four : ℕ → List ℕ
 four b = b ∷ 0 ∷ 0 ∷ 0 ∷ []
 
 filled : (l : List ℕ) (c : Chip) → length l ≡ places.length
-    → sets (sets (sets (sets (parted l c) places.edition (four (editionByte c.edition))) (places.edition + 4) (four 0))
+    → sets (sets (sets (sets (parted l c) places.edition (four (edition_byte c.edition))) (places.edition + 4) (four 0))
     (places.edition + 8) eight) (places.edition + 16) eight
     ≡ image_of c
 unfolding image_of

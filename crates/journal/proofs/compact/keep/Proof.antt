@@ -12,7 +12,7 @@ use Rattle.chip.specs.declared.Chip.{Chip}
 use Rattle.image.specs.Places as places
 use Rattle.image.specs.Loaded.{state_of}
 use Rattle.image.proofs.Long.{written_over}
-use Rattle.journal.specs.Trim.{keptFrom, filledUp}
+use Rattle.journal.specs.Trim.{kept_from, filled_up}
 use Rattle.journal.proofs.Held.{tells}
 use Rattle.journal.proofs.Keeping.{Keeping, starts, long, held-long, is-frame, below, next-long, dropped, moved, arrives, filled-up}
 use Rattle.journal.proofs.compact.keep.Statement.{statement}
@@ -91,8 +91,8 @@ returns c =
     let image = saved.state.ensures ∙ written_over _ start.args.chip refl in
     let done =
     arrives _ _ _ _ _ _ way (search rules)
-    ∙ ap (λ (c : Chip). keptFrom c start.args.words.now) (tells start.args.chip start.requires.0 _ image) in
-    (sym way.counted ∙ ap length done, filled-up _ _ _ _ _ _ way (search rules) ∙ ap (λ (l : List ℕ). filledUp l (length start.args.words.now)) done)
+    ∙ ap (λ (c : Chip). kept_from c start.args.words.now) (tells start.args.chip start.requires.0 _ image) in
+    (sym way.counted ∙ ap length done, filled-up _ _ _ _ _ _ way (search rules) ∙ ap (λ (l : List ℕ). filled_up l (length start.args.words.now)) done)
 
 pub keep_spec : {M : Type 1} → statement M
 keep_spec =

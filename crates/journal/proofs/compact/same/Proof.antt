@@ -5,14 +5,14 @@ use mathlib.Core.Bool.{Bool, ◌&&◌, and-true, and_assoc}
 use Prim.Native.Nat.{◌-◌}
 use lib.ListN.{drop}
 use borrow.Author.Rules.{rules}
-use Rattle.bits.specs.Same.{sameBytes}
+use Rattle.bits.specs.Same.{same_bytes}
 use Rattle.image.specs.Places as places
 use Rattle.journal.proofs.Ahead.{bytes-ahead, no-bytes-ahead}
 use Rattle.journal.proofs.compact.same.Statement.{statement}
 use Rattle.journal.proofs.compact.same.Tie as tie
 
 abbrev invariant-loop : tie.invariant-loop
-invariant-loop image other same₀ at₀ same at = (same && sameBytes (drop at image) (drop at other)) ≡ sameBytes image other
+invariant-loop image other same₀ at₀ same at = (same && same_bytes (drop at image) (drop at other)) ≡ same_bytes image other
 
 abbrev decreases-loop : tie.decreases-loop
 decreases-loop image other same₀ at₀ same at = places.length - at

@@ -5,13 +5,13 @@ use Prim.Native.Nat.{◌-◌}
 use lib.ListN.{length, drop}
 use borrow.Author.Rules.{rules}
 use borrow.Author.Tests.{not-true, not-false}
-use Rattle.journal.specs.Words.{allFrames}
+use Rattle.journal.specs.Words.{all_frames}
 use Rattle.journal.proofs.Ahead.{no-frame-here, frame_here, no-frames-ahead}
 use Rattle.journal.proofs.words.all_frames.Statement.{statement}
 use Rattle.journal.proofs.words.all_frames.Tie as tie
 
 abbrev invariant-loop : tie.invariant-loop
-invariant-loop words at₀ at = allFrames (drop at words) ≡ allFrames words
+invariant-loop words at₀ at = all_frames (drop at words) ≡ all_frames words
 
 abbrev decreases-loop : tie.decreases-loop
 decreases-loop words at₀ at = length words - at

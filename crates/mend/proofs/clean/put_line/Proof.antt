@@ -7,8 +7,8 @@ use native.Mathlib.Omega.{arith}
 use lib.ListN.{length}
 use lib.Seq.{length-take-le}
 use borrow.Author.Rules.{rules}
-use Rattle.text.specs.Frames.{isFrame}
-use Rattle.mend.specs.Line.{mended, cleanLine}
+use Rattle.text.specs.Frames.{is_frame}
+use Rattle.mend.specs.Line.{mended, clean_line}
 use Rattle.mend.proofs.Cleaning.{nothing_put, fit-if-any, within, line-put}
 use Rattle.mend.proofs.clean.put_line.Statement.{statement}
 use Rattle.mend.proofs.clean.put_line.Tie as tie
@@ -17,14 +17,14 @@ returns : tie.Need-returns
 returns c =
     let length-of = c.before in
     let a = length-of.before.before.before.args in
-    let none : length (cleanLine a.line.now) ≡ 0 = omega (arith, length-of.length-of.ensures, c.if1.true) in
+    let none : length (clean_line a.line.now) ≡ 0 = omega (arith, length-of.length-of.ensures, c.if1.true) in
     (sym none, nothing_put a.line.now a.out.now none)
 
 -- There is something to put: the line is fit, and its width is one less.
-fit : (c : tie.Else1) → isFrame (mended c.before.before.before.before.args.line.now) ≡ true
+fit : (c : tie.Else1) → is_frame (mended c.before.before.before.before.args.line.now) ≡ true
 fit c = fit-if-any _ (λ e. omega (arith, c.before.length-of.ensures, e, c.if1.false))
 
-wide : (c : tie.Else1) → c.before.length-of.result - 1 + 1 ≡ length (cleanLine c.before.before.before.before.args.line.now)
+wide : (c : tie.Else1) → c.before.length-of.result - 1 + 1 ≡ length (clean_line c.before.before.before.before.args.line.now)
 wide c = omega (arith, c.before.length-of.ensures, c.if1.false)
 
 slice-aggregate-put : tie.Need-slice-aggregate-put

@@ -4,7 +4,7 @@ use mathlib.Core.Path.{◌∙◌, ap, sym}
 use native.Mathlib.Omega.{arith}
 use lib.Seq.{length-take-le}
 use borrow.Author.Rules.{rules}
-use Rattle.text.specs.Frames.{isEvent}
+use Rattle.text.specs.Frames.{is_event}
 use Rattle.mend.proofs.Dropping.{no_longer}
 use Rattle.mend.proofs.Fit.{too_wide, in-the-room}
 use Rattle.mend.proofs.line.is_fit.Statement.{statement}
@@ -27,7 +27,7 @@ returns-2 c =
     let put = frame.before.before.before in
     let width = put.before.before.before.before in
     let line = width.before.before.args.line.now in
-    c.is-event.ensures ∙ ap isEvent frame.frame.ensures ∙ rw put.put.ensures (in-the-room line width.width.result _ width.width.ensures)
+    c.is-event.ensures ∙ ap is_event frame.frame.ensures ∙ rw put.put.ensures (in-the-room line width.width.result _ width.width.ensures)
 
 pub is-fit-spec : {M : Type 1} → statement M
 is-fit-spec =

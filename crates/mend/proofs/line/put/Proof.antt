@@ -10,8 +10,8 @@ use lib.Seq.{drop-cons, set_at}
 use borrow.Author.Rules.{rules}
 use Rattle.text.specs.Lines.{lf}
 use Rattle.mend.specs.Line.{raised}
-use Rattle.mend.specs.Mend.{inFront}
-use Rattle.mend.proofs.Filling.{UnderWay, starts, stored, arrives, one_each}
+use Rattle.mend.specs.Mend.{in_front}
+use Rattle.mend.proofs.Filling.{UnderWay, starts, stored, arrives, one-each}
 use Rattle.mend.proofs.line.put.Statement.{statement}
 use Rattle.mend.proofs.line.put.Tie as tie
 
@@ -30,7 +30,7 @@ loop-holds c =
     let start = c.before.before in
     let a = start.args in (
       starts put a.bytes.now a.out.now
-          (rw (one_each raised a.bytes.now, length-map a.bytes.now raised) (omega (arith, start.requires))),
+          (rw (one-each raised a.bytes.now, length-map a.bytes.now raised) (omega (arith, start.requires))),
       omega arith,
     )
 
@@ -47,7 +47,7 @@ loop-again c =
 
 -- LF, stored behind the bytes.
 ended : (bytes first : List ℕ) → length bytes < length first
-    → set (inFront (map raised bytes) first) (length bytes) lf ≡ map raised bytes ++ lf ∷ drop (suc (length bytes)) first
+    → set (in_front (map raised bytes) first) (length bytes) lf ≡ map raised bytes ++ lf ∷ drop (suc (length bytes)) first
 ended bytes first room =
     rw (length-map bytes raised, drop-cons first (length bytes) 0 room)
     (set_at (map raised bytes) (get_or first (length bytes) 0) (drop (suc (length bytes)) first) lf (length bytes) (length-map bytes raised))
@@ -58,7 +58,7 @@ returns c =
     let a = top.before.before.before.args in
     let over : top.loop.at ≡ length a.bytes.now = omega (arith, top.loop.invariant.1, c.loop-test.false) in
     let way = rw (drop_of_length-le a.bytes.now {i = top.loop.at} (omega (arith, over))) at top.loop.invariant.0 in
-    rw (arrives put _ _ _ _ way, over, one_each raised a.bytes.now) (ended a.bytes.now a.out.now top.before.before.before.requires)
+    rw (arrives put _ _ _ _ way, over, one-each raised a.bytes.now) (ended a.bytes.now a.out.now top.before.before.before.requires)
 
 pub put_spec : {M : Type 1} → statement M
 put_spec =

@@ -6,9 +6,9 @@ use Prim.Native.Nat.{ℕ}
 use lib.ListN.{length}
 use borrow.Author.Rules.{rules}
 use Rattle.text.specs.Lines.{Line}
-use Rattle.text.specs.LineEnds.{lineBetween}
-use Rattle.text.specs.Frames.{isFrame, isEvent, frameIn}
-use Rattle.mend.specs.Line.{bytes_of, withoutCR, mended}
+use Rattle.text.specs.LineEnds.{line_between}
+use Rattle.text.specs.Frames.{is_frame, is_event, frame_in}
+use Rattle.mend.specs.Line.{bytes_of, without_cr, mended}
 use Rattle.mend.proofs.Cleaning.{bytes-between}
 use Rattle.mend.proofs.Judging.{sign_kept, sign-mended, sign-blank, sign-unfit}
 use Rattle.mend.proofs.line.sign.Statement.{statement}
@@ -16,20 +16,20 @@ use Rattle.mend.proofs.line.sign.Tie as tie
 
 -- The line, where it is read as it stands.
 abbrev line : tie.After-is-event → Line
-line c = let a = c.before.before.before.args in lineBetween a.text.now a.start a.end
+line c = let a = c.before.before.before.args in line_between a.text.now a.start a.end
 
-event : (c : tie.After-is-event) → c.is-event.result ≡ isEvent (frameIn (line c))
-event c = c.is-event.ensures ∙ ap isEvent c.before.frame.ensures
+event : (c : tie.After-is-event) → c.is-event.result ≡ is_event (frame_in (line c))
+event c = c.is-event.ensures ∙ ap is_event c.before.frame.ensures
 
-fit : (c : tie.After-is-fit) → c.is-fit.result ≡ isFrame (mended (bytes_of (line c.before.before.before)))
+fit : (c : tie.After-is-fit) → c.is-fit.result ≡ is_frame (mended (bytes_of (line c.before.before.before)))
 fit c =
     let a = c.before.before.before.before.before.before.args in
-    c.is-fit.ensures ∙ ap (λ (bytes : List ℕ). isFrame (mended bytes)) (bytes-between a.text.now a.start a.end)
+    c.is-fit.ensures ∙ ap (λ (bytes : List ℕ). is_frame (mended bytes)) (bytes-between a.text.now a.start a.end)
 
-left : (c : tie.After-width) → c.width.result ≡ length (withoutCR (bytes_of (line c.before.before.before.before.before.before)))
+left : (c : tie.After-width) → c.width.result ≡ length (without_cr (bytes_of (line c.before.before.before.before.before.before)))
 left c =
     let a = c.before.before.before.before.before.before.before.before.before.args in
-    c.width.ensures ∙ ap (λ (bytes : List ℕ). length (withoutCR bytes)) (bytes-between a.text.now a.start a.end)
+    c.width.ensures ∙ ap (λ (bytes : List ℕ). length (without_cr bytes)) (bytes-between a.text.now a.start a.end)
 
 returns : tie.Need-returns
 returns c = sign_kept (line c.before) (sym (event c.before) ∙ c.if1.true)

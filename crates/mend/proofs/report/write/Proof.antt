@@ -9,8 +9,8 @@ use borrow.Author.Rules.{rules}
 use Rattle.text.specs.Lines.{Line, lines_of}
 use Rattle.text.proofs.Turn.{lines_from, Turn, turn, no_more}
 use Rattle.mend.specs.Line.{sign_of}
-use Rattle.mend.specs.Mend.{reportOf}
-use Rattle.mend.proofs.Filling.{UnderWay, starts, fits, stored, arrives, one_each}
+use Rattle.mend.specs.Mend.{report_of}
+use Rattle.mend.proofs.Filling.{UnderWay, starts, fits, stored, arrives, one-each}
 use Rattle.mend.proofs.report.write.Statement.{statement}
 use Rattle.mend.proofs.report.write.Tie as tie
 
@@ -28,7 +28,7 @@ loop-holds : tie.Need-loop-init invariant-loop decreases-loop
 loop-holds c =
     let a = c.before.before.args in
     let ls = lines_of a.text.now in
-    starts put ls a.out.now (rw (one_each sign_of ls, length-map ls sign_of) (search rules))
+    starts put ls a.out.now (rw (one-each sign_of ls, length-map ls sign_of) (search rules))
 
 -- The turn, where the end of the line is found.
 here : (c : tie.After-end invariant-loop decreases-loop)
@@ -48,12 +48,12 @@ room c =
     fits put _ _ top.loop.out _ _ top.loop.at (rw (here c).lines at top.loop.invariant)
 
 returns : tie.Need-returns invariant-loop decreases-loop
-unfolding reportOf
+unfolding report_of
 returns c =
     let top = c.before in
     let ls = lines_of top.before.before.before.args.text.now in
     let all = arrives put _ _ _ _ (rw (no_more _ top.loop.start c.loop-test.false) at top.loop.invariant) in
-    rw (one_each sign_of ls) at all
+    rw (one-each sign_of ls) at all
 
 pub write_spec : {M : Type 1} → statement M
 write_spec =

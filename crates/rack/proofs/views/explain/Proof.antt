@@ -1,13 +1,13 @@
 -- `views::explain` meets its contract: the card that is there, or none.
 -- Rests on Places.
 use mathlib.Core.Path.{sym, ◌∙◌}
-use Rattle.rack.specs.Views.{cardExplained}
+use Rattle.rack.specs.Views.{card_explained}
 use Rattle.rack.proofs.Places.{place-below}
 use Rattle.rack.proofs.views.explain.Statement.{statement}
 use Rattle.rack.proofs.views.explain.Tie as tie
 
 pub explain-spec : {M : Type 1} → statement M
-unfolding cardExplained
+unfolding card_explained
 explain-spec = tie.close (tie.spec
     (λ c κs. tt)
     (λ c κs. place-below _ _ (sym c.before.is-place.ensures ∙ c.if1.true))

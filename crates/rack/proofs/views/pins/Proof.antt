@@ -1,13 +1,13 @@
 -- `views::pins` meets its contract: the card that is there, or none.
 -- Rests on Places.
 use mathlib.Core.Path.{sym, ◌∙◌}
-use Rattle.rack.specs.Views.{cardPins}
+use Rattle.rack.specs.Views.{card_pins}
 use Rattle.rack.proofs.Places.{place-below}
 use Rattle.rack.proofs.views.pins.Statement.{statement}
 use Rattle.rack.proofs.views.pins.Tie as tie
 
 pub pins-spec : {M : Type 1} → statement M
-unfolding cardPins
+unfolding card_pins
 pins-spec = tie.close (tie.spec
     (λ c κs. tt)
     (λ c κs. place-below _ _ (sym c.before.is-place.ensures ∙ c.if1.true))

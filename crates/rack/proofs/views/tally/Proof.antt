@@ -1,13 +1,13 @@
 -- `views::tally` meets its contract: the card that is there, or none.
 -- Rests on Places.
 use mathlib.Core.Path.{sym, ◌∙◌}
-use Rattle.rack.specs.Views.{cardTally}
+use Rattle.rack.specs.Views.{card_tally}
 use Rattle.rack.proofs.Places.{place-below}
 use Rattle.rack.proofs.views.tally.Statement.{statement}
 use Rattle.rack.proofs.views.tally.Tie as tie
 
 pub tally-spec : {M : Type 1} → statement M
-unfolding cardTally
+unfolding card_tally
 tally-spec = tie.close (tie.spec
     (λ c κs. tt)
     (λ c κs. place-below _ _ (sym c.before.is-place.ensures ∙ c.if1.true))

@@ -7,16 +7,16 @@ use native.Mathlib.Omega.{arith}
 use lib.Dec.{ltb}
 use borrow.Author.Tests.{ltb-true}
 use Rattle.bits.proofs.Logic.{both}
-use Rattle.text.specs.Digits.{noByte}
+use Rattle.text.specs.Digits.{no_byte}
 use Rattle.rackscript.specs.Bases.{base_of}
 use Rattle.rackscript.proofs.first.base.Statement.{statement}
 use Rattle.rackscript.proofs.first.base.Tie as tie
 
 -- What the test says where it holds.
-bytes : (high low : ℕ) → (ltb high noByte && ltb low noByte) ≡ true → (high < noByte) × (low < noByte)
-bytes high low e = let all = both (ltb high noByte) (ltb low noByte) e in (ltb-true high noByte all.0, ltb-true low noByte all.1)
+bytes : (high low : ℕ) → (ltb high no_byte && ltb low no_byte) ≡ true → (high < no_byte) × (low < no_byte)
+bytes high low e = let all = both (ltb high no_byte) (ltb low no_byte) e in (ltb-true high no_byte all.0, ltb-true low no_byte all.1)
 
-passed : (c : tie.Then1) → (c.before.args.high < noByte) × (c.before.args.low < noByte)
+passed : (c : tie.Then1) → (c.before.args.high < no_byte) × (c.before.args.low < no_byte)
 passed c = bytes _ _ c.if1.true
 
 returns : tie.Need-returns

@@ -5,7 +5,7 @@ use Prim.Native.Nat.{◌-◌, ◌*◌}
 use native.Mathlib.Omega.{arith}
 use lib.ListN.{length}
 use borrow.Author.Rules.{rules}
-use Rattle.rackscript.proofs.Placing.{Placed, none_yet, one_more, all_placed}
+use Rattle.rackscript.proofs.Placing.{Placed, none_yet, one-more, all_placed}
 use Rattle.rackscript.proofs.first.bases.Statement.{statement}
 use Rattle.rackscript.proofs.first.bases.Tie as tie
 
@@ -22,7 +22,7 @@ array-write-bases : tie.Need-array-write-bases invariant-loop decreases-loop
 array-write-bases c = omega (arith, c.before.loop-test.true)
 
 loop-again : tie.Need-loop-preserved invariant-loop decreases-loop
-loop-again c = one_more _ _ _ (search rules) c.before.before.loop.invariant _ (search rules) c.base-at.ensures
+loop-again c = one-more _ _ _ (search rules) c.before.before.loop.invariant _ (search rules) c.base-at.ensures
 
 returns : tie.Need-returns invariant-loop decreases-loop
 returns c = all_placed _ _ _ (search rules) c.before.loop.invariant (search rules)

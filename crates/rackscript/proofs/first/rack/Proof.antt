@@ -6,7 +6,7 @@ use Prim.Native.Nat.{ℕ}
 use native.Mathlib.Omega.{arith}
 use lib.Seq.{length-take-le}
 use borrow.Author.Rules.{rules}
-use Rattle.rack.specs.State.{builtOf}
+use Rattle.rack.specs.State.{built_of}
 use Rattle.rackscript.proofs.Naming.{no_line, a-line, long-line}
 use Rattle.rackscript.proofs.first.rack.Statement.{statement}
 use Rattle.rackscript.proofs.first.rack.Tie as tie
@@ -38,7 +38,7 @@ returns-3 : tie.Need-returns-3
 returns-3 c =
     let named = c.before.before.before in
     let a = named.before.before.before.before.before.args in
-    c.build.ensures ∙ ap (λ (bs : List ℕ). builtOf bs) named.bases.ensures.1 ∙ a-line a.text.now a.end (search rules)
+    c.build.ensures ∙ ap (λ (bs : List ℕ). built_of bs) named.bases.ensures.1 ∙ a-line a.text.now a.end (search rules)
 
 pub rack-spec : {M : Type 1} → statement M
 rack-spec =

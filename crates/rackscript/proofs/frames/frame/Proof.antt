@@ -9,29 +9,29 @@ use borrow.Author.Rules.{rules}
 use borrow.Author.Tests.{ltb-true}
 use Rattle.bits.proofs.Logic.{both}
 use Rattle.events.proofs.ByKind.{kind-small}
-use Rattle.text.specs.Digits.{noByte}
-use Rattle.rackscript.specs.Frames.{isRackFrame, rackFrameOf}
+use Rattle.text.specs.Digits.{no_byte}
+use Rattle.rackscript.specs.Frames.{is_rack_frame, rack_frame_of}
 use Rattle.rackscript.proofs.frames.frame.Statement.{statement}
 use Rattle.rackscript.proofs.frames.frame.Tie as tie
 
 -- What the test says where it holds.
-tested : (known exact : Bool) (x y z : ℕ) → (known && exact && ltb x noByte && ltb y noByte && ltb z noByte) ≡ true
-    → (known ≡ true) × (x < noByte) × (y < noByte) × (z < noByte)
+tested : (known exact : Bool) (x y z : ℕ) → (known && exact && ltb x no_byte && ltb y no_byte && ltb z no_byte) ≡ true
+    → (known ≡ true) × (x < no_byte) × (y < no_byte) × (z < no_byte)
 tested known exact x y z e =
-    let all = both (known && exact && ltb x noByte && ltb y noByte) (ltb z noByte) e in
-    let two = both (known && exact && ltb x noByte) (ltb y noByte) all.0 in
-    let one = both (known && exact) (ltb x noByte) two.0 in
-    ((both known exact one.0).0, ltb-true x noByte one.1, ltb-true y noByte two.1, ltb-true z noByte all.1)
+    let all = both (known && exact && ltb x no_byte && ltb y no_byte) (ltb z no_byte) e in
+    let two = both (known && exact && ltb x no_byte) (ltb y no_byte) all.0 in
+    let one = both (known && exact) (ltb x no_byte) two.0 in
+    ((both known exact one.0).0, ltb-true x no_byte one.1, ltb-true y no_byte two.1, ltb-true z no_byte all.1)
 
 passed : (c : tie.Then1)
     → (c.before.is-kind.result ≡ true)
-    × (c.before.before.before.before.before.byte-at2.result < noByte)
-    × (c.before.before.before.before.byte-at3.result < noByte)
-    × (c.before.before.before.byte-at4.result < noByte)
+    × (c.before.before.before.before.before.byte-at2.result < no_byte)
+    × (c.before.before.before.before.byte-at3.result < no_byte)
+    × (c.before.before.before.byte-at4.result < no_byte)
 passed c = tested _ _ _ _ _ c.if1.true
 
 returns : tie.Need-returns
-unfolding rackFrameOf isRackFrame
+unfolding rack_frame_of is_rack_frame
 returns c =
     let test = c.before in
     let bytes = test.before.before.before in
@@ -47,7 +47,7 @@ returns c =
     )
 
 returns-2 : tie.Need-returns-2
-unfolding rackFrameOf isRackFrame
+unfolding rack_frame_of is_rack_frame
 returns-2 c =
     let bytes = c.before.before.before in
     rw (

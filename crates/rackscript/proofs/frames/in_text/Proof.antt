@@ -9,21 +9,21 @@ use lib.Dec.{ltb}
 use lib.ListN.{length, drop, length-drop}
 use borrow.Author.Rules.{rules}
 use borrow.Author.Tests.{lt-ltb, le-ltb}
-use Rattle.events.specs.Kinds.{isKind}
+use Rattle.events.specs.Kinds.{is_kind}
 use Rattle.rackscript.specs.declared.frames.RackFrame.TheVariants.{NoFrame}
 use Rattle.text.specs.Lines.{ended, rest}
-use Rattle.text.specs.LineEnds.{firstLine}
-use Rattle.text.specs.Frames.{leadingByte}
-use Rattle.rackscript.specs.Frames.{operandBytes, isRackFrame, rackFrameOf, rackFrameIn}
+use Rattle.text.specs.LineEnds.{first_line}
+use Rattle.text.specs.Frames.{leading_byte}
+use Rattle.rackscript.specs.Frames.{operand_bytes, is_rack_frame, rack_frame_of, rack_frame_in}
 use Rattle.rackscript.proofs.frames.in_text.Statement.{statement}
 use Rattle.rackscript.proofs.frames.in_text.Tie as tie
 
 -- No bytes are no frame, whether the text goes on or not.
-no_bytes : (text : List ℕ) → NoFrame ≡ rackFrameIn (firstLine 0 text)
-unfolding isKind operandBytes leadingByte isRackFrame rackFrameOf rackFrameIn
+no_bytes : (text : List ℕ) → NoFrame ≡ rack_frame_in (first_line 0 text)
+unfolding is_kind operand_bytes leading_byte is_rack_frame rack_frame_of rack_frame_in
 no_bytes text = go (ltb 0 (length text))
   where
-    go : (t : Bool) → NoFrame ≡ rackFrameIn (cond t (ended []) (rest []))
+    go : (t : Bool) → NoFrame ≡ rack_frame_in (cond t (ended []) (rest []))
     go true = refl
     go false = refl
 
@@ -34,13 +34,13 @@ returns c =
     rw (none) (no_bytes (drop a.start a.text.now))
 
 returns-2 : tie.Need-returns-2
-unfolding rackFrameIn
+unfolding rack_frame_in
 returns-2 c =
     let a = c.before.before.before.args in
     rw (le-ltb (a.end - a.start) (length (drop a.start a.text.now)) (omega (arith, length-drop a.start a.text.now)))
 
 returns-3 : tie.Need-returns-3
-unfolding rackFrameIn
+unfolding rack_frame_in
 returns-3 c =
     let a = c.before.before.before.before.before.args in
     rw (lt-ltb (a.end - a.start) (length (drop a.start a.text.now)) (omega (arith, length-drop a.start a.text.now)))

@@ -4,12 +4,12 @@ use mathlib.Core.Path.{◌≡◌}
 use Prim.Native.Nat.{suc, ◌+◌}
 use native.Mathlib.Omega.{arith}
 use borrow.Author.Rules.{rules}
-use Rattle.rackscript.specs.Answers.{levelsText}
+use Rattle.rackscript.specs.Answers.{levels_text}
 use Rattle.rackscript.proofs.writer.put_card.Statement.{statement}
 use Rattle.rackscript.proofs.writer.put_card.Tie as tie
 
 returns : tie.Need-returns
-unfolding levelsText
+unfolding levels_text
 returns c =
     let third = c.before.before in
     let second = third.before.before.before.before.before in

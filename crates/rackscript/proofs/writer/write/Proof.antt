@@ -9,36 +9,36 @@ use lib.ListN.{length, set, drop, length-append, length-drop}
 use lib.Seq.{sets, sets-eq}
 use borrow.Author.Rules.{rules}
 use Rattle.rack.specs.declared.event.Stepped.{Stepped}
-use Rattle.text.specs.Digits.{inDigits}
+use Rattle.text.specs.Digits.{in_digits}
 use Rattle.text.specs.Lines.{lf}
-use Rattle.rackscript.specs.Answers.{allLevels, lineText, frontDigits, cardDigits, lineWidth}
+use Rattle.rackscript.specs.Answers.{all_levels, line_text, front_digits, card_digits, line_width}
 use Rattle.rackscript.proofs.Stores.{behind}
 use Rattle.rackscript.proofs.Levels.{levels-length}
 use Rattle.rackscript.proofs.Cards.{line-length}
 use Rattle.rackscript.proofs.writer.write.Statement.{statement}
 use Rattle.rackscript.proofs.writer.write.Tie as tie
 
-module _ (s : Stepped) (out : List ℕ) (room : lineWidth s.rack.count ≤ length out) where
+module _ (s : Stepped) (out : List ℕ) (room : line_width s.rack.count ≤ length out) where
   abbrev front : List ℕ
-  front = inDigits s.number ++ inDigits s.byte
+  front = in_digits s.number ++ in_digits s.byte
 
   -- The number and the byte, the levels, and LF.
-  one-run : set (sets (sets out 0 front) frontDigits (allLevels s.rack)) (frontDigits + cardDigits * s.rack.count) lf
-      ≡ sets out 0 (lineText s)
-  unfolding lineText
+  one-run : set (sets (sets out 0 front) front_digits (all_levels s.rack)) (front_digits + card_digits * s.rack.count) lf
+      ≡ sets out 0 (line_text s)
+  unfolding line_text
   one-run =
       rw (← levels-length s.rack)
-      (behind (sets out 0 front) frontDigits (allLevels s.rack) (lf ∷ []) ∙ behind out 0 front (allLevels s.rack ++ (lf ∷ [])))
+      (behind (sets out 0 front) front_digits (all_levels s.rack) (lf ∷ []) ∙ behind out 0 front (all_levels s.rack ++ (lf ∷ [])))
 
-  line_first : sets out 0 (lineText s) ≡ lineText s ++ drop (lineWidth s.rack.count) out
+  line_first : sets out 0 (line_text s) ≡ line_text s ++ drop (line_width s.rack.count) out
   line_first =
-      let put = sets-eq (lineText s) out 0 (omega (arith, room, line-length s)) in
-      rw (← line-length s) (rw (zero-add (length (lineText s))) at put)
+      let put = sets-eq (line_text s) out 0 (omega (arith, room, line-length s)) in
+      rw (← line-length s) (rw (zero-add (length (line_text s))) at put)
 
-  as_long : length (lineText s ++ drop (lineWidth s.rack.count) out) ≡ length out
-  as_long =
-      length-append (lineText s) (drop (lineWidth s.rack.count) out)
-      ∙ rw (line-length s, length-drop (lineWidth s.rack.count) out) (omega (arith, room))
+  as-long : length (line_text s ++ drop (line_width s.rack.count) out) ≡ length out
+  as-long =
+      length-append (line_text s) (drop (line_width s.rack.count) out)
+      ∙ rw (line-length s, length-drop (line_width s.rack.count) out) (omega (arith, room))
 
 returns : tie.Need-returns
 returns c =
@@ -55,7 +55,7 @@ same_length c =
     let put2 = cards.before.before.before.before.before in
     let put1 = put2.before.before.before.before in
     let a = put1.before.before.before.args in
-    ap (λ (l : List ℕ). length l) (returns c) ∙ as_long a.stepped a.out.now (search rules)
+    ap (λ (l : List ℕ). length l) (returns c) ∙ as-long a.stepped a.out.now (search rules)
 
 pub write_spec : {M : Type 1} → statement M
 write_spec =

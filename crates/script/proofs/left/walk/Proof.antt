@@ -8,7 +8,7 @@ use borrow.Author.Rules.{rules}
 use Rattle.text.specs.declared.Frame.{Frame}
 use Rattle.text.proofs.Turn.{lines_from, Turn, turn, no_more}
 use Rattle.script.specs.Answers.{acted}
-use Rattle.script.proofs.Walking.{Walking, sets-out, goes_on, fits, arrives}
+use Rattle.script.proofs.Walking.{Walking, sets-out, goes-on, fits, arrives}
 use Rattle.script.proofs.left.walk.Statement.{statement}
 use Rattle.script.proofs.left.walk.Tie as tie
 
@@ -28,7 +28,7 @@ loop-again c =
     let act = c.before.before in
     let end = act.before.before in
     let top = end.before.before in
-    goes_on _ _ _ top.loop.chip _ _ _
+    goes-on _ _ _ top.loop.chip _ _ _
     (act.act.ensures ∙ ap (λ (f : Frame). acted top.loop.chip f) act.before.frame.ensures)
     c.refusals.ensures (rw (here end).lines at top.loop.invariant)
 

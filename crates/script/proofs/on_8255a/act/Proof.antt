@@ -4,18 +4,18 @@ use mathlib.Core.Path.{◌∙◌, ap, sym}
 use borrow.Author.Rules.{rules}
 use Rattle.step.specs.Step.{step_of}
 use Rattle.text.specs.declared.Frame.{Frame}
-use Rattle.script.specs.Answers.{actedIn, acted}
+use Rattle.script.specs.Answers.{acted_in, acted}
 use Rattle.script.proofs.on_8255a.act.Statement.{statement}
 use Rattle.script.proofs.on_8255a.act.Tie as tie
 
 returns : tie.Need-returns
-unfolding acted actedIn step_of
+unfolding acted acted_in step_of
 returns c =
     c.step.ensures
     ∙ ap (λ (f : Frame). acted c.before.before.before.before.args.chip f) (sym c.before.before.frame.given.1)
 
 returns-2 : tie.Need-returns-2
-unfolding acted actedIn
+unfolding acted acted_in
 returns-2 c = ap (λ (f : Frame). acted c.before.before.args.chip f) (sym c.enum_told.given.1)
 
 pub act-spec : {M : Type 1} → statement M

@@ -1,10 +1,10 @@
 -- `reasons::half` meets its contract, by what it calls.
-use Rattle.status.specs.Reasons.{reasonOf}
+use Rattle.status.specs.Reasons.{reason_of}
 use Rattle.status.proofs.reasons.half.Statement.{statement}
 use Rattle.status.proofs.reasons.half.Tie as tie
 
 pub half_spec : {M : Type 1} → statement M
-unfolding reasonOf
+unfolding reason_of
 half_spec = tie.close (tie.spec (λ c κs. tt) (λ c κs. tt) (λ c κs. tt) (λ c κs. tt) (λ c κs. tt) (λ c κs. tt)
     (λ c. rw (
       c.first.ensures,

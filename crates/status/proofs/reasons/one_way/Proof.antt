@@ -1,6 +1,6 @@
--- `reasons::one_way` meets its contract, either way.
-use Rattle.status.proofs.reasons.one_way.Statement.{statement}
-use Rattle.status.proofs.reasons.one_way.Tie as tie
+-- `reasons::one-way` meets its contract, either way.
+use Rattle.status.proofs.reasons.one-way.Statement.{statement}
+use Rattle.status.proofs.reasons.one-way.Tie as tie
 
 pub one-way-spec : {M : Type 1} → statement M
 one-way-spec = tie.close (tie.spec (λ c κs. tt) (λ c κs. tt) (λ c κs. tt)

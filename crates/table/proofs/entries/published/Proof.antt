@@ -2,12 +2,12 @@
 -- Rests on nothing: this is the one computed test of the table.
 use Rattle.std.proofs.Common.{refl}
 use Rattle.bits.specs.Bit.{bit_of}
-use Rattle.control.specs.Mode.{mode_of, input_of, upperInput, lowerInput}
-use Rattle.roles.specs.Role.{usesOf, freeRole, roleOf}
+use Rattle.control.specs.Mode.{mode_of, input_of, upper_input, lower_input}
+use Rattle.roles.specs.Role.{uses_of, free_role, role_of}
 use Rattle.table.specs.Entry.{entry_at}
 use Rattle.table.proofs.entries.published.Statement.{statement}
 use Rattle.table.proofs.entries.published.Tie as tie
 
 pub published-spec : {M : Type 1} → statement M
-unfolding entry_at roleOf usesOf freeRole mode_of input_of upperInput lowerInput bit_of
+unfolding entry_at role_of uses_of free_role mode_of input_of upper_input lower_input bit_of
 published-spec = tie.close (tie.spec (λ c. refl))

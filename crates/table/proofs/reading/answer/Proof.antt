@@ -1,14 +1,14 @@
 -- `table::reading::answer` meets its contract, which is the lookup's: 255 where there is no entry, and else the table's.
 -- Rests on Place, lookup's InRange and the contract of entries::published.
 use Rattle.std.proofs.Common.{arith, rules}
-use Rattle.lookup.specs.Lookup.{lookupOf}
+use Rattle.lookup.specs.Lookup.{lookup_of}
 use Rattle.lookup.proofs.InRange.{in-range}
 use Rattle.table.proofs.Place.{entry_of}
 use Rattle.table.proofs.reading.answer.Statement.{statement}
 use Rattle.table.proofs.reading.answer.Tie as tie
 
 returns : tie.Need-returns
-unfolding lookupOf
+unfolding lookup_of
 returns c = rw c.if1.true
 
 sub_at : tie.Need-overflow-sub-at
@@ -18,7 +18,7 @@ array-read-result : tie.Need-array-read-result
 array-read-result c = omega (arith, in-range c.before.before.args.word c.before.before.args.pin c.before.if1.false)
 
 returns-2 : tie.Need-returns-2
-unfolding lookupOf
+unfolding lookup_of
 returns-2 c =
     let a = c.before.before.args in
     let in_table = in-range a.word a.pin c.before.if1.false in

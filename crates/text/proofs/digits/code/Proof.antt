@@ -7,7 +7,7 @@ use lib.Dec.{ltb}
 use borrow.Author.Rules.{rules}
 use borrow.Author.Tests.{lt-ltb, le-ltb}
 use Rattle.bits.proofs.Tested.{numbers}
-use Rattle.text.specs.Digits.{digitCode}
+use Rattle.text.specs.Digits.{digit_code}
 use Rattle.text.proofs.digits.code.Statement.{statement}
 use Rattle.text.proofs.digits.code.Tie as tie
 
@@ -15,9 +15,9 @@ use Rattle.text.proofs.digits.code.Tie as tie
 abbrev letter : ℕ → ℕ
 letter n = cond (ltb (n % 16) 10) (48 + n % 16) (55 + n % 16)
 
-agreed : (n k : ℕ) → n < 256 → letter n ≡ k → k ≡ digitCode n
-unfolding digitCode
-agreed n k h e = sym e ∙ numbers 256 letter digitCode tt n h
+agreed : (n k : ℕ) → n < 256 → letter n ≡ k → k ≡ digit_code n
+unfolding digit_code
+agreed n k h e = sym e ∙ numbers 256 letter digit_code tt n h
 
 returns : tie.Need-returns
 returns c = agreed _ _ (search rules) (rw (lt-ltb _ _ c.if1.true))

@@ -6,7 +6,7 @@ use Prim.Native.Nat.{ℕ, ◌+◌, ◌%◌, ◌<◌}
 use lib.Dec.{leb}
 use borrow.Author.Rules.{rules}
 use Rattle.bits.proofs.Tested.{numbers}
-use Rattle.text.specs.Digits.{digitValue}
+use Rattle.text.specs.Digits.{digit_value}
 use Rattle.text.proofs.digits.value.Statement.{statement}
 use Rattle.text.proofs.digits.value.Tie as tie
 
@@ -14,9 +14,9 @@ use Rattle.text.proofs.digits.value.Tie as tie
 abbrev worth : ℕ → ℕ
 worth k = cond (leb 48 k && leb k 57) (k % 16) (cond (leb 65 k && leb k 70) (k % 16 + 9) 16)
 
-agreed : (k n : ℕ) → k < 256 → worth k ≡ n → n ≡ digitValue k
-unfolding digitValue
-agreed k n h e = sym e ∙ numbers 256 worth digitValue tt k h
+agreed : (k n : ℕ) → k < 256 → worth k ≡ n → n ≡ digit_value k
+unfolding digit_value
+agreed k n h e = sym e ∙ numbers 256 worth digit_value tt k h
 
 returns : tie.Need-returns
 returns c = agreed _ _ (search rules) (rw c.if1.true)

@@ -9,26 +9,26 @@ use borrow.Author.Rules.{rules}
 use borrow.Author.Tests.{ltb-true}
 use Rattle.bits.proofs.Logic.{both}
 use Rattle.events.proofs.ByKind.{kind-small}
-use Rattle.text.specs.Digits.{noByte}
-use Rattle.text.specs.Frames.{isFrame, frame_of}
+use Rattle.text.specs.Digits.{no_byte}
+use Rattle.text.specs.Frames.{is_frame, frame_of}
 use Rattle.text.proofs.line.frame.Statement.{statement}
 use Rattle.text.proofs.line.frame.Tie as tie
 
 -- What the test says where it holds.
-tested : (known exact : Bool) (x d : ℕ) → (known && exact && ltb x noByte && ltb d noByte) ≡ true → (known ≡ true) × (x < noByte) × (d < noByte)
+tested : (known exact : Bool) (x d : ℕ) → (known && exact && ltb x no_byte && ltb d no_byte) ≡ true → (known ≡ true) × (x < no_byte) × (d < no_byte)
 tested known exact x d e =
-    let all = both (known && exact && ltb x noByte) (ltb d noByte) e in
-    let front = both (known && exact) (ltb x noByte) all.0 in
-    ((both known exact front.0).0, ltb-true x noByte front.1, ltb-true d noByte all.1)
+    let all = both (known && exact && ltb x no_byte) (ltb d no_byte) e in
+    let front = both (known && exact) (ltb x no_byte) all.0 in
+    ((both known exact front.0).0, ltb-true x no_byte front.1, ltb-true d no_byte all.1)
 
 passed : (c : tie.Then1)
     → (c.before.is-kind.result ≡ true)
-    × (c.before.before.before.before.byte-at2.result < noByte)
-    × (c.before.before.before.byte-at3.result < noByte)
+    × (c.before.before.before.before.byte-at2.result < no_byte)
+    × (c.before.before.before.byte-at3.result < no_byte)
 passed c = tested _ _ _ _ c.if1.true
 
 returns : tie.Need-returns
-unfolding frame_of isFrame
+unfolding frame_of is_frame
 returns c =
     let bytes = c.before.before.before in
     rw (
@@ -41,7 +41,7 @@ returns c =
     )
 
 returns-2 : tie.Need-returns-2
-unfolding frame_of isFrame
+unfolding frame_of is_frame
 returns-2 c =
     let bytes = c.before.before.before in
     rw (

@@ -7,14 +7,14 @@ use native.Mathlib.Omega.{arith}
 use native.Mathlib.Nat.{zero-add}
 use lib.ListN.{length}
 use borrow.Author.Rules.{rules}
-use Rattle.text.specs.Lines.{Line, lineCount}
+use Rattle.text.specs.Lines.{Line, line_count}
 use Rattle.text.proofs.LineCount.{lines-at-most}
 use Rattle.text.proofs.Turn.{lines_from, Turn, turn, no_more}
 use Rattle.text.proofs.lines.count.Statement.{statement}
 use Rattle.text.proofs.lines.count.Tie as tie
 
 abbrev invariant-loop : tie.invariant-loop
-invariant-loop text start₀ lines₀ start lines = lines + length (lines_from text start) ≡ lineCount text
+invariant-loop text start₀ lines₀ start lines = lines + length (lines_from text start) ≡ line_count text
 
 abbrev decreases-loop : tie.decreases-loop
 decreases-loop text start₀ lines₀ start lines = length text - start

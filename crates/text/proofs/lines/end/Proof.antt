@@ -5,13 +5,13 @@ use Prim.Native.Nat.{◌-◌}
 use native.Mathlib.Omega.{arith}
 use lib.ListN.{length}
 use borrow.Author.Rules.{rules}
-use Rattle.text.specs.LineEnds.{lineEnd}
+use Rattle.text.specs.LineEnds.{line_end}
 use Rattle.text.proofs.FirstLength.{at-end, at-lf, within}
 use Rattle.text.proofs.lines.end.Statement.{statement}
 use Rattle.text.proofs.lines.end.Tie as tie
 
 abbrev invariant-loop : tie.invariant-loop
-invariant-loop text start at₀ at = lineEnd text at ≡ lineEnd text start
+invariant-loop text start at₀ at = line_end text at ≡ line_end text start
 
 abbrev decreases-loop : tie.decreases-loop
 decreases-loop text start at₀ at = length text - at

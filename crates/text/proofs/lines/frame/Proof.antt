@@ -9,20 +9,20 @@ use lib.Dec.{ltb}
 use lib.ListN.{length, drop, length-drop}
 use borrow.Author.Rules.{rules}
 use borrow.Author.Tests.{lt-ltb, le-ltb}
-use Rattle.events.specs.Kinds.{isKind, operandsOf}
+use Rattle.events.specs.Kinds.{is_kind, operands_of}
 use Rattle.text.specs.declared.Frame.TheVariants.{NoFrame}
 use Rattle.text.specs.Lines.{ended, rest}
-use Rattle.text.specs.LineEnds.{firstLine}
-use Rattle.text.specs.Frames.{leadingByte, isFrame, frame_of, frameIn}
+use Rattle.text.specs.LineEnds.{first_line}
+use Rattle.text.specs.Frames.{leading_byte, is_frame, frame_of, frame_in}
 use Rattle.text.proofs.lines.frame.Statement.{statement}
 use Rattle.text.proofs.lines.frame.Tie as tie
 
 -- No bytes are no frame, whether the text goes on or not.
-no_bytes : (text : List ℕ) → NoFrame ≡ frameIn (firstLine 0 text)
-unfolding isKind operandsOf leadingByte isFrame frame_of frameIn
+no_bytes : (text : List ℕ) → NoFrame ≡ frame_in (first_line 0 text)
+unfolding is_kind operands_of leading_byte is_frame frame_of frame_in
 no_bytes text = go (ltb 0 (length text))
   where
-    go : (t : Bool) → NoFrame ≡ frameIn (cond t (ended []) (rest []))
+    go : (t : Bool) → NoFrame ≡ frame_in (cond t (ended []) (rest []))
     go true = refl
     go false = refl
 
@@ -33,13 +33,13 @@ returns c =
     rw (none) (no_bytes (drop a.start a.text.now))
 
 returns-2 : tie.Need-returns-2
-unfolding frameIn
+unfolding frame_in
 returns-2 c =
     let a = c.before.before.before.args in
     rw (le-ltb (a.end - a.start) (length (drop a.start a.text.now)) (omega (arith, length-drop a.start a.text.now)))
 
 returns-3 : tie.Need-returns-3
-unfolding frameIn
+unfolding frame_in
 returns-3 c =
     let a = c.before.before.before.before.before.args in
     rw (lt-ltb (a.end - a.start) (length (drop a.start a.text.now)) (omega (arith, length-drop a.start a.text.now)))
