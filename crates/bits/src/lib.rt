@@ -1,4 +1,6 @@
 // Bits of a byte, by shifts and masks: one taken, one put, eight assembled, two bytes blended under a mask; and two bytes as a number.
+#![tactic(auto)]
+
 ghost use Rattle.std.specs.Prelude.{◌≡◌, cond, ◌+◌, ◌*◌};
 ghost use Rattle.bits.specs.Bit.{bit_of, with_bit, byte_of, blend_of};
 

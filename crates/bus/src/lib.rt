@@ -1,4 +1,5 @@
 // The bus that a device shares with others: what runs on it, how far a device's addresses reach, and the number of an event.
+#![tactic(auto)]
 ghost use Rattle.std.specs.Prelude.{◌≡◌};
 ghost use Rattle.bus.specs.Refusals.{is_busy, number_of};
 
@@ -18,7 +19,7 @@ pub const CYCLE_RUNS: u8 = 4;
 pub const NO_CYCLE_RUNS: u8 = 5;
 
 // What runs on the bus: nothing, a read at an address, or a write of a byte to one.
-#[derive(Drop)]
+#[derive(Clone, Copy)]
 pub enum Phase {
     Idle,
     Reading(u8),
@@ -27,7 +28,7 @@ pub enum Phase {
 
 // The limits of a device: how many addresses there are, from 0 on, how many of them, from 0 on, can be read, and how many ports have
 // levels outside.
-#[derive(Drop)]
+#[derive(Clone, Copy)]
 pub struct Limits {
     pub addresses: u8,
     pub readable: u8,

@@ -1,6 +1,7 @@
 // The functions that a host in C links, over a chip that it keeps as an image: power-up, an older image made one, the step, the pin
 // view, the tallies, and why an INTR is low. Each answer is one number: the refusal in its lowest byte, and what is given above it.
 // include/towanchor.h declares them.
+#![tactic(auto)]
 ghost use Rattle.std.specs.Prelude.{◌≡◌};
 ghost use Rattle.image.specs.Slices.{saved_in};
 ghost use Rattle.calls.specs.Calls.{packed, power_up_answer, power_up_image, power_up_image_with, power_up_as_answer, power_up_as_image, convert_answer, convert_image, step_answer, step_image, pins_given, pins_answer, group_numbered, side_numbered, counter_numbered, tally_answer, reasons_given, explain_answer};

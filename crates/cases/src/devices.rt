@@ -3,7 +3,7 @@ use super::{show, show_8355, states, states_8355};
 use chip::Edition;
 
 // A device, with the answer to its last event. The 82C55A is a chip of the newer edition.
-#[derive(Drop)]
+#[derive(Clone, Copy)]
 pub(super) enum Last {
     I8255A(step::Stepped),
     I8355(i8355::step::Stepped),

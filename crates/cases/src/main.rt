@@ -1,5 +1,6 @@
 // Runs the compiled models through the cases that stand on standard input. Their text is copied out as it is; the signs in it,
 // which signs.rt explains, run events and show what the device then is.
+#![tactic(auto)]
 mod devices;
 mod letters;
 mod phases;

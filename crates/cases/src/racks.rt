@@ -10,7 +10,7 @@ const ROOM: usize = 9;
 
 // A rack with the answer to its last event, or with the number of its building; the place that is looked at; and the bases of the next
 // rack so far.
-#[derive(Drop)]
+#[derive(Clone, Copy)]
 pub(super) struct Held {
     last: Stepped,
     place: u8,

@@ -1,4 +1,5 @@
 // The state of one 8255A or 82C55A, and what it is at power-up.
+#![tactic(auto)]
 ghost use Rattle.std.specs.Prelude.{◌≡◌};
 ghost use Rattle.chip.specs.State.{fresh_port, power_up_as, power_up_with, power_up};
 
@@ -9,7 +10,7 @@ use bus::Phase;
 use channel::{Channel, Fill, Tally};
 
 // Port A or B: its two channels, and the levels put on its pins from outside.
-#[derive(Drop)]
+#[derive(Clone, Copy)]
 pub struct Port {
     pub input: Channel,
     pub output: Channel,
@@ -17,14 +18,14 @@ pub struct Port {
 }
 
 // Port C: its output latch, and the levels put on its lines from outside.
-#[derive(Drop)]
+#[derive(Clone, Copy)]
 pub struct PortC {
     pub latch: u8,
     pub outside: u8,
 }
 
 // The interrupt enables: INTE in A, INTE out A, and INTE B, which group B's two channels share.
-#[derive(Drop)]
+#[derive(Clone, Copy)]
 pub struct Enables {
     pub input: bool,
     pub output: bool,
@@ -32,7 +33,7 @@ pub struct Enables {
 }
 
 // All of the chip but the bus and the edition: the last mode word, the ports and the enables.
-#[derive(Drop)]
+#[derive(Clone, Copy)]
 pub struct Core {
     pub word: u8,
     pub a: Port,
@@ -42,13 +43,13 @@ pub struct Core {
 }
 
 // Which part the chip is: the 8255A, or the later 82C55A, whose control word can be read back. No event changes it.
-#[derive(Drop)]
+#[derive(Clone, Copy)]
 pub enum Edition {
     Older,
     Newer,
 }
 
-#[derive(Drop)]
+#[derive(Clone, Copy)]
 pub struct Chip {
     pub phase: Phase,
     pub edition: Edition,
@@ -56,7 +57,7 @@ pub struct Chip {
 }
 
 // The levels that the outside puts on the pins of the three ports.
-#[derive(Drop)]
+#[derive(Clone, Copy)]
 pub struct Levels {
     pub a: u8,
     pub b: u8,

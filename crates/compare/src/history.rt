@@ -7,7 +7,7 @@ use chip::Chip;
 use step::Stepped;
 
 // Both models with their last answers.
-#[derive(Drop)]
+#[derive(Clone, Copy)]
 struct Pair {
     proved: Stepped,
     apart: Answer,
@@ -50,7 +50,7 @@ fn judge(counts: &mut Counts, event: u64, place: u64, before: View, pair: Pair) 
 }
 
 // Where a history stands: the models, what the proved one shows, the last number drawn, and the exchange that goes on.
-#[derive(Drop)]
+#[derive(Clone, Copy)]
 struct Course {
     pair: Pair,
     view: View,

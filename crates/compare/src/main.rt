@@ -1,6 +1,7 @@
 // Runs two models of a chip over the same pseudo-random histories, the proved one and a second one that was written apart
 // from it, and compares what they show, keep and count after every event: first of the 8255A and the 82C55A, then of the 8355 and of
 // racks of cards. Then it compares two trimmers of journals in the same way.
+#![tactic(auto)]
 mod agree;
 mod apart; // the second model
 mod counts;

@@ -5,7 +5,7 @@ use super::{apart, counts, history, random, states, twins};
 use chip::Levels;
 
 // Where histories begin.
-#[derive(Drop)]
+#[derive(Clone, Copy)]
 enum Start {
     PowerUp,
     OtherLevels,

@@ -11,7 +11,7 @@ pub(super) const READING: u8 = 1;
 
 pub(super) const WRITING: u8 = 2;
 
-#[derive(Drop)]
+#[derive(Clone, Copy)]
 pub(super) struct Bus {
     pub(super) phase: u8,
     pub(super) place: u8,

@@ -10,7 +10,7 @@ use step::Stepped;
 // the output's: of A, of B, and of a group that there is not, which is named by the mode word too. What is kept: 0 to 2 the phase, its
 // address and its byte, 3 the mode word, 4 to 6 the outside levels of A, B and C, 7 to 10 the latches of A in, A out, B in and B out,
 // 11 that of C, 12 the enables, 13 to 16 the marks of the channels, in the order of the latches, 17 the edition.
-#[derive(Drop)]
+#[derive(Clone, Copy)]
 pub(super) struct View {
     pub(super) shown: [u8; 10],
     pub(super) said: [u8; 9],

@@ -19,6 +19,7 @@ pub fn mode(word: u8, group: Group) -> u8
 }
 
 // Whether port A, the upper half of C, port B and the lower half of C are set to input.
+#[tactic(auto, unfolding(crate::specs::Mode::input_of, crate::specs::Mode::upper_input, crate::specs::Mode::lower_input))]
 pub fn directions(word: u8) -> Directions
     ensures { result ≡ directions_of word }
 {

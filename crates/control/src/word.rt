@@ -3,13 +3,14 @@ ghost use Rattle.std.specs.Prelude.{◌≡◌};
 ghost use Rattle.control.specs.Word.{control_of};
 
 // A mode word, or a pin and the value that it is put to.
-#[derive(Drop)]
+#[derive(Clone, Copy)]
 pub enum Control {
     Mode(u8),
     Bit(u8, bool),
 }
 
 // What a byte written to the control address says: bit 7 chooses; the pin stands in bits 3 to 1, and its value in bit 0.
+#[tactic(auto, unfolding(crate::specs::Word::control_of))]
 pub fn decode(byte: u8) -> Control
     ensures { result ≡ control_of byte }
 {

@@ -1,4 +1,6 @@
 // The kinds of events by number, and how many operands each has. 04 is no kind.
+#![tactic(auto)]
+
 ghost use Rattle.std.specs.Prelude.{◌≡◌};
 ghost use Rattle.events.specs.Kinds.{is_kind, operands_of};
 
@@ -13,6 +15,7 @@ pub const BEGIN_WRITE: u8 = 3;
 pub const OUTSIDE_LEVELS: u8 = 5;
 
 // Whether there is such a kind. The number may be no byte: what is read of a text or of a packed word can be more.
+#[tactic(auto, unfolding(crate::specs::Kinds::is_kind))]
 pub fn is_kind(number: u16) -> bool
     ensures { result ≡ is_kind number }
 {
@@ -20,6 +23,7 @@ pub fn is_kind(number: u16) -> bool
 }
 
 // How many operands an event of the kind has; none where there is no such kind.
+#[tactic(auto, unfolding(crate::specs::Kinds::operands_of))]
 pub fn operands(number: u16) -> u8
     ensures { result ≡ operands_of number }
 {

@@ -1,4 +1,5 @@
 // The two ports of the 8355, and what they are at power-up.
+#![tactic(auto)]
 ghost use Rattle.std.specs.Prelude.{◌≡◌};
 ghost use Rattle.i8355.specs.State.{power_up};
 
@@ -9,7 +10,7 @@ pub mod view;
 use bus::Phase;
 
 // A port: its data direction register, in which a 1 makes a pin an output, its output latch, and the levels put on its pins from outside.
-#[derive(Drop)]
+#[derive(Clone, Copy)]
 pub struct Port {
     pub direction: u8,
     pub latch: u8,
@@ -17,21 +18,21 @@ pub struct Port {
 }
 
 // All of the device but the bus.
-#[derive(Drop)]
+#[derive(Clone, Copy)]
 pub struct Ports {
     pub a: Port,
     pub b: Port,
 }
 
 // What runs on the bus, and the ports.
-#[derive(Drop)]
+#[derive(Clone, Copy)]
 pub struct Chip8355 {
     pub phase: Phase,
     pub ports: Ports,
 }
 
 // The levels of a port's pins, and a 1 for each pin that the device drives.
-#[derive(Drop)]
+#[derive(Clone, Copy)]
 pub struct Pins {
     pub levels: u8,
     pub driven: u8,

@@ -7,7 +7,7 @@ use super::{Chip8355, Ports, registers, view};
 use bus::{Limits, Phase};
 
 // What an event gives: the new state, the number, and the byte of an accepted read.
-#[derive(Drop)]
+#[derive(Clone, Copy)]
 pub struct Stepped {
     pub chip: Chip8355,
     pub number: u8,

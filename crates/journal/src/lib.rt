@@ -1,5 +1,6 @@
 // The journal of a host: the events that it passed to a chip, logged in words of 32 bits, and its trim, which keeps in the same room those
 // that changed the chip. include/towanchor.h declares towanchor_trim.
+#![tactic(auto)]
 ghost use Rattle.std.specs.Prelude.{◌≡◌};
 ghost use Rattle.journal.specs.Trim.{trim_number, trim_answer, trimmed_words};
 

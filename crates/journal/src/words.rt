@@ -4,7 +4,7 @@ ghost use Rattle.events.specs.Event.{event};
 ghost use Rattle.journal.specs.Words.{word_of, event_in, logged_in, unused_zero, is_frame, all_frames};
 
 // An event as it was logged. The number of its kind may be no byte, for all upper sixteen bits of a word are the kind.
-#[derive(Drop)]
+#[derive(Clone, Copy)]
 pub struct Logged {
     pub kind: u16,
     pub first: u8,

@@ -1,1 +1,2 @@
 // No code: what the definitions of the chip say, as theorems about every state (proofs/).
+#![tactic(auto)]

@@ -1,5 +1,6 @@
 // Levels put on the pins from outside: a fall of STB offers a byte, and a fall of ACK hands one over. While STB is low, levels on the
 // port itself go through to its input latch.
+#![tactic(auto)]
 ghost use Rattle.std.specs.Prelude.{◌≡◌};
 ghost use Rattle.levels.specs.Levels.{fallen, strobed_with, acknowledged, edged, after_levels_on_c, lets_through, port_after_levels, after_levels};
 

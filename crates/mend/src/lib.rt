@@ -1,5 +1,6 @@
 // Mending a captured script: a clean script is made of its lines, and a report has a sign for each of them. include/towanchor.h declares
 // towanchor_mend.
+#![tactic(auto)]
 ghost use Rattle.std.specs.Prelude.{◌≡◌, length};
 ghost use Rattle.mend.specs.Mend.{refused_by, outcome_of, mend_answer, clean_left, report_left};
 
@@ -12,7 +13,7 @@ mod line;
 mod report;
 
 // What a call comes to: its number, and the lengths of the clean script and of the report.
-#[derive(Drop)]
+#[derive(Clone, Copy)]
 struct Outcome {
     number: u8,
     clean: usize,

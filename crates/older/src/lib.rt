@@ -1,5 +1,6 @@
 // A chip in 64 bytes, as earlier versions saved it: whether bytes are such an image (good), and the image that they become
 // (convert). Nothing is saved so any more. All but the bus is put where an image of today has it, and is then the crate image's to judge.
+#![tactic(auto)]
 ghost use Rattle.std.specs.Prelude.{◌≡◌, ◌+◌, ◌-◌, ◌≤◌, length, take, drop};
 ghost use Rattle.std.proofs.lemmas.List.Edits.{sets};
 ghost use Rattle.older.specs.Places as places;

@@ -13,7 +13,7 @@ use bus::{ACCEPTED, Phase};
 use chip::{Chip, Core};
 
 // What an event gives: the new state, the number, and the byte of an accepted read.
-#[derive(Drop)]
+#[derive(Clone, Copy)]
 pub struct Stepped {
     pub rack: Rack,
     pub number: u8,
@@ -100,7 +100,7 @@ fn reset_all(mut rack: Rack) -> Stepped
 }
 
 // What is found out of an event before anything is done: its number, and the place and the register that it reaches.
-#[derive(Drop)]
+#[derive(Clone, Copy)]
 struct Aim {
     number: u8,
     place: u8,

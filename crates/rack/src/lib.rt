@@ -1,4 +1,5 @@
 // A rack of up to eight cards on one bus, and how it is built.
+#![tactic(auto)]
 ghost use Rattle.std.specs.Prelude.{◌≡◌, ◌++◌, ◌≤◌, ◌-◌, length, replicate};
 ghost use Rattle.rack.specs.Bases.{is_base, is_among, are_bases, makes_rack, most_cards};
 ghost use Rattle.rack.specs.State.{rack_of, built_of};
@@ -32,13 +33,13 @@ pub const NO_CARD: u8 = 10;
 // The one bus of a rack, which numbers the registers through: register r of the card at place p is 8 x r + p. So there is no rack on
 // which two cycles run. It is a struct of its own because an enum in a field is not stored to, and a rack that is made anew for it costs
 // half as much again.
-#[derive(Drop)]
+#[derive(Clone, Copy)]
 pub struct Bus {
     pub phase: Phase,
 }
 
 // The bus, how many cards there are, their bases, and what is in each of the eight places.
-#[derive(Drop)]
+#[derive(Clone, Copy)]
 pub struct Rack {
     pub bus: Bus,
     pub count: u8,
@@ -47,7 +48,7 @@ pub struct Rack {
 }
 
 // The number of a building, and the rack; where it is refused the rack has no card.
-#[derive(Drop)]
+#[derive(Clone, Copy)]
 pub struct Built {
     pub number: u8,
     pub rack: Rack,

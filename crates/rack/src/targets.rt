@@ -5,7 +5,7 @@ ghost use Rattle.rack.specs.Targets.{answers_at, target_from, bases_in, is_place
 use super::{CARD_WIDTH, PLACES, REGISTERS};
 
 // The place of a card, and a register or port there; or no card.
-#[derive(Drop)]
+#[derive(Clone, Copy)]
 pub enum Target {
     NoCard,
     At(u8, u8),

@@ -14,28 +14,28 @@ use ports::Pins;
 use status::reasons::Explained;
 
 // A number, and the card at a place as a chip; where the number is 10, a chip at power-up.
-#[derive(Drop)]
+#[derive(Clone, Copy)]
 pub struct Card {
     pub number: u8,
     pub chip: Chip,
 }
 
 // A number, and the pins of a card's port; where it is 10, no levels.
-#[derive(Drop)]
+#[derive(Clone, Copy)]
 pub struct CardPins {
     pub number: u8,
     pub pins: Pins,
 }
 
 // A number, and the tallies of a card's channel; where it is 10, nothing counted.
-#[derive(Drop)]
+#[derive(Clone, Copy)]
 pub struct CardTally {
     pub number: u8,
     pub tally: Tally,
 }
 
 // A number, and what is said of a card's INTR; where it is 10, that there is no such group.
-#[derive(Drop)]
+#[derive(Clone, Copy)]
 pub struct CardExplained {
     pub number: u8,
     pub explained: Explained,

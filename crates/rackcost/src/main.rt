@@ -1,5 +1,6 @@
 // Lets a chip alone, or the last card of a full rack, answer a scale and a printer for as many rounds as are asked for, so that the
 // instructions of either can be counted (bench/measure). With no argument each has three rounds.
+#![tactic(auto)]
 mod alone;
 mod decimal;
 mod in_a_rack;

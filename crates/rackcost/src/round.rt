@@ -1,7 +1,7 @@
 // The events of a round, and what is told after all rounds.
 
 // How many bytes were handed over: from the scale on port A, and to the printer on port B.
-#[derive(Drop)]
+#[derive(Clone, Copy)]
 pub(super) struct Handed {
     pub(super) digits: u16,
     pub(super) signs: u16,

@@ -15,7 +15,7 @@ const BASE_DIGITS: usize = 4;
 const NO_BASE: u16 = 0xffff;
 
 // The bases of a line, from the first place on, and how many they are.
-#[derive(Drop)]
+#[derive(Clone, Copy)]
 struct Named {
     bases: [u16; 8],
     count: usize,

@@ -11,7 +11,7 @@ use text::digits::NO_BYTE;
 use text::line;
 
 // What a line says: an event with its kind and three operands, of which the first may be an address, or no frame.
-#[derive(Drop)]
+#[derive(Clone, Copy)]
 pub(super) enum RackFrame {
     Event(u8, u16, u8, u8),
     NoFrame,

@@ -1,4 +1,5 @@
 // The run of a rack's script: a text whose first line has the bases of the cards, and each further line a frame, which the rack answers.
+#![tactic(auto)]
 ghost use Rattle.std.specs.Prelude.{◌≡◌, ◌≤◌, length};
 ghost use Rattle.rack.specs.Bases.{most_cards};
 ghost use Rattle.text.specs.Lines.{lines_of};
@@ -17,7 +18,7 @@ mod writer;
 pub const MOST_ROOM: usize = 217_088;
 
 // The number of a run, how many lines were answered, and how many bytes the answers have.
-#[derive(Drop)]
+#[derive(Clone, Copy)]
 pub struct Ran {
     pub number: u8,
     pub lines: usize,

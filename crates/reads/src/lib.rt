@@ -1,4 +1,5 @@
 // A read, which begins and ends: it hands over the byte of a strobed input, and then empties the channel.
+#![tactic(auto)]
 ghost use Rattle.std.specs.Prelude.{◌≡◌};
 ghost use Rattle.reads.specs.Read.{fetched_from, done_with, after_read_begins, after_read_ends};
 

@@ -8,7 +8,7 @@ use chip::{Chip, Edition};
 use text::lines;
 
 // The number of the text, as a run has it, the chip, and the count of lines whose own number is not 0.
-#[derive(Drop)]
+#[derive(Clone, Copy)]
 pub struct Left {
     pub number: u8,
     pub chip: Chip,

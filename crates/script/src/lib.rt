@@ -1,4 +1,5 @@
 // The run of a script: a text of frames, one to a line, answered line by line by a device just powered up.
+#![tactic(auto)]
 ghost use Rattle.std.specs.Prelude.{◌≡◌, ◌≤◌, length};
 ghost use Rattle.script.specs.Answers.{at_start};
 ghost use Rattle.script.specs.Run.{room_for, refused_run, ran_of, filled, output_left};
@@ -25,14 +26,14 @@ pub const TOO_LONG: u8 = 6;
 pub const NO_ROOM: u8 = 7;
 
 // The number of a run, and how many lines were answered.
-#[derive(Drop)]
+#[derive(Clone, Copy)]
 pub struct Ran {
     pub number: u8,
     pub lines: usize,
 }
 
 // For which device a script is.
-#[derive(Drop)]
+#[derive(Clone, Copy)]
 pub enum Device {
     I8255A,
     I82C55A,
@@ -40,14 +41,14 @@ pub enum Device {
 }
 
 // Whoever answers a script, as it is after some of its lines. The 82C55A is a chip of the newer edition.
-#[derive(Drop)]
+#[derive(Clone, Copy)]
 enum Answerer {
     I8255A(Chip),
     I8355(Chip8355),
 }
 
 // What an answerer makes of a line: what it is then itself, the number and the byte.
-#[derive(Drop)]
+#[derive(Clone, Copy)]
 struct Acted {
     answerer: Answerer,
     number: u8,
@@ -55,7 +56,7 @@ struct Acted {
 }
 
 // What the answer to a line shows: number, byte, and the levels of the three ports.
-#[derive(Drop)]
+#[derive(Clone, Copy)]
 struct Shown {
     number: u8,
     byte: u8,

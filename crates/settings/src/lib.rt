@@ -1,4 +1,5 @@
 // What the control address sets: a mode word, which makes the chip anew, and one pin of port C, which may be a channel's flag.
+#![tactic(auto)]
 ghost use Rattle.std.specs.Prelude.{◌≡◌, ◌<◌, cond};
 ghost use Rattle.settings.specs.ModeWord.{cleared_port, after_mode_word};
 ghost use Rattle.settings.specs.ControlWord.{set_as, pin_set, after_control_word};

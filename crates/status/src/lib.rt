@@ -1,4 +1,5 @@
 // The interrupt requests, why one is not made, and the status word: what port C tells of both handshakes.
+#![tactic(auto)]
 ghost use Rattle.std.specs.Prelude.{◌≡◌};
 ghost use Rattle.status.specs.Status.{flag_at, request_of, intr_of, flag_of_b, status_of};
 

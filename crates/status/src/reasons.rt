@@ -8,7 +8,7 @@ use chip::{Chip, handshakes};
 use control::Group;
 
 // What one half of an INTR is doing: low for one of four reasons, or high.
-#[derive(Drop)]
+#[derive(Clone, Copy)]
 pub enum Reason {
     EnableOff,
     FlagWrong,
@@ -18,7 +18,7 @@ pub enum Reason {
 }
 
 // What is said of a group's INTR. A group in mode 0 has none; mode 1 has the half of one side, and mode 2 both, the input's first.
-#[derive(Drop)]
+#[derive(Clone, Copy)]
 pub enum Explained {
     NoGroup,
     ModeZero,
@@ -43,7 +43,7 @@ pub const OWN_CYCLE: u8 = 5;
 pub const HIGH: u8 = 6;
 
 // The same in numbers: that of the question, which is refused where there is no such group; and what is said of each half.
-#[derive(Drop)]
+#[derive(Clone, Copy)]
 pub struct Numbers {
     pub number: u8,
     pub input: u8,

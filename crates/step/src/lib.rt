@@ -1,4 +1,5 @@
 // One event of the chip: refused by its number, and then nothing changes, or accepted, with its effect and the byte of a read.
+#![tactic(auto)]
 ghost use Rattle.std.specs.Prelude.{◌≡◌};
 ghost use Rattle.bus.specs.Refusals.{number_of};
 ghost use Rattle.bus.specs.Device.{after_in, byte_in};
@@ -10,7 +11,7 @@ use chip::{Chip, Edition};
 pub mod kinds;
 
 // What an event gives: the new state, the number, and the byte of an accepted read.
-#[derive(Drop)]
+#[derive(Clone, Copy)]
 pub struct Stepped {
     pub chip: Chip,
     pub number: u8,

@@ -3,7 +3,7 @@ use super::reading;
 use std::num::wrapping_add_u64;
 
 // To how many pairs of a word and a pin the table gives an answer, to how many the lookup does, and to how many both do.
-#[derive(Drop)]
+#[derive(Clone, Copy)]
 pub(super) struct Counts {
     pub(super) table: u64,
     pub(super) lookup: u64,

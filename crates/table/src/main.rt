@@ -1,6 +1,7 @@
 // Holds the compiled lookup to the published table of port C roles, which this program alone has: at each of the 65,536 pairs of a word
 // and a pin that two bytes can name. For each answer that there can be it prints to how many pairs the table gives it, to how many the
 // lookup does, and to how many both do.
+#![tactic(auto)]
 mod counts;
 mod entries;
 mod print;

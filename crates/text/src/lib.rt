@@ -1,4 +1,5 @@
 // A script as text: a byte is two digits, a frame is a kind and its operands, and a line ends with LF.
+#![tactic(auto)]
 pub mod digits;
 pub mod line;
 pub mod lines;
@@ -7,7 +8,7 @@ pub mod lines;
 pub const LF: u8 = 10;
 
 // What a line says: an event with its kind and two operands, or no frame.
-#[derive(Drop)]
+#[derive(Clone, Copy)]
 pub enum Frame {
     Event(u8, u8, u8),
     NoFrame,

@@ -4,14 +4,14 @@ ghost use Rattle.std.specs.Prelude.{◌≤◌, length};
 use libc::STDIN_FILENO;
 
 // How many bytes were read, and whether none is missing.
-#[derive(Drop)]
+#[derive(Clone, Copy)]
 pub(super) struct Input {
     pub(super) length: usize,
     pub(super) whole: bool,
 }
 
 // What one read brought, and whether it was the last: the input is at its end, or the read failed.
-#[derive(Drop)]
+#[derive(Clone, Copy)]
 struct Came {
     count: usize,
     last: bool,

@@ -1,6 +1,7 @@
 // The program: answers the script that stands on standard input, as an 8255A, by the word --82c55a as an 82C55A, by the word --8355 as an
 // 8355, or by the word --rack as a rack of cards; or, by the word --quiet, says why the interrupts are quiet after it; or, by the word
 // --trim, prints those of its lines that change the chip.
+#![tactic(auto)]
 mod answers;
 mod input;
 mod output;
@@ -12,7 +13,7 @@ mod trim;
 use script::Device;
 
 // What the first word asks for.
-#[derive(Drop)]
+#[derive(Clone, Copy)]
 enum Asked {
     Answers(Device),
     RackAnswers,

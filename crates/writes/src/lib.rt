@@ -1,4 +1,5 @@
 // The end of a write, when the byte takes effect.
+#![tactic(auto)]
 ghost use Rattle.std.specs.Prelude.{◌≡◌};
 ghost use Rattle.writes.specs.Write.{stored_in, stored_by, latch_written, after_write_ends};
 

@@ -16,7 +16,7 @@ mod reasons; // why INTR is low
 mod signals; // INTR, IBF and OBF
 mod words; // what a mode word makes of the ports
 
-#[derive(Drop)]
+#[derive(Clone, Copy)]
 pub(super) struct Machine {
     pub(super) part: u8, // 0 an 8255A, 1 an 82C55A
     pub(super) phase: u8, // 0 idle, 1 reading, 2 writing
@@ -33,14 +33,14 @@ pub(super) struct Machine {
     pub(super) tally: [u16; 28], // channel * 7 + (offered, handed over, overwritten, swallowed, cleared, planted, struck)
 }
 
-#[derive(Drop)]
+#[derive(Clone, Copy)]
 pub(super) struct Answer {
     pub(super) machine: Machine,
     pub(super) number: u8,
     pub(super) byte: u8,
 }
 
-#[derive(Drop)]
+#[derive(Clone, Copy)]
 pub(super) struct Explanation {
     pub(super) number: u8, // 0, or 2 for a group that there is not
     pub(super) input: u8, // 0 no such half, 1 mode 0, 2 enable off, 3 IBF 0, 4 STB low, 5 being read, 6 high

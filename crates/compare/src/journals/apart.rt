@@ -20,7 +20,7 @@ const TOO_MANY: u8 = 6;
 const NO_SUCH_PART: u8 = 8;
 
 // What a journal is answered: the number, and how many words are kept; and how many are dropped though the chip accepts them.
-#[derive(Drop)]
+#[derive(Clone, Copy)]
 pub(super) struct Trimmed {
     pub(super) number: u8,
     pub(super) kept: usize,

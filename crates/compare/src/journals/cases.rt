@@ -11,7 +11,7 @@ use super::{counts, words};
 pub(super) const LONGEST: u16 = 8192;
 
 // A journal's power-up, an edition by its number and the levels of the three ports; and how many words it has.
-#[derive(Drop)]
+#[derive(Clone, Copy)]
 pub(super) struct Case {
     pub(super) edition: u8,
     pub(super) lines: Lines,
@@ -58,7 +58,7 @@ fn damage(counts: &mut Counts, journal: &mut Row, length: u16, number: u64) -> b
 }
 
 // A journal that was drawn: whether it has a word that is no frame, and the last number.
-#[derive(Drop)]
+#[derive(Clone, Copy)]
 pub(super) struct Drawn {
     pub(super) case: Case,
     pub(super) damaged: bool,

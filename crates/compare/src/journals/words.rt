@@ -4,7 +4,7 @@ use super::super::random::byte;
 use super::super::{events, random};
 
 // The levels on the lines of the three ports.
-#[derive(Drop)]
+#[derive(Clone, Copy)]
 pub(super) struct Lines {
     pub(super) a: u8,
     pub(super) b: u8,
@@ -58,7 +58,7 @@ fn idle(last: u32, lines: Lines, number: u64) -> u32 {
 const IDLE: u8 = 64;
 
 // Where the drawing stands: the last number, the exchange that goes on and its step, the last word, and the lines.
-#[derive(Drop)]
+#[derive(Clone, Copy)]
 pub(super) struct Drawing {
     pub(super) number: u64,
     pub(super) exchange: u64,

@@ -2,7 +2,7 @@
 // the ports in registers by their addresses, and puts levels together pin by pin. Each function answers for every value of the
 // machine, reached or not.
 
-#[derive(Drop)]
+#[derive(Clone, Copy)]
 pub(super) struct Machine {
     pub(super) phase: u8, // 0 idle, 1 reading, 2 writing
     pub(super) place: u8, // the address being read or written; 0 when idle
@@ -11,7 +11,7 @@ pub(super) struct Machine {
     pub(super) outside: [u8; 2], // outside levels of A and B
 }
 
-#[derive(Drop)]
+#[derive(Clone, Copy)]
 pub(super) struct Answer {
     pub(super) machine: Machine,
     pub(super) number: u8,

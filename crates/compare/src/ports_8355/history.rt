@@ -7,7 +7,7 @@ use i8355::Chip8355;
 use i8355::step::Stepped;
 
 // Both models with their last answers.
-#[derive(Drop)]
+#[derive(Clone, Copy)]
 struct Pair {
     proved: Stepped,
     apart: Answer,
@@ -49,7 +49,7 @@ fn compare(counts: &mut Counts, pair: Pair, number: u64, event: u64, place: u64)
 }
 
 // Where a history stands: the models, the last number drawn, and the exchange that goes on.
-#[derive(Drop)]
+#[derive(Clone, Copy)]
 struct Course {
     pair: Pair,
     number: u64,

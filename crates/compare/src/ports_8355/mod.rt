@@ -12,7 +12,7 @@ use super::random;
 use counts::Counts;
 
 // Where histories begin.
-#[derive(Drop)]
+#[derive(Clone, Copy)]
 enum Start {
     PowerUp,
     Anywhere,

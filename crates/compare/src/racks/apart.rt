@@ -6,14 +6,14 @@ use super::super::apart::{Explanation, Machine};
 use super::who;
 use super::who::Who;
 
-#[derive(Drop)]
+#[derive(Clone, Copy)]
 pub(super) struct Shelf {
     pub(super) cards: u8, // how many of the eight places have a card, from the first on
     pub(super) taken: u8, // the place of the card that has the bus, or that of none
     pub(super) chips: [Machine; 8],
 }
 
-#[derive(Drop)]
+#[derive(Clone, Copy)]
 pub(super) struct Answer {
     pub(super) shelf: Shelf,
     pub(super) number: u8,

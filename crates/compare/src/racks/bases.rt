@@ -2,7 +2,7 @@
 use super::super::random;
 
 // How many bases a list has, and room for two more than a rack takes.
-#[derive(Drop)]
+#[derive(Clone, Copy)]
 pub(super) struct Bases {
     pub(super) count: u8,
     pub(super) list: [u16; 10],
@@ -67,7 +67,7 @@ fn wild(seed: u64, at: u64) -> u64 {
 }
 
 // What a list is made of.
-#[derive(Drop)]
+#[derive(Clone, Copy)]
 enum Made {
     Good,
     Any,

@@ -59,7 +59,7 @@ pub(super) fn build(counts: &mut Counts, number: u8) {
 }
 
 // What an event was for: the entry of its address, its place, and the place that had the bus before it.
-#[derive(Drop)]
+#[derive(Clone, Copy)]
 pub(super) struct Aim {
     pub(super) entry: u8,
     pub(super) place: u16,

@@ -9,14 +9,14 @@ use rack::event;
 use rack::event::Stepped;
 
 // Both models with their last answers.
-#[derive(Drop)]
+#[derive(Clone, Copy)]
 pub(super) struct Pair {
     pub(super) proved: Stepped,
     pub(super) apart: Answer,
 }
 
 // Where a history stands: the models, the last number drawn, and the exchange that goes on.
-#[derive(Drop)]
+#[derive(Clone, Copy)]
 struct Course {
     pair: Pair,
     number: u64,

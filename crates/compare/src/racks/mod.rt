@@ -26,7 +26,7 @@ const LONG: u64 = 600;
 const SHORT: u64 = events::SET_UP + 24;
 
 // Where histories begin.
-#[derive(Drop)]
+#[derive(Clone, Copy)]
 enum Start {
     GoodBases,
     AnyBases,

@@ -16,7 +16,7 @@ use rack::views::CardTally;
 pub(super) type View = [u8; 25];
 
 // What is asked by itself: a place, and there a port, a group and a channel.
-#[derive(Drop)]
+#[derive(Clone, Copy)]
 pub(super) struct Question {
     place: u8,
     port: u8,

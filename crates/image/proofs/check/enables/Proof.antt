@@ -1,6 +1,0 @@
--- `check::enables` meets its contract, by what it calls.
-use Rattle.image.proofs.check.enables.Statement.{statement}
-use Rattle.image.proofs.check.enables.Tie as tie
-
-pub enables-spec : {M : Type 1} → statement M
-enables-spec = tie.close (tie.spec (λ c κs. tt) (λ c κs. tt) (λ c. rw (c.enables2.ensures, c.before.enables.ensures)))
