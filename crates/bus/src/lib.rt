@@ -1,5 +1,6 @@
 // The bus that a device shares with others: what runs on it, how far a device's addresses reach, and the number of an event.
 #![tactic(auto)]
+
 ghost use Rattle.std.specs.Prelude.{◌≡◌};
 ghost use Rattle.bus.specs.Refusals.{is_busy, number_of};
 

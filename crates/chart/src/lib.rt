@@ -1,5 +1,6 @@
 // The mode 0 chart of the data sheet: sixteen rows of port directions, by bits 4, 3, 1 and 0 of the mode word.
 #![tactic(auto)]
+
 ghost use Rattle.std.specs.Prelude.{◌≡◌};
 ghost use Rattle.control.specs.Mode.{directions_of};
 

@@ -1,5 +1,6 @@
 // The state of one 8255A or 82C55A, and what it is at power-up.
 #![tactic(auto)]
+
 ghost use Rattle.std.specs.Prelude.{◌≡◌};
 ghost use Rattle.chip.specs.State.{fresh_port, power_up_as, power_up_with, power_up};
 

@@ -1,5 +1,6 @@
 // The lookup of a pin's role under a mode word: what the published table says, worked out and not read.
 #![tactic(auto)]
+
 ghost use Rattle.std.specs.Prelude.{◌≡◌, ◌<◌};
 ghost use Rattle.control.specs.Mode.{strobed_input};
 ghost use Rattle.control.specs.declared.Group.TheVariants.{B};

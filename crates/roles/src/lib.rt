@@ -1,5 +1,6 @@
 // The pins of port C by role, as masks: what a mode word gives to handshakes, and what it leaves as outputs.
 #![tactic(auto)]
+
 ghost use Rattle.std.specs.Prelude.{◌≡◌};
 ghost use Rattle.roles.specs.Pins.{handshake_pins, output_pins};
 

@@ -1,13 +1,12 @@
--- The byte at a place of a line, by how much of the line is left there: none, one code, or two and more.
+-- The byte at a place of a line, by how much of the line is left there: none, or one code.
 -- Rests on nothing.
 use mathlib.Core.Path.{◌≡◌}
 use mathlib.Core.List.{List}
-use Prim.Native.Nat.{ℕ, suc, ◌+◌, ◌≤◌, ◌<◌}
-use native.Mathlib.Numerals.{add-one}
+use Prim.Native.Nat.{ℕ, suc, ◌≤◌}
 use native.Mathlib.Omega.{arith}
-use lib.ListN.{length, get_or, drop, drop_of_length-le}
+use lib.ListN.{length, drop, drop_of_length-le}
 use lib.Seq.{drop-cons}
-use Rattle.text.specs.Digits.{no_byte, pair_value}
+use Rattle.text.specs.Digits.{no_byte}
 use Rattle.text.specs.Frames.{leading_byte}
 
 pub none_left : (line : List ℕ) (at : ℕ) → length line ≤ at → leading_byte (drop at line) ≡ 0
@@ -17,8 +16,3 @@ none_left line at h = rw (drop_of_length-le line {i = at} h)
 pub one_left : (line : List ℕ) (at : ℕ) → length line ≡ suc at → leading_byte (drop at line) ≡ no_byte
 unfolding leading_byte
 one_left line at e = rw (drop-cons line at 0 (omega (arith, e)), drop_of_length-le line {i = suc at} (omega (arith, e)))
-
-pub two-left : (line : List ℕ) (at : ℕ) → at + 1 < length line
-    → leading_byte (drop at line) ≡ pair_value (get_or line at 0) (get_or line (at + 1) 0)
-unfolding leading_byte
-two-left line at h = rw (add-one at, drop-cons line at 0 (omega (arith, h)), drop-cons line (suc at) 0 (omega (arith, h)))

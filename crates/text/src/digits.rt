@@ -6,6 +6,7 @@ ghost use Rattle.text.specs.Digits.{digit_value, digit_code, pair_value};
 pub const NO_BYTE: u16 = 256;
 
 // What a code is worth as a digit; 16 where it is none.
+#[tactic(auto, unfolding(crate::specs::Digits::digit_value))]
 fn value(code: u8) -> u8
     ensures { result ≡ digit_value code }
 {
@@ -19,6 +20,7 @@ fn value(code: u8) -> u8
 }
 
 // The code of the digit worth n % 16.
+#[tactic(auto, unfolding(crate::specs::Digits::digit_code))]
 pub fn code(n: u8) -> u8
     ensures { result ≡ digit_code n }
 {
@@ -31,6 +33,7 @@ pub fn code(n: u8) -> u8
 }
 
 // The byte that two codes write, or NO_BYTE.
+#[tactic(auto, unfolding(crate::specs::Digits::pair_value))]
 pub(super) fn pair(high: u8, low: u8) -> u16
     ensures { result ≡ pair_value high low }
 {

@@ -10,17 +10,16 @@ use super::{Frame, LF, line};
 pub fn end(text: &[u8], start: usize) -> usize
     ensures { result ≡ line_end text.now start }
 {
-    let mut at = start;
-    while at < text.len() {
+    for at in start..text.len() {
         if text[at] == LF {
             return at;
         }
-        at = at + 1;
     }
-    at
+    start.max(text.len())
 }
 
 // What the line between two places says; nothing where the text ends there, and not the line.
+#[tactic(auto, unfolding(crate::specs::Frames::frame_in))]
 pub fn frame(text: &[u8], start: usize, end: usize) -> Frame
     ensures { result ≡ frame_in (line_between text.now start end) }
 {
