@@ -24,7 +24,7 @@ use Rattle.older.specs.Loaded.{older_state}
 use Rattle.older.specs.Good.{is_older}
 use Rattle.older.specs.Before.{NoneForced, FromBefore}
 use Rattle.older.proofs.ComesBack as older
-use Rattle.older.proofs.Long.{is-long}
+use Rattle.older.proofs.Long.{is_long}
 use Rattle.older.proofs.OneImage.{older-where, tells-such}
 use Rattle.calls.specs.Calls.{last_channel, counter_numbered, tally_answer, convert_answer, convert_image}
 
@@ -88,4 +88,4 @@ brought-over c l has before long =
 -- An older image is no image, for its length: every call that asks for an image answers it with 8.
 pub no-image : (o : List ℕ) → is_older o ≡ true → is_image o ≡ false
 unfolding is_image
-no-image o good = rw (ne_eqb (length o) places.length (λ e. omega (arith, e, is-long o good)))
+no-image o good = rw (ne_eqb (length o) places.length (λ e. omega (arith, e, is_long o good)))

@@ -43,10 +43,10 @@ module _ (l : List ℕ) (k x d : ℕ) where
   host-step bytes good = by_number (λ m c. m ≡ image_of c) good refl (sym (same-bytes l bytes good))
 
   -- Bad bytes: number 8, whatever the event, and nothing is written.
-  pub bad-answer : is_image l ≡ false → step_answer l k x d ≡ 8
+  pub bad_answer : is_image l ≡ false → step_answer l k x d ≡ 8
   unfolding step_answer
-  bad-answer bad = rw (bad)
+  bad_answer bad = rw (bad)
 
-  pub bad-stays : is_image l ≡ false → step_image l k x d ≡ l
+  pub bad_stays : is_image l ≡ false → step_image l k x d ≡ l
   unfolding step_image
-  bad-stays bad = rw (bad)
+  bad_stays bad = rw (bad)

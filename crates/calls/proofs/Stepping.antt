@@ -20,18 +20,18 @@ module _ (l : List ℕ) (k x d n : ℕ) (good : is_image l ≡ true)
   alone : n ≡ packed n 0 0
   alone = omega arith
 
-  pub refused-answer : ¬ (n ≡ 0) → n ≡ step_answer l k x d
+  pub refused_answer : ¬ (n ≡ 0) → n ≡ step_answer l k x d
   unfolding step_answer
-  refused-answer h = rw (good, step-refuses (state_of l) k x d (λ e. h (asked ∙ e)), ← asked) alone
+  refused_answer h = rw (good, step-refuses (state_of l) k x d (λ e. h (asked ∙ e)), ← asked) alone
 
-  pub refused-image : ¬ (n ≡ 0) → l ≡ step_image l k x d
+  pub refused_image : ¬ (n ≡ 0) → l ≡ step_image l k x d
   unfolding step_image
-  refused-image h = rw (good, step-refuses (state_of l) k x d (λ e. h (asked ∙ e)), ← asked, ne_eqb n 0 h)
+  refused_image h = rw (good, step-refuses (state_of l) k x d (λ e. h (asked ∙ e)), ← asked, ne_eqb n 0 h)
 
-  pub accepted-answer : n ≡ 0 → packed 0 (byte_in device (state_of l) k x) 0 ≡ step_answer l k x d
+  pub accepted_answer : n ≡ 0 → packed 0 (byte_in device (state_of l) k x) 0 ≡ step_answer l k x d
   unfolding step_answer
-  accepted-answer zero = rw (good, step-accepts (state_of l) k x d (sym asked ∙ zero))
+  accepted_answer zero = rw (good, step-accepts (state_of l) k x d (sym asked ∙ zero))
 
-  pub accepted-image : n ≡ 0 → image_of (after_in device (state_of l) k x d) ≡ step_image l k x d
+  pub accepted_image : n ≡ 0 → image_of (after_in device (state_of l) k x d) ≡ step_image l k x d
   unfolding step_image
-  accepted-image zero = rw (good, step-accepts (state_of l) k x d (sym asked ∙ zero))
+  accepted_image zero = rw (good, step-accepts (state_of l) k x d (sym asked ∙ zero))

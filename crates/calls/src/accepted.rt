@@ -1,5 +1,7 @@
 // An accepted event in the bytes of an image. The kind is chosen before the state is loaded: so the compiler sees, kind by kind, which
 // bytes the event can change, and leaves most of the others alone.
+#![tactic(auto, using(image::proofs::Parts::told_long, image::proofs::Parts::core_saved, image::proofs::Parts::bus_saved, image::proofs::Parts::both_saved))]
+
 ghost use Rattle.std.specs.Prelude.{◌≡◌};
 ghost use Rattle.ports.specs.Reads.{read_of};
 ghost use Rattle.bus.specs.Device.{read_begun_in, write_begun_in, levels_put_in, after_in, byte_in};

@@ -1,5 +1,7 @@
 // The events that leave the bus idle, in the bytes of an image: a reset, and the end of a cycle. What ends is told by the byte of the bus,
 // and not by the phase that is made of it: so the compiler sees, end by end, which bytes can change.
+#![tactic(auto, using(image::proofs::Parts::told_long, image::proofs::Parts::core_saved, image::proofs::Parts::bus_saved, image::proofs::Parts::both_saved))]
+
 ghost use Rattle.std.specs.Prelude.{◌≡◌};
 ghost use Rattle.bus.specs.declared.Phase.TheVariants.{Idle};
 ghost use Rattle.bus.specs.Device.{cycle_ended_in};

@@ -2,6 +2,7 @@
 // view, the tallies, and why an INTR is low. Each answer is one number: the refusal in its lowest byte, and what is given above it.
 // include/towanchor.h declares them.
 #![tactic(auto)]
+
 ghost use Rattle.std.specs.Prelude.{◌≡◌};
 ghost use Rattle.image.specs.Slices.{saved_in};
 ghost use Rattle.calls.specs.Calls.{packed, power_up_answer, power_up_image, power_up_image_with, power_up_as_answer, power_up_as_image, convert_answer, convert_image, step_answer, step_image, pins_given, pins_answer, group_numbered, side_numbered, counter_numbered, tally_answer, reasons_given, explain_answer};
@@ -38,6 +39,7 @@ fn packed(number: u8, low: u8, high: u8) -> u32
 }
 
 // A new image, whatever stood there.
+#[tactic(auto, unfolding(image::specs::Slices::saved_in))]
 fn start(image: &mut [u8], chip: Chip) -> u32
     ensures value { result ≡ power_up_answer image.old }
     ensures image_after { image.new ≡ saved_in image.old chip }
@@ -72,6 +74,7 @@ pub extern "C" fn towanchor_power_up_with_levels(image: &mut [u8], a: u8, b: u8,
 
 // The same of a chip of the edition that the host names, by its number in an image.
 #[unsafe(no_mangle)]
+#[tactic(auto, unfolding(crate::specs::Calls::power_up_as_answer, crate::specs::Calls::power_up_as_image))]
 pub extern "C" fn towanchor_power_up_as(image: &mut [u8], edition: u8, a: u8, b: u8, c: u8) -> u32
     ensures value { result ≡ power_up_as_answer image.old edition }
     ensures image_after { image.new ≡ power_up_as_image image.old edition a b c }
@@ -85,6 +88,7 @@ pub extern "C" fn towanchor_power_up_as(image: &mut [u8], edition: u8, a: u8, b:
 
 // An older image made the image of the same state.
 #[unsafe(no_mangle)]
+#[tactic(auto, unfolding(crate::specs::Calls::convert_answer, crate::specs::Calls::convert_image))]
 pub extern "C" fn towanchor_convert(older: &[u8], image: &mut [u8]) -> u32
     ensures value { result ≡ convert_answer older.now image.old }
     ensures image_after { image.new ≡ convert_image older.now image.old }
@@ -102,6 +106,7 @@ pub extern "C" fn towanchor_convert(older: &[u8], image: &mut [u8]) -> u32
 
 // One event, with its number and the byte of an accepted read.
 #[unsafe(no_mangle)]
+#[tactic(auto, using(image::proofs::Long::is_long, image::proofs::SameBytes::slice_told, crate::proofs::Stepping::refused_answer, crate::proofs::Stepping::refused_image, crate::proofs::Stepping::accepted_answer, crate::proofs::Stepping::accepted_image, crate::proofs::HostStep::bad_answer, crate::proofs::HostStep::bad_stays))]
 pub extern "C" fn towanchor_step(image: &mut [u8], kind: u8, first: u8, second: u8) -> u32
     ensures value { result ≡ step_answer image.old kind first second }
     ensures image_after { image.new ≡ step_image image.old kind first second }
@@ -126,6 +131,7 @@ fn shown(pins: Pins) -> u32
 
 // The levels of a port's pins, and a one for each that the chip drives.
 #[unsafe(no_mangle)]
+#[tactic(auto, using(image::proofs::Long::is_long), unfolding(crate::specs::Calls::pins_answer))]
 pub extern "C" fn towanchor_pins(image: &[u8], port: u8) -> u32
     ensures { result ≡ pins_answer image.now port }
 {
@@ -154,6 +160,7 @@ fn side(channel: u8) -> Side
     }
 }
 
+#[tactic(auto, unfolding(crate::specs::Calls::counter_numbered))]
 fn counter(tally: Tally, number: u8) -> u16
     ensures { result ≡ counter_numbered tally number }
 {
@@ -170,6 +177,7 @@ fn counter(tally: Tally, number: u8) -> u16
 
 // One of the seven tallies of one of the four channels.
 #[unsafe(no_mangle)]
+#[tactic(auto, using(image::proofs::Long::is_long), unfolding(crate::specs::Calls::tally_answer))]
 pub extern "C" fn towanchor_tally(image: &[u8], channel: u8, number: u8) -> u32
     ensures { result ≡ tally_answer image.now channel number }
 {
@@ -191,6 +199,7 @@ fn given(said: Numbers) -> u32
 
 // What each half of a group's INTR is doing, and where it is low the first reason.
 #[unsafe(no_mangle)]
+#[tactic(auto, using(image::proofs::Long::is_long), unfolding(crate::specs::Calls::explain_answer))]
 pub extern "C" fn towanchor_explain(image: &[u8], group: u8) -> u32
     ensures { result ≡ explain_answer image.now group }
 {

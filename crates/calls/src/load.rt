@@ -24,6 +24,7 @@ pub(super) fn bus(image: &[u8]) -> Phase
     image::load::bus(&image[..LENGTH])
 }
 
+#[tactic(auto, unfolding(image::specs::Loaded::state_of))]
 pub(super) fn edition(image: &[u8]) -> Edition
     requires { length image.now ≡ places.length }
     ensures { result ≡ (state_of image.now).edition }

@@ -1,6 +1,7 @@
 // The device that the cases are at, one of two, and what a sign does to either.
 use super::{show, show_8355, states, states_8355};
 use chip::Edition;
+use std::io;
 
 // A device, with the answer to its last event. The 82C55A is a chip of the newer edition.
 #[derive(Clone, Copy)]
@@ -29,21 +30,18 @@ pub(super) fn at_power_up() -> Last {
 
 // Three letters put a device at power-up, whichever there was before; any other letter is for the device that is there.
 pub(super) fn other(last: Last, name: u8) -> Last {
-    match name {
-        b'P' => return at_power_up(),
-        b'N' => return Last::I8255A(states::at_power_up(Edition::Newer)),
-        b'Q' => return Last::I8355(states_8355::at_power_up()),
-        _ => {}
-    }
-    match last {
-        Last::I8255A(before) => Last::I8255A(states::other(before.chip, name)),
-        Last::I8355(before) => Last::I8355(states_8355::other(before.chip, name)),
+    match (name, last) {
+        (b'P', _) => at_power_up(),
+        (b'N', _) => Last::I8255A(states::at_power_up(Edition::Newer)),
+        (b'Q', _) => Last::I8355(states_8355::at_power_up()),
+        (_, Last::I8255A(before)) => Last::I8255A(states::other(before.chip, name)),
+        (_, Last::I8355(before)) => Last::I8355(states_8355::other(before.chip, name)),
     }
 }
 
-pub(super) fn field(last: Last, name: u8) {
+pub(super) fn field(rt: &impl Print, last: Last, name: u8) -> io::Result<()> {
     match last {
-        Last::I8255A(before) => show::field(before, name),
-        Last::I8355(before) => show_8355::field(before, name),
+        Last::I8255A(before) => show::field(rt, before, name),
+        Last::I8355(before) => show_8355::field(rt, before, name),
     }
 }

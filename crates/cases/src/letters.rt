@@ -1,6 +1,6 @@
 // The letters of the pins, the same for every device: A to D name a port, of which D is none, and for the 8355 C neither. A capital letter is the
 // levels of its pins, a small one those that are driven.
-use super::print;
+use std::io;
 
 pub(super) fn port(name: u8) -> u8 {
     match name {
@@ -11,9 +11,11 @@ pub(super) fn port(name: u8) -> u8 {
     }
 }
 
-pub(super) fn show(name: u8, levels: u8, driven: u8) {
-    match name {
-        b'a' | b'b' | b'c' | b'd' => print::byte(driven),
-        _ => print::byte(levels),
-    }
+pub(super) fn show(rt: &impl Print, name: u8, levels: u8, driven: u8) -> io::Result<()> {
+    let shown = if name.is_ascii_lowercase() {
+        driven
+    } else {
+        levels
+    };
+    print!(rt; "{shown:02X}")
 }

@@ -1,10 +1,10 @@
 // Runs the compiled models through the cases that stand on standard input. Their text is copied out as it is; the signs in it,
 // which signs.rt explains, run events and show what the device then is.
 #![tactic(auto)]
+
 mod devices;
 mod letters;
 mod phases;
-mod print;
 mod racks;
 mod show;
 mod show_8355;
@@ -12,10 +12,11 @@ mod signs;
 mod states;
 mod states_8355;
 
-use libc::STDIN_FILENO;
+use std::io;
+use std::io::Read;
 
-fn main() {
-    let mut room = io::large_buffer();
-    let count = io::read_full(STDIN_FILENO, &mut room);
-    signs::follow(&room[..count]);
+fn main(rt: HostRuntime) -> io::Result<()> {
+    let mut text = Vec::new(rt.alloc());
+    rt.reader().read_to_end(&mut text)?;
+    signs::follow(&rt, &text)
 }

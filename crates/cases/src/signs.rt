@@ -24,8 +24,10 @@
 //     @1             looks at a place, from 0
 //     $n $y          the number, in decimal, and the byte of the last event; or the number of the building
 //     $A             by any other letter, what the same letter shows of an 8255A, of the card at the place that is looked at
+use super::devices;
 use super::devices::Last;
-use super::{devices, print, racks};
+use super::racks::Held;
+use std::io;
 
 // The byte that closes a sign with digits in it.
 fn closing(sign: u8) -> u8 {
@@ -62,37 +64,35 @@ fn digits_after(sign: u8, digits: u64, code: u8) -> u64 {
     }
 }
 
-fn copy(code: u8) {
+fn copy(rt: &impl Print, code: u8) -> io::Result<()> {
     match code {
-        b'<' | b'%' | b'!' | b'[' | b'{' | b'@' | b'$' => {}
-        _ => print::word(&[code]),
+        b'<' | b'%' | b'!' | b'[' | b'{' | b'@' | b'$' => Ok(()),
+        _ => rt.write_all(&[code]),
     }
 }
 
 // Follows a byte that is plain, or of a sign for devices.
-fn act(last: Last, sign: u8, digits: u64, code: u8) -> Last {
+fn act(rt: &impl Print, last: Last, sign: u8, digits: u64, code: u8) -> io::Result<Last> {
     match sign {
-        b'<' => if code == b'>' {
-            return devices::event(last, digits);
-        },
-        b'!' => return devices::other(last, code),
-        b'%' => devices::field(last, code),
-        b'[' | b'{' | b'@' | b'$' => {}
-        _ => copy(code),
+        b'<' if code == b'>' => return Ok(devices::event(last, digits)),
+        b'!' => return Ok(devices::other(last, code)),
+        b'%' => devices::field(rt, last, code)?,
+        b'<' | b'[' | b'{' | b'@' | b'$' => {}
+        _ => copy(rt, code)?,
     }
-    last
+    Ok(last)
 }
 
-pub(super) fn follow(text: &[u8]) {
+pub(super) fn follow(rt: &(impl Print + AllocGlobal), text: &[u8]) -> io::Result<()> {
     let mut last = devices::at_power_up();
-    let mut held = racks::empty();
+    let mut held = Held::new(rt.alloc());
     let mut sign = b' ';
-    let mut digits = 0u64;
-    for at in 0..text.len() {
-        let code = text[at];
-        last = act(last, sign, digits, code);
-        held = racks::act(held, sign, digits, code);
-        digits = digits_after(sign, digits, code);
-        sign = open_after(sign, code);
+    let mut digits = 0;
+    for code in text {
+        last = act(rt, last, sign, digits, *code)?;
+        held.act(rt, sign, digits, *code)?;
+        digits = digits_after(sign, digits, *code);
+        sign = open_after(sign, *code);
     }
+    Ok(())
 }

@@ -1,8 +1,8 @@
 // The chip, of either edition, in a state that no single event gives it: at power-up, after very many strobes, or by hand, where no history leads
 // there.
 use super::phases;
-use channel::{Channel, Fill};
-use chip::{Chip, Core, Edition, Levels, Port};
+use channel::Fill;
+use chip::{Chip, Core, Edition, Levels};
 use step::Stepped;
 
 fn put(chip: Chip) -> Stepped {
@@ -31,37 +31,11 @@ fn strobe(chip: Chip) -> Chip {
 }
 
 // One strobe short of as many as a tally can tell apart.
-fn strobes(start: Chip) -> Chip {
-    let mut chip = start;
-    for _ in 0..65535u32 {
+fn strobes(mut chip: Chip) -> Chip {
+    for _ in 0..65535 {
         chip = strobe(chip);
     }
     chip
-}
-
-fn marked(channel: Channel, fill: Fill) -> Channel {
-    let tally = channel.tally;
-    Channel {
-        fill,
-        latch: channel.latch,
-        tally,
-    }
-}
-
-fn input_fetching(mut port: Port) -> Port {
-    port.input = marked(port.input, Fill::Fetching);
-    port
-}
-
-fn output_fetching(mut port: Port) -> Port {
-    port.output = marked(port.output, Fill::Fetching);
-    port
-}
-
-fn both_waiting(mut port: Port) -> Port {
-    port.input = marked(port.input, Fill::Waiting);
-    port.output = marked(port.output, Fill::Waiting);
-    port
 }
 
 // The mode word B0 without its bit 7; the output of A fetching; the input of A fetching, whatever the bus does; bytes waiting in both
@@ -69,20 +43,21 @@ fn both_waiting(mut port: Port) -> Port {
 fn core_by_hand(mut core: Core, name: u8) -> Core {
     match name {
         b'W' => core.word = 0x30,
-        b'F' => core.a = output_fetching(core.a),
-        b'G' => core.a = input_fetching(core.a),
-        b'U' => core.a = both_waiting(core.a),
+        b'F' => core.a.output.fill = Fill::Fetching,
+        b'G' => core.a.input.fill = Fill::Fetching,
+        b'U' => {
+            core.a.input.fill = Fill::Waiting;
+            core.a.output.fill = Fill::Waiting;
+        }
         _ => {}
     }
     core
 }
 
 fn by_hand(chip: Chip, name: u8) -> Chip {
-    let phase = chip.phase;
-    let edition = chip.edition;
     Chip {
-        phase: phases::by_hand(phase, name),
-        edition,
+        phase: phases::by_hand(chip.phase, name),
+        edition: chip.edition,
         core: core_by_hand(chip.core, name),
     }
 }

@@ -35,9 +35,8 @@ fn registers_by_hand(ports: Ports, name: u8) -> Ports {
 }
 
 pub(super) fn other(chip: Chip8355, name: u8) -> Stepped {
-    let phase = chip.phase;
     put(Chip8355 {
-        phase: phases::by_hand(phase, name),
+        phase: phases::by_hand(chip.phase, name),
         ports: registers_by_hand(chip.ports, name),
     })
 }

@@ -2,7 +2,7 @@
 use super::apart::{Answer, Machine};
 use super::counts::Counts;
 use super::views::View;
-use super::{agree, apart, counts, events, random, views};
+use super::{apart, counts, events, random, views};
 use chip::Chip;
 use step::Stepped;
 
@@ -29,10 +29,11 @@ fn start(chip: Chip, machine: Machine) -> Pair {
     }
 }
 
-fn happen(mut pair: Pair, kind: u8, first: u8, second: u8) -> Pair {
-    pair.proved = step::step(pair.proved.chip, kind, first, second);
-    pair.apart = apart::event(pair.apart.machine, kind, first, second);
-    pair
+fn happen(pair: Pair, kind: u8, first: u8, second: u8) -> Pair {
+    Pair {
+        proved: step::step(pair.proved.chip, kind, first, second),
+        apart: apart::event(pair.apart.machine, kind, first, second),
+    }
 }
 
 // Counts what the event did, and compares the models after it. Leaves what the proved one shows.
@@ -45,7 +46,7 @@ fn judge(counts: &mut Counts, event: u64, place: u64, before: View, pair: Pair) 
         before,
         after,
     );
-    agree::hold(counts, event, place, after, views::of_apart(pair.apart));
+    counts.hold(event, place, after, views::of_apart(pair.apart));
     after
 }
 
@@ -79,7 +80,7 @@ fn advance(counts: &mut Counts, course: Course, place: u64) -> Course {
 // The start of a history. It is compared too, as if the event FF FF FF had led there.
 fn begin(counts: &mut Counts, pair: Pair, seed: u64) -> Course {
     let view = views::of_proved(pair.proved);
-    agree::hold(counts, 0xffffff, 0, view, views::of_apart(pair.apart));
+    counts.hold(0xffffff, 0, view, views::of_apart(pair.apart));
     Course {
         pair,
         view,

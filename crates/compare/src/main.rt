@@ -2,7 +2,7 @@
 // from it, and compares what they show, keep and count after every event: first of the 8255A and the 82C55A, then of the 8355 and of
 // racks of cards. Then it compares two trimmers of journals in the same way.
 #![tactic(auto)]
-mod agree;
+
 mod apart; // the second model
 mod counts;
 mod events;
@@ -10,66 +10,84 @@ mod exchanges;
 mod history;
 mod journals; // journals, trimmed
 mod ports_8355; // the 8355
+mod numbers;
 mod print;
 mod racks; // racks of cards
 mod random;
+mod row;
 mod runs;
 mod states;
 mod twins;
 mod views;
 
-use libc::STDIN_FILENO;
+use std::io;
+use std::io::Read;
 
-// The runs of the 8255A and the 82C55A, each behind a word by the first part of the text. Leaves where the next part begins.
-fn runs_8255a(text: &[u8]) -> usize {
-    let reached = runs::from_power_up();
-    print::word(b"from power-up");
-    print::filled(text, 0, &reached);
-    let strange = runs::from_arbitrary_states();
-    print::word(b"from arbitrary states");
-    print::filled(text, 0, &strange);
-    let levelled = runs::from_other_levels();
-    print::word(b"from power-up under other levels");
-    print::filled(text, 0, &levelled)
+// The runs of the 8255A and the 82C55A, each behind a title, by their part of the text.
+fn runs_8255a(rt: &impl Print, part: &[u8]) -> io::Result<()> {
+    print::run(rt, "from power-up", part, &runs::from_power_up())?;
+    print::run(
+        rt,
+        "from arbitrary states",
+        part,
+        &runs::from_arbitrary_states(),
+    )?;
+    print::run(
+        rt,
+        "from power-up under other levels",
+        part,
+        &runs::from_other_levels(),
+    )
 }
 
-// Those of the 8355, by the part of the text that begins there. Leaves where the next part begins.
-fn runs_8355(text: &[u8], first: usize) -> usize {
-    let reached = ports_8355::from_power_up();
-    print::word(b"the 8355 from power-up");
-    print::filled(text, first, &reached);
-    let strange = ports_8355::from_arbitrary_states();
-    print::word(b"the 8355 from arbitrary states");
-    print::filled(text, first, &strange)
+// Those of the 8355.
+fn runs_8355(rt: &impl Print, part: &[u8]) -> io::Result<()> {
+    print::run(
+        rt,
+        "the 8355 from power-up",
+        part,
+        &ports_8355::from_power_up(),
+    )?;
+    print::run(
+        rt,
+        "the 8355 from arbitrary states",
+        part,
+        &ports_8355::from_arbitrary_states(),
+    )
 }
 
-// Those of racks, in the same way.
-fn runs_of_racks(text: &[u8], first: usize) -> usize {
-    let good = racks::from_good_bases();
-    print::word(b"racks with good bases");
-    print::filled(text, first, &good);
-    let any = racks::from_any_bases();
-    print::word(b"racks with any bases");
-    print::filled(text, first, &any);
-    let strange = racks::from_arbitrary_states();
-    print::word(b"racks in arbitrary states");
-    print::filled(text, first, &strange)
+// Those of racks.
+fn runs_of_racks(rt: &impl Print, part: &[u8]) -> io::Result<()> {
+    print::run(rt, "racks with good bases", part, &racks::from_good_bases())?;
+    print::run(rt, "racks with any bases", part, &racks::from_any_bases())?;
+    print::run(
+        rt,
+        "racks in arbitrary states",
+        part,
+        &racks::from_arbitrary_states(),
+    )
 }
 
-fn run_of_journals(text: &[u8], first: usize) {
-    let trimmed = journals::from_any_power_up();
-    print::word(b"trimmed from any power-up");
-    print::filled(text, first, &trimmed);
+fn run_of_journals(rt: &(impl Print + AllocGlobal), part: &[u8]) -> io::Result<()> {
+    print::run(
+        rt,
+        "trimmed from any power-up",
+        part,
+        &journals::from_any_power_up(rt.alloc())?,
+    )
 }
 
-fn all(text: &[u8]) {
-    run_of_journals(text, runs_of_racks(text, runs_8355(text, runs_8255a(text))));
-}
+// Stands between the parts of the text.
+const SEPARATOR: u8 = b'%';
 
 // What is printed of each run stands on standard input, a part for each chip, one for racks and one for journals, with a sign for each
 // count in their order.
-fn main() {
-    let mut room = io::large_buffer();
-    let length = io::read_full(STDIN_FILENO, &mut room);
-    all(&room[..length]);
+fn main(rt: HostRuntime) -> io::Result<()> {
+    let mut text = Vec::new(rt.alloc());
+    rt.reader().read_to_end(&mut text)?;
+    let mut parts = text.split(|code| *code == SEPARATOR);
+    runs_8255a(&rt, parts.next().unwrap_or(&[]))?;
+    runs_8355(&rt, parts.next().unwrap_or(&[]))?;
+    runs_of_racks(&rt, parts.next().unwrap_or(&[]))?;
+    run_of_journals(&rt, parts.next().unwrap_or(&[]))
 }

@@ -9,7 +9,7 @@ pub(super) fn next(seed: u64) -> u64 {
 
 // A seed at another place of the sequence: what follows it has nothing to do with what follows the first.
 pub(super) fn far(seed: u64) -> u64 {
-    std::num::wrapping_add_u64(seed, 0x9e3779b97f4a7c15)
+    seed.wrapping_add(0x9e3779b97f4a7c15)
 }
 
 // One of the eight bytes of a number, by which it decides several things at once: the lowest of what is handed over.

@@ -1,7 +1,7 @@
 // The three runs, of both editions: long histories from a power-up with every line high; short ones from arbitrary states, where a mode word or
 // a reset soon ends what is strange; and short ones from power-ups under other levels.
 use super::counts::Counts;
-use super::{apart, counts, history, random, states, twins};
+use super::{apart, history, random, states, twins};
 use chip::Levels;
 
 // Where histories begin.
@@ -50,7 +50,7 @@ fn anywhere(counts: &mut Counts, seed: u64) -> u64 {
 
 // One history, and the seed of the next one.
 fn one(counts: &mut Counts, start: Start, seed: u64) -> u64 {
-    counts::add(counts, 0, 0, 1);
+    counts.add(0, 1);
     match start {
         Start::PowerUp => powered(counts, 0xff, 0xff, 0xff, seed, 300),
         Start::OtherLevels => other_levels(counts, seed),
@@ -59,7 +59,7 @@ fn one(counts: &mut Counts, start: Start, seed: u64) -> u64 {
 }
 
 fn all(start: Start, first: u64, histories: usize) -> Counts {
-    let mut counts = [0u64; 92];
+    let mut counts = Counts::new();
     let mut seed = first;
     for _ in 0..histories {
         seed = one(&mut counts, start, seed);

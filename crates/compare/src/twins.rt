@@ -44,8 +44,7 @@ pub(super) const PER_CHANNEL: usize = 7;
 pub(super) type Tallies = [u16; 28];
 
 fn mark(channel: Channel) -> u8 {
-    let fill = channel.fill;
-    match fill {
+    match channel.fill {
         Fill::Empty => 0,
         Fill::Waiting => 1,
         Fill::Fetching => 2,
@@ -98,12 +97,9 @@ fn bit(on: bool, worth: u8) -> u8 {
 }
 
 pub(super) fn machine(chip: Chip) -> Machine {
-    let edition = chip.edition;
-    let phase = chip.phase;
-    let bus = running(phase);
-    let tally = tallies(chip);
+    let bus = running(chip.phase);
     Machine {
-        part: part(edition),
+        part: part(chip.edition),
         phase: bus.phase,
         place: bus.place,
         data: bus.data,
@@ -127,6 +123,6 @@ pub(super) fn machine(chip: Chip) -> Machine {
             mark(chip.core.b.input),
             mark(chip.core.b.output),
         ],
-        tally,
+        tally: tallies(chip),
     }
 }

@@ -3,6 +3,7 @@ use super::apart::{Answer, Machine};
 use super::twins::Tallies;
 use super::{apart, twins};
 use chip::Chip;
+use std::fmt;
 use step::Stepped;
 
 // What is shown: 0 the number, 1 the byte, 2 to 4 the levels of A, B and C, 5 to 7 their driven pins, 8 and 9 the levels and the driven pins of
@@ -10,12 +11,24 @@ use step::Stepped;
 // the output's: of A, of B, and of a group that there is not, which is named by the mode word too. What is kept: 0 to 2 the phase, its
 // address and its byte, 3 the mode word, 4 to 6 the outside levels of A, B and C, 7 to 10 the latches of A in, A out, B in and B out,
 // 11 that of C, 12 the enables, 13 to 16 the marks of the channels, in the order of the latches, 17 the edition.
-#[derive(Clone, Copy)]
+#[derive(Clone, Copy, PartialEq, Eq)]
 pub(super) struct View {
     pub(super) shown: [u8; 10],
     pub(super) said: [u8; 9],
     pub(super) kept: [u8; 18],
     pub(super) tally: Tallies,
+}
+
+impl fmt::Display for View {
+    fn fmt<W: fmt::Write>(&self, f: &mut fmt::Formatter<W>) -> fmt::Result {
+        for number in self.shown.iter().chain(&self.said).chain(&self.kept) {
+            write!(f, " {number}")?;
+        }
+        for tally in &self.tally {
+            write!(f, " {tally}")?;
+        }
+        Ok(())
+    }
 }
 
 fn kept(machine: Machine) -> [u8; 18] {

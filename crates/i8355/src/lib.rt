@@ -1,5 +1,6 @@
 // The two ports of the 8355, and what they are at power-up.
 #![tactic(auto)]
+
 ghost use Rattle.std.specs.Prelude.{◌≡◌};
 ghost use Rattle.i8355.specs.State.{power_up};
 

@@ -5,6 +5,7 @@ ghost use Rattle.i8355.specs.Registers.{after_reset, after_write_ends, after_lev
 use super::{DIRECTION_A, DIRECTION_B, PORT_A, PORT_B, Ports};
 
 // A reset makes every pin an input; the latches keep their bytes.
+#[tactic(auto, unfolding(crate::specs::Registers::after_reset))]
 pub(super) fn reset(mut ports: Ports) -> Ports
     ensures { result ≡ after_reset ports }
 {
@@ -14,6 +15,7 @@ pub(super) fn reset(mut ports: Ports) -> Ports
 }
 
 // The byte goes whole into the register at the address, whatever the directions; where there is none, nowhere.
+#[tactic(auto, unfolding(crate::specs::Registers::after_write_ends))]
 pub(super) fn write(mut ports: Ports, address: u8, byte: u8) -> Ports
     ensures { result ≡ after_write_ends ports address byte }
 {
@@ -28,6 +30,7 @@ pub(super) fn write(mut ports: Ports, address: u8, byte: u8) -> Ports
 }
 
 // The outside levels of a port become these; on a number that is no port nothing happens.
+#[tactic(auto, unfolding(crate::specs::Registers::after_levels))]
 pub(super) fn levels(mut ports: Ports, port: u8, levels: u8) -> Ports
     ensures { result ≡ after_levels ports port levels }
 {

@@ -68,6 +68,7 @@ fn limits() -> Limits
 }
 
 // One event: a kind and two operands, of which those that the kind lacks are ignored.
+#[tactic(auto, unfolding(crate::specs::Step::step_of, bus::specs::Device::step_in))]
 pub fn step(chip: Chip8355, kind: u8, first: u8, second: u8) -> Stepped
     ensures { result ≡ step_of chip kind first second }
 {

@@ -4,6 +4,7 @@ ghost use Rattle.i8355.specs.Views.{shown_by, pins_of_port, pins_of};
 
 use super::{Chip8355, PORT_A, PORT_B, Pins, Port};
 
+#[tactic(auto, unfolding(crate::specs::Views::shown_by))]
 fn shown(port: Port) -> u8
     ensures { result ≡ shown_by port }
 {
@@ -21,6 +22,7 @@ fn port(port: Port) -> Pins
 }
 
 // The pins of a port. There are no ports but A and B: the levels of another are 00, and none is driven.
+#[tactic(auto, unfolding(crate::specs::Views::pins_of))]
 pub fn pins(chip: Chip8355, port: u8) -> Pins
     ensures { result ≡ pins_of chip port }
 {

@@ -17,16 +17,16 @@ use Rattle.image.specs.Loaded.{state_of}
 use Rattle.image.specs.Good.{bytes_fit, is_image}
 use Rattle.image.specs.Slices.{saved_in, loaded_from}
 
-pub is-long : (l : List ℕ) → is_image l ≡ true → length l ≡ places.length
+pub is_long : (l : List ℕ) → is_image l ≡ true → length l ≡ places.length
 unfolding is_image
-is-long l good = eqb-true _ _ (both (eqb (length l) places.length) (bytes_fit l) good).0
+is_long l good = eqb-true _ _ (both (eqb (length l) places.length) (bytes_fit l) good).0
 
 pub written_over : (l : List ℕ) (c : Chip) → length l ≡ places.length → saved_in l c ≡ image_of c
 unfolding saved_in
 written_over l c long = rw (eq-eqb (length l) places.length long)
 
 pub saved : (l : List ℕ) (c : Chip) → is_image l ≡ true → saved_in l c ≡ image_of c
-saved l c good = written_over l c (is-long l good)
+saved l c good = written_over l c (is_long l good)
 
 -- As many bytes as an image has are all of them, and what is loaded from them is the state that they tell.
 module _ (l : List ℕ) (long : length l ≡ places.length) where

@@ -26,16 +26,16 @@ unfolding image_of
 long c = refl
 
 module _ (l : List ℕ) (told : Told l) where
-  pub told-long : length l ≡ places.length
-  told-long = sym (ap length told) ∙ long (state_of l)
+  pub told_long : length l ≡ places.length
+  told_long = sym (ap length told) ∙ long (state_of l)
 
-  pub core-saved : (d : Core) → core_saved_in l d ≡ image_of (record { phase = (state_of l).phase; edition = (state_of l).edition; core = d })
-  core-saved d = ap (λ (m : List ℕ). core_saved_in m d) (sym told) ∙ over-core (state_of l) d
+  pub core_saved : (d : Core) → core_saved_in l d ≡ image_of (record { phase = (state_of l).phase; edition = (state_of l).edition; core = d })
+  core_saved d = ap (λ (m : List ℕ). core_saved_in m d) (sym told) ∙ over-core (state_of l) d
 
-  pub bus-saved : (ph : Phase) → bus_saved_in l ph ≡ image_of (record { phase = ph; edition = (state_of l).edition; core = (state_of l).core })
-  bus-saved ph = ap (λ (m : List ℕ). bus_saved_in m ph) (sym told) ∙ over-bus (state_of l) ph
+  pub bus_saved : (ph : Phase) → bus_saved_in l ph ≡ image_of (record { phase = ph; edition = (state_of l).edition; core = (state_of l).core })
+  bus_saved ph = ap (λ (m : List ℕ). bus_saved_in m ph) (sym told) ∙ over-bus (state_of l) ph
 
-  pub both-saved : (d : Core) (ph : Phase) → bus_saved_in (core_saved_in l d) ph ≡ image_of (record { phase = ph; edition = (state_of l).edition; core = d })
-  both-saved d ph =
-      ap (λ (m : List ℕ). bus_saved_in m ph) (core-saved d)
+  pub both_saved : (d : Core) (ph : Phase) → bus_saved_in (core_saved_in l d) ph ≡ image_of (record { phase = ph; edition = (state_of l).edition; core = d })
+  both_saved d ph =
+      ap (λ (m : List ℕ). bus_saved_in m ph) (core_saved d)
       ∙ over-bus (record { phase = (state_of l).phase; edition = (state_of l).edition; core = d }) ph

@@ -24,7 +24,7 @@ use Rattle.image.specs.Places as places
 use Rattle.image.specs.Layout.{fill_byte, enables_byte, port_bytes, edition_byte, image_of}
 use Rattle.image.specs.Loaded.{byte_at, fill_as, enables_as, core_by, channel_tally, edition_as, state_of}
 use Rattle.image.specs.Good.{cycle_fits, edition_fits, enables_fit, fill_fits, channel_fits, fills_fit, core_fits, all_zero, unused_zero, end_fits, bytes_fit, is_image, Told, Bytes}
-use Rattle.image.proofs.Long.{is-long}
+use Rattle.image.proofs.Long.{is_long}
 use Rattle.image.proofs.Cycle.{same-bus}
 
 length_from : (f : ℕ → ℕ) (i n : ℕ) → length (from f i n) ≡ n
@@ -140,12 +140,12 @@ same-bytes l bytes good =
     ++ same-core (byte_at l) (channel_tally l) fits.1 i
     ++ (bus.0 i ∷ bus.1 i ∷ same-edition edition behind.0 i ∷ [])
     ++ same-zeros (from (byte_at l) places.unused (places.length - places.unused)) behind.1 i)
-    ∙ spelled l places.length (is-long l good)
+    ∙ spelled l places.length (is_long l good)
 
 -- What a slice holds are bytes.
 pub bytes-by : (l : List ℕ) → ((i : ℕ) → Fits w8 (byte_at l i)) → Bytes l
 bytes-by [] each = tt
 bytes-by (b ∷ bs) each = ((each 0).fits, bytes-by bs (λ i. each (suc i)))
 
-pub slice-told : (l : List ℕ) → ((i : ℕ) → Fits w8 (byte_at l i)) → is_image l ≡ true → Told l
-slice-told l each good = same-bytes l (bytes-by l each) good
+pub slice_told : (l : List ℕ) → ((i : ℕ) → Fits w8 (byte_at l i)) → is_image l ≡ true → Told l
+slice_told l each good = same-bytes l (bytes-by l each) good

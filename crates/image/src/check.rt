@@ -108,6 +108,7 @@ fn fits(image: &[u8]) -> bool
 }
 
 // Whether the bytes are the image of a state. Those of another length are none.
+#[tactic(auto, unfolding(crate::specs::Good::is_image))]
 pub fn good(image: &[u8]) -> bool
     ensures { result ≡ is_image image.now }
 {

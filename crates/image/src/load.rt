@@ -109,6 +109,7 @@ pub fn edition(byte: u8) -> Edition
     }
 }
 
+#[tactic(auto, unfolding(crate::specs::Loaded::state_of))]
 fn whole(image: &[u8]) -> Chip
     requires { length image.now ≡ places.length }
     ensures { result ≡ state_of image.now }
@@ -131,6 +132,7 @@ fn whole(image: &[u8]) -> Chip
 }
 
 // What runs on the bus, by itself: nothing, where it is told by no image.
+#[tactic(auto, unfolding(crate::specs::Slices::loaded_from, crate::specs::Loaded::state_of))]
 pub fn bus(image: &[u8]) -> Phase
     ensures { result ≡ (loaded_from image.now).phase }
 {
@@ -141,6 +143,7 @@ pub fn bus(image: &[u8]) -> Phase
 }
 
 // The whole state. Bytes of another length than an image's tell none: for them it is the chip at power-up.
+#[tactic(auto, unfolding(crate::specs::Slices::loaded_from, crate::specs::Loaded::state_of))]
 pub fn state(image: &[u8]) -> Chip
     ensures { result ≡ loaded_from image.now }
 {

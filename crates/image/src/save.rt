@@ -174,6 +174,7 @@ fn put_bus(image: &mut [u8], phase: Phase)
     put_two(image, BUS, bus_byte(phase), written(phase));
 }
 
+#[tactic(auto, unfolding(crate::specs::Layout::image_of))]
 fn whole(image: &mut [u8], chip: Chip)
     requires { length image.old ≡ places.length }
     ensures { image.new ≡ image_of chip }
@@ -189,6 +190,7 @@ fn whole(image: &mut [u8], chip: Chip)
 }
 
 // The state's image, written over the bytes. Those of another length are left alone.
+#[tactic(auto, unfolding(crate::specs::Slices::saved_in))]
 pub fn state(image: &mut [u8], chip: Chip)
     ensures { image.new ≡ saved_in image.old chip }
 {
@@ -198,6 +200,7 @@ pub fn state(image: &mut [u8], chip: Chip)
 }
 
 // All but the bus and the edition, for who has an image and leaves these alone.
+#[tactic(auto, unfolding(crate::specs::Slices::core_saved_in))]
 pub fn core(image: &mut [u8], core: Core)
     ensures { image.new ≡ core_saved_in image.old core }
 {
@@ -207,6 +210,7 @@ pub fn core(image: &mut [u8], core: Core)
 }
 
 // The bus, for who leaves all else alone.
+#[tactic(auto, unfolding(crate::specs::Slices::bus_saved_in))]
 pub fn bus(image: &mut [u8], phase: Phase)
     ensures { image.new ≡ bus_saved_in image.old phase }
 {

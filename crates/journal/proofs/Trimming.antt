@@ -41,17 +41,17 @@ module _ (ws : List ℕ) (edition : ℕ) where
       go true false m true a e = record { fits = ltb-false most_words (length ws) m; frames = a }
 
   module _ (a b c : ℕ) where
-    pub refused-answer : ¬ (trim_number ws edition ≡ 0) → trim_number ws edition ≡ trim_answer ws edition a b c
+    pub refused_answer : ¬ (trim_number ws edition ≡ 0) → trim_number ws edition ≡ trim_answer ws edition a b c
     unfolding trim_answer
-    refused-answer refused = rw (ne_eqb (trim_number ws edition) 0 refused)
+    refused_answer refused = rw (ne_eqb (trim_number ws edition) 0 refused)
 
     pub refused-words : ¬ (trim_number ws edition ≡ 0) → ws ≡ trimmed_words ws edition a b c
     unfolding trimmed_words
     refused-words refused = rw (ne_eqb (trim_number ws edition) 0 refused)
 
-    pub accepted-answer : trim_number ws edition ≡ 0 → 256 * length (kept_of ws edition a b c) ≡ trim_answer ws edition a b c
+    pub accepted_answer : trim_number ws edition ≡ 0 → 256 * length (kept_of ws edition a b c) ≡ trim_answer ws edition a b c
     unfolding trim_answer
-    accepted-answer zero = rw (eq-eqb (trim_number ws edition) 0 zero)
+    accepted_answer zero = rw (eq-eqb (trim_number ws edition) 0 zero)
 
     pub accepted-words : trim_number ws edition ≡ 0 → filled_up (kept_of ws edition a b c) (length ws) ≡ trimmed_words ws edition a b c
     unfolding trimmed_words

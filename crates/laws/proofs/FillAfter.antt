@@ -29,7 +29,7 @@ use Rattle.settings.proofs.Flags.{flag_at_pin}
 use Rattle.settings.proofs.PortsAfter.{mode-word-channel, bit-put}
 use Rattle.reads.specs.Read.{after_read_begins, after_read_ends}
 use Rattle.reads.proofs.PortsAfter.{begun-input, begun-output, ended-input, ended-output}
-use Rattle.writes.specs.Write.{stored_in}
+use Rattle.writes.specs.Write.{stored_in, latch_written}
 use Rattle.writes.proofs.PortsAfter.{Stored}
 use Rattle.levels.specs.Levels.{line_falls, lets_through, after_levels}
 use Rattle.levels.proofs.PortsAfter.{levels-input, levels-output}
@@ -142,7 +142,7 @@ fill-by-event P c g s k x d t = by-event (λ c'. P (channel_of c'.core g s).fill
     read = λ p phase. after_read P c.core g s p t.stays (λ own. t.ends two (ap (λ ph. running ph g s) phase ∙ own));
     mode_word = λ w phase seven. after-mode-word P c.core g s w (t.renewal two (ap makes_anew phase ∙ seven));
     bit_word = λ w phase seven. after-put P c.core g s w seven t.stays (λ named. t.forced two (bit_of w 0) (puts-here c.phase w phase seven (flag_pin g s) named));
-    lines = λ b phase. after-spared P c.core g s _ (latch-spares c.core _) t.stays;
+    lines = λ b phase. after-spared P c.core g s _ (latch-spares c.core (latch_written c.core.word c.core.c.latch b)) t.stays;
     port = λ a b phase c' stored. after_store P c.core g s a b c' stored t.stays (λ own. t.ends two (ap (λ ph. running ph g s) phase ∙ own));
   };
   write_begins = λ three ok. t.stays;

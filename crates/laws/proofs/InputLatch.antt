@@ -18,6 +18,7 @@ use Rattle.channel.proofs.ConditionsLeft.{offer-latches, follow-latches, hand-ov
 use Rattle.chip.specs.declared.Core.{Core}
 use Rattle.chip.specs.declared.Chip.{Chip}
 use Rattle.chip.specs.State.{port_of, channel_of}
+use Rattle.writes.specs.Write.{latch_written}
 use Rattle.chip.specs.Handshakes.{strobed, line_pin, own_address}
 use Rattle.chip.proofs.OnPort.{lines-not-own}
 use Rattle.chip.proofs.Surrounded.{Spared, latch-spares, spared-channel}
@@ -153,7 +154,7 @@ module _ (c : Chip) (g : Group) where
       read = λ p phase. ended c.core g p;
       mode_word = λ w phase seven. not-anew (renewal two) phase seven;
       bit_word = λ w phase seven. put c.core g w seven;
-      lines = λ b phase. spared c.core g (latch-spares c.core _);
+      lines = λ b phase. spared c.core g (latch-spares c.core (latch_written c.core.word c.core.c.latch b));
       port = λ a b phase c' stored. ap (λ ch. ch.latch) (stored.input g);
     };
     write_begins = λ three ok. refl;

@@ -17,7 +17,7 @@ use Rattle.chip.proofs.Surrounded.{latch-spares, spared-channel}
 use Rattle.settings.proofs.PortsAfter.{bit-put}
 use Rattle.reads.specs.Read.{after_read_begins, after_read_ends}
 use Rattle.reads.proofs.PortsAfter.{begun-input, begun-output, ended-input, ended-output}
-use Rattle.writes.specs.Write.{stored_in}
+use Rattle.writes.specs.Write.{stored_in, latch_written}
 use Rattle.writes.proofs.PortsAfter.{Stored}
 use Rattle.step.specs.Step.{step_of}
 use Rattle.laws.specs.Seen.{makes_anew}
@@ -56,7 +56,7 @@ unstrobed-stays c g s off k x d reset renewal = by-event (λ c'. Still c.core g 
     read = λ p phase. ended c.core g s off p;
     mode_word = λ w phase seven. not-anew (renewal two) phase seven;
     bit_word = λ w phase seven. kept ((bit-put c.core w seven).channel g s ∙ rw (off));
-    lines = λ b phase. kept (spared-channel (latch-spares c.core _) g s);
+    lines = λ b phase. kept (spared-channel (latch-spares c.core (latch_written c.core.word c.core.c.latch b)) g s);
     port = λ a b phase. written c.core g s off a b;
   };
   write_begins = λ three ok. kept refl;

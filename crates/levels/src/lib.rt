@@ -1,6 +1,7 @@
 // Levels put on the pins from outside: a fall of STB offers a byte, and a fall of ACK hands one over. While STB is low, levels on the
 // port itself go through to its input latch.
 #![tactic(auto)]
+
 ghost use Rattle.std.specs.Prelude.{◌≡◌};
 ghost use Rattle.levels.specs.Levels.{fallen, strobed_with, acknowledged, edged, after_levels_on_c, lets_through, port_after_levels, after_levels};
 
@@ -9,6 +10,7 @@ use chip::{Core, Port, handshakes};
 use control::Group;
 
 // Whether the level of a pin falls as the byte before becomes the byte after.
+#[tactic(auto, unfolding(crate::specs::Levels::fallen))]
 fn falls(before: u8, after: u8, pin: u8) -> bool
     ensures { result ≡ fallen before after pin }
 {
@@ -34,6 +36,7 @@ fn acknowledge(channel: Channel, on: bool) -> Channel
 }
 
 // The port after its STB or its ACK fell, or both or neither.
+#[tactic(auto, unfolding(crate::specs::Levels::edged))]
 fn edges(mut port: Port, strobed: bool, taken: bool) -> Port
     ensures { result ≡ edged port strobed taken }
 {
@@ -43,6 +46,7 @@ fn edges(mut port: Port, strobed: bool, taken: bool) -> Port
 }
 
 // The levels of port C: its falling edges act on both ports. The fall of group B's line is either edge.
+#[tactic(auto, unfolding(crate::specs::Levels::after_levels_on_c))]
 fn lines(mut core: Core, levels: u8) -> Core
     ensures { result ≡ after_levels_on_c core levels }
 {
@@ -72,6 +76,7 @@ fn lets_through(core: Core, group: Group) -> bool
 }
 
 // The port after new levels on its own lines, whether or not they go through to its input latch.
+#[tactic(auto, unfolding(crate::specs::Levels::port_after_levels))]
 fn put(mut port: Port, through: bool, levels: u8) -> Port
     ensures { result ≡ port_after_levels port through levels }
 {
@@ -81,6 +86,7 @@ fn put(mut port: Port, through: bool, levels: u8) -> Port
 }
 
 // The outside levels of a port become these; on a number that is no port nothing happens.
+#[tactic(auto, unfolding(crate::specs::Levels::after_levels))]
 pub fn set(mut core: Core, port: u8, levels: u8) -> Core
     ensures { result ≡ after_levels core port levels }
 {

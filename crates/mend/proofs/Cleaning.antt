@@ -43,15 +43,7 @@ module _ (line : List ℕ) where
   pub fit_length : is_frame (mended line) ≡ true → length (clean_line line) ≡ length (without_cr line) + 1
   fit_length is = ap length (of-a-fit is) ∙ length-append (mended line) (lf ∷ []) ∙ ap (λ n. n + 1) (mended-length line)
 
-  -- Nothing of it is put there.
-  pub nothing_put : (out : List ℕ) → length (clean_line line) ≡ 0 → out ≡ in_front (clean_line line) out
-  nothing_put out = go (clean_line line)
-    where
-      go : (bytes : List ℕ) → length bytes ≡ 0 → out ≡ in_front bytes out
-      go [] none = refl
-      go (b ∷ bytes) none = absurd (omega (arith, none))
-
-  -- Its bytes are, raised, and LF.
+  -- What is put of it: its bytes, raised, and LF.
   pub fit-if-any : ¬ (length (clean_line line) ≡ 0) → is_frame (mended line) ≡ true
   fit-if-any some = go (is_frame (mended line)) refl
     where

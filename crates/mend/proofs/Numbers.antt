@@ -1,4 +1,4 @@
--- What a call comes to, test by test, and what it leaves by its number.
+-- What a call comes to, answers and leaves, by its number.
 -- Rests on nothing.
 use mathlib.Core.Path.{◌≡◌, ◌∙◌, refl, ap}
 use mathlib.Core.Bool.{Bool, true, false, cond, ◌||◌}
@@ -7,13 +7,13 @@ use Prim.Native.Nat.{ℕ, zero, suc, ◌+◌, ◌*◌, ◌/◌, ◌%◌, ◌<◌
 use native.Mathlib.Omega.{arith}
 use lib.Dec.{ltb}
 use lib.ListN.{length, length-map}
-use borrow.Author.Tests.{lt-ltb, le-ltb, ltb-false, eq-eqb, ne_eqb}
+use borrow.Author.Tests.{ltb-false, eq-eqb, ne_eqb}
 use Rattle.bits.proofs.Logic.{neither, by-test}
 use Rattle.text.specs.Lines.{lines_of, line_count}
 use Rattle.script.specs.Run.{longest_script, too_long, too_long_number, no_room_number}
 use Rattle.mend.specs.declared.Outcome.{Outcome}
 use Rattle.mend.specs.Line.{sign_of}
-use Rattle.mend.specs.Mend.{clean_of, report_of, mend_number, refused_by, accepted, outcome_by, outcome_of, packed, mend_answer, in_front, clean_left, report_left}
+use Rattle.mend.specs.Mend.{clean_of, report_of, mend_number, accepted, outcome_by, outcome_of, packed, mend_answer, in_front, clean_left, report_left}
 
 -- The report has as many signs as there are lines.
 pub signs-counted : (text : List ℕ) → length (report_of text) ≡ line_count text
@@ -28,26 +28,6 @@ pub record Accepted (text : List ℕ) (clean_room report_room : ℕ) : Type 0 wh
   pub report_fits : line_count text ≤ report_room
 
 module _ (text : List ℕ) (clean_room report_room : ℕ) where
-  pub too-long : longest_script < length text → refused_by too_long_number ≡ outcome_of text clean_room report_room
-  unfolding mend_number
-  too-long long = rw (lt-ltb _ _ long)
-
-  pub clean-too-long : length text ≤ longest_script → longest_script < length (clean_of text)
-      → refused_by too_long_number ≡ outcome_of text clean_room report_room
-  unfolding mend_number
-  clean-too-long short long = rw (le-ltb _ _ short, lt-ltb _ _ long)
-
-  module _ (short : length text ≤ longest_script) (short_clean : length (clean_of text) ≤ longest_script) where
-    pub no-room : (ltb clean_room (length (clean_of text)) || ltb report_room (line_count text)) ≡ true
-        → refused_by no_room_number ≡ outcome_of text clean_room report_room
-    unfolding mend_number
-    no-room less = rw (le-ltb _ _ short, le-ltb _ _ short_clean, less)
-
-    pub is-accepted : (ltb clean_room (length (clean_of text)) || ltb report_room (line_count text)) ≡ false
-        → accepted text ≡ outcome_of text clean_room report_room
-    unfolding mend_number
-    is-accepted enough = rw (le-ltb _ _ short, le-ltb _ _ short_clean, enough)
-
   pub number_is : (outcome_of text clean_room report_room).number ≡ mend_number text clean_room report_room
   number_is = go (mend_number text clean_room report_room)
     where

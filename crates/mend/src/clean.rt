@@ -7,6 +7,7 @@ use super::line;
 use text::lines;
 
 // How many bytes the clean script has of a line: its own and LF where it is fit, and else none.
+#[tactic(auto, unfolding(crate::specs::Line::clean_line))]
 fn length_of(line: &[u8]) -> usize
     ensures { result ≡ length (clean_line line.now) }
 {
@@ -18,6 +19,7 @@ fn length_of(line: &[u8]) -> usize
 }
 
 // How many bytes the clean script has.
+#[tactic(auto, unfolding(crate::specs::Mend::clean_of))]
 pub(super) fn length(text: &[u8]) -> usize
     ensures { result ≡ length (clean_of text.now) }
 {
@@ -32,6 +34,7 @@ pub(super) fn length(text: &[u8]) -> usize
 }
 
 // Puts what the clean script has of a line at the start of an output; how many bytes that is.
+#[tactic(auto, unfolding(crate::specs::Line::clean_line))]
 fn put_line(out: &mut [u8], line: &[u8]) -> usize
     requires { length (clean_line line.now) ≤ length out.old }
     ensures value { result ≡ length (clean_line line.now) }
@@ -47,6 +50,7 @@ fn put_line(out: &mut [u8], line: &[u8]) -> usize
 }
 
 // Writes the clean script to the front of an output, each line from where the last one stopped.
+#[tactic(auto, unfolding(crate::specs::Mend::clean_of))]
 pub(super) fn write(text: &[u8], out: &mut [u8])
     requires { length (clean_of text.now) ≤ length out.old }
     ensures { out.new ≡ in_front (clean_of text.now) out.old }

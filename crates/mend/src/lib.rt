@@ -1,6 +1,7 @@
 // Mending a captured script: a clean script is made of its lines, and a report has a sign for each of them. include/towanchor.h declares
 // towanchor_mend.
 #![tactic(auto)]
+
 ghost use Rattle.std.specs.Prelude.{◌≡◌, length};
 ghost use Rattle.mend.specs.Mend.{refused_by, outcome_of, mend_answer, clean_left, report_left};
 
@@ -32,6 +33,7 @@ fn refuse(number: u8) -> Outcome
 }
 
 // What a call comes to, by the text and by the room that each output has.
+#[tactic(auto, unfolding(crate::specs::Mend::mend_number, crate::specs::Mend::report_of))]
 fn judge(text: &[u8], clean: usize, report: usize) -> Outcome
     ensures { result ≡ outcome_of text.now clean report }
 {
@@ -55,6 +57,7 @@ fn judge(text: &[u8], clean: usize, report: usize) -> Outcome
 
 // Writes the clean script and the report to the front of their outputs, and gives both lengths above the number. A refused call writes nothing.
 #[unsafe(no_mangle)]
+#[tactic(auto, unfolding(crate::specs::Mend::mend_answer, crate::specs::Mend::clean_left, crate::specs::Mend::report_left, crate::specs::Mend::mend_number))]
 pub extern "C" fn towanchor_mend(text: &[u8], clean: &mut [u8], report: &mut [u8]) -> u64
     ensures value { result ≡ mend_answer text.now (length clean.old) (length report.old) }
     ensures clean_after { clean.new ≡ clean_left text.now clean.old report.old }

@@ -26,6 +26,7 @@ const BLANK: u8 = b'B';
 const UNFIT: u8 = b'U';
 
 // The capital of a small digit; any other code is as it was.
+#[tactic(auto, unfolding(crate::specs::Line::raised))]
 fn raise(code: u8) -> u8
     ensures { result ≡ raised code }
 {
@@ -37,6 +38,7 @@ fn raise(code: u8) -> u8
 }
 
 // How many bytes of a line are left without the CR at its end.
+#[tactic(auto, unfolding(crate::specs::Line::without_cr))]
 pub(super) fn width(line: &[u8]) -> usize
     ensures { result ≡ length (without_cr line.now) }
 {
@@ -55,12 +57,10 @@ pub(super) fn put(out: &mut [u8], bytes: &[u8])
     requires { length bytes.now < length out.old }
     ensures { out.new ≡ map raised bytes.now ++ lf ∷ drop (suc (length bytes.now)) out.old }
 {
-    let mut at = 0;
-    while at < bytes.len() {
+    for at in 0..bytes.len() {
         out[at] = raise(bytes[at]);
-        at = at + 1;
     }
-    out[at] = LF;
+    out[bytes.len()] = LF;
 }
 
 fn is_event(frame: Frame) -> bool
@@ -73,6 +73,7 @@ fn is_event(frame: Frame) -> bool
 }
 
 // Whether a line is a frame when it is mended: it is read from a room that has just the longest one and its LF.
+#[tactic(auto, unfolding(text::specs::Frames::is_frame, crate::specs::Line::mended))]
 pub(super) fn is_fit(line: &[u8]) -> bool
     ensures { result ≡ is_frame (mended line.now) }
 {
@@ -86,6 +87,7 @@ pub(super) fn is_fit(line: &[u8]) -> bool
 }
 
 // The sign of the line between two places of a text. It is kept just where it is a frame as it stands.
+#[tactic(auto, unfolding(crate::specs::Line::sign_of))]
 pub(super) fn sign(text: &[u8], start: usize, end: usize) -> u8
     requires start_le_end { start ≤ end }
     requires end_in_bounds { end ≤ length text.now }

@@ -85,7 +85,8 @@ spelled over done = refl
 spelled over cr-left = refl
 spelled (digit first all) (next {b} stands done) = rw (no-cr first b stands) (ap (λ c. c ∷ []) (digit-raised first b stands))
 spelled (digit first all) (next {b} stands cr-left) = ap (λ c. c ∷ []) (digit-raised first b stands)
-spelled (digit first all) (next {b} stands (next also rest)) = λ i. digit-raised first b stands i ∷ spelled all (next also rest) i
+spelled (digit first all) (next {b} stands (next {b = d} {bs = bs} also rest)) =
+    λ i. digit-raised first b stands i ∷ spelled {bs = d ∷ bs} all (next also rest) i
 
 pub spells-mended : (bs : List ℕ) → Spells bs (mended bs)
 unfolding without_cr mended

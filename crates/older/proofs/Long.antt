@@ -11,6 +11,6 @@ use Rattle.bits.proofs.Logic.{both}
 use Rattle.older.specs.Places as places
 use Rattle.older.specs.Good.{bytes_fit, is_older}
 
-pub is-long : (l : List ℕ) → is_older l ≡ true → length l ≡ places.length
+pub is_long : (l : List ℕ) → is_older l ≡ true → length l ≡ places.length
 unfolding is_older
-is-long l good = eqb-true _ _ (both (eqb (length l) places.length) (bytes_fit l) good).0
+is_long l good = eqb-true _ _ (both (eqb (length l) places.length) (bytes_fit l) good).0

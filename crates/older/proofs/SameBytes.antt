@@ -18,7 +18,7 @@ use Rattle.older.specs.Places as places
 use Rattle.older.specs.Layout.{bus_byte, address_byte, older_of}
 use Rattle.older.specs.Loaded.{channel_tally, core_byte, phase_as, older_state}
 use Rattle.older.specs.Good.{cycle_fits, unused_zero, bytes_fit, is_older}
-use Rattle.older.proofs.Long.{is-long}
+use Rattle.older.proofs.Long.{is_long}
 
 -- The three bytes of the bus.
 abbrev bus_again : ℕ → ℕ → ℕ → List ℕ
@@ -53,4 +53,4 @@ same-bytes l bytes good =
     ++ same-core (core_byte l) (channel_tally l) fits.1 i
     ++ same-bus (byte_at l places.bus) (byte_at l places.address) (byte_at l places.written) rest.0 i
     ++ same-zeros (from (byte_at l) places.unused (places.length - places.unused)) fits.0 i)
-    ∙ spelled l places.length (is-long l good)
+    ∙ spelled l places.length (is_long l good)

@@ -1,6 +1,7 @@
 // A chip in 64 bytes, as earlier versions saved it: whether bytes are such an image (good), and the image that they become
 // (convert). Nothing is saved so any more. All but the bus is put where an image of today has it, and is then the crate image's to judge.
 #![tactic(auto)]
+
 ghost use Rattle.std.specs.Prelude.{◌≡◌, ◌+◌, ◌-◌, ◌≤◌, length, take, drop};
 ghost use Rattle.std.proofs.lemmas.List.Edits.{sets};
 ghost use Rattle.older.specs.Places as places;
@@ -16,16 +17,18 @@ use image::places as now;
 use places::{ADDRESS, BUS, CHANNEL_TALLIES, LENGTH, LEVELS_A, TALLIES, UNUSED, WRITTEN};
 
 fn put(moved: &mut [u8], at: usize, older: &[u8], from: usize, end: usize)
-    requires { (from ≤ end) × (end ≤ length (now older)) × (at + (end - from) ≤ length (now moved)) }
-    ensures { now moved.exit ≡ sets (now moved.entry) at (take (end - from) (drop from (now older.entry))) }
+    requires in_order { from ≤ end }
+    requires in_older { end ≤ length older.now }
+    requires in_moved { at + (end - from) ≤ length moved.old }
+    ensures { moved.new ≡ sets moved.old at (take (end - from) (drop from older.now)) }
 {
-    bytes::copy(&older[from..end], &mut moved[at..]);
+    moved[at..at + (end - from)].copy_from_slice(&older[from..end]);
 }
 
 // The bytes at the places of an image of the older edition, on an idle bus. The two tallies that an older image lacks are 0.
 fn moved(older: &[u8]) -> [u8; now::LENGTH]
-    requires { length (now older) ≡ places.length }
-    ensures { result ≡ moved_of (now older.entry) }
+    requires { length older.now ≡ places.length }
+    ensures { result ≡ moved_of older.now }
 {
     let mut moved = [0u8; now::LENGTH];
     moved[now::BUS] = now::IDLE;
@@ -69,16 +72,17 @@ fn cycle(bus: u8, address: u8, written: u8) -> bool
 }
 
 fn fits(image: &[u8]) -> bool
-    requires { length (now image) ≡ places.length }
-    ensures { result ≡ bytes_fit (now image.entry) }
+    requires { length image.now ≡ places.length }
+    ensures { result ≡ bytes_fit image.now }
 {
     let moved = moved(image);
     cycle(image[BUS], image[ADDRESS], image[WRITTEN]) & image::check::good(&moved)
 }
 
 // Whether the bytes are an older image of a state. Those of another length are none.
+#[tactic(auto, unfolding(crate::specs::Good::is_older))]
 pub fn good(image: &[u8]) -> bool
-    ensures { result ≡ is_older (now image.entry) }
+    ensures { result ≡ is_older image.now }
 {
     if image.len() != LENGTH {
         return false;
@@ -97,19 +101,21 @@ fn phase(bus: u8, address: u8, written: u8) -> Phase
 }
 
 fn whole(older: &[u8], image: &mut [u8])
-    requires { (length (now older) ≡ places.length) × (length (now image) ≡ now.length) }
-    ensures { now image.exit ≡ converted_of (now older.entry) }
+    requires older_len { length older.now ≡ places.length }
+    requires image_len { length image.old ≡ now.length }
+    ensures { image.new ≡ converted_of older.now }
 {
     let moved = moved(older);
     let phase = phase(older[BUS], older[ADDRESS], older[WRITTEN]);
-    bytes::copy(&moved, image);
+    image.copy_from_slice(&moved);
     image::save::bus(image, phase);
 }
 
 // The image that the bytes become, written over those of image; of an older image it is the image of the same state. Where there are more
 // or fewer bytes than an older image has, or an image, nothing is written.
+#[tactic(auto, unfolding(crate::specs::Slices::converted_in))]
 pub fn convert(older: &[u8], image: &mut [u8])
-    ensures { now image.exit ≡ converted_in (now older.entry) (now image.entry) }
+    ensures { image.new ≡ converted_in older.now image.old }
 {
     if (older.len() == LENGTH) & (image.len() == now::LENGTH) {
         whole(older, image);

@@ -1,5 +1,6 @@
 // What the processor reads of a port, and what the outside sees of it.
 #![tactic(auto)]
+
 pub mod read;
 pub mod view;
 

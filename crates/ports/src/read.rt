@@ -5,6 +5,7 @@ ghost use Rattle.ports.specs.Reads.{read_port, read_lines, read_control, read_of
 use chip::{Chip, Port};
 use control::Group;
 
+#[tactic(auto, unfolding(crate::specs::Reads::read_port))]
 fn port(word: u8, group: Group, port: Port) -> u8
     ensures { result ≡ read_port word group port }
 {
@@ -32,6 +33,7 @@ fn lines(chip: Chip) -> u8
 // The bit that makes a word for control a mode word. It is set in what is read back.
 const MODE_BIT: u8 = 7;
 
+#[tactic(auto, unfolding(crate::specs::Reads::read_control))]
 fn control(word: u8) -> u8
     ensures { result ≡ read_control word }
 {
@@ -39,6 +41,7 @@ fn control(word: u8) -> u8
 }
 
 // What a read at the address answers: one of the ports A, B and C, or control, and 00 where there is neither.
+#[tactic(auto, unfolding(crate::specs::Reads::read_of))]
 pub fn value(chip: Chip, address: u8) -> u8
     ensures { result ≡ read_of chip address }
 {

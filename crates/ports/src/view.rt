@@ -11,6 +11,7 @@ use control::Group;
 const SIGNALS: u8 = !(1 << STB_A | 1 << ACK_A | 1 << LINE_B);
 
 // Whether the chip drives port A or B.
+#[tactic(auto, unfolding(crate::specs::Pins::drives_port))]
 fn drives(core: Core, group: Group) -> bool
     ensures { result ≡ drives_port core group }
 {
@@ -26,6 +27,7 @@ fn drives(core: Core, group: Group) -> bool
     }
 }
 
+#[tactic(auto, unfolding(crate::specs::Pins::pins_of_port))]
 fn port(port: Port, driven: bool) -> Pins
     ensures { result ≡ pins_of_port port driven }
 {
@@ -50,6 +52,7 @@ fn lines(chip: Chip) -> Pins
 }
 
 // The pins of a port. There are no ports but A, B and C: the levels of another are 00, and none is driven.
+#[tactic(auto, unfolding(crate::specs::Pins::pins_of))]
 pub fn pins(chip: Chip, port: u8) -> Pins
     ensures { result ≡ pins_of chip port }
 {

@@ -21,20 +21,6 @@ pub place-below : (count place : ℕ) → is_place count place ≡ true → plac
 unfolding is_place
 place-below count place e = ltb-true _ _ (both (ltb place count) (ltb place most_cards) e).1
 
--- Behind the base, an address is the card's where its distance is below the card's width.
-pub within : (base address : ℕ) → base ≤ address → ltb (address - base) card_width ≡ answers_at base address
-unfolding answers_at
-within base address h = rw (le-leb base address h) (go (ltb (address - base) card_width) refl)
-  where
-    go : (t : Bool) → ltb (address - base) card_width ≡ t → ltb (address - base) card_width ≡ ltb address (base + card_width)
-    go true e = e ∙ sym (lt-ltb address (base + card_width) (omega (arith, h, ltb-true (address - base) card_width e)))
-    go false e = e ∙ sym (le-ltb address (base + card_width) (omega (arith, h, ltb-false (address - base) card_width e)))
-
--- Before it, no address is.
-pub before : (base address : ℕ) → address < base → answers_at base address ≡ false
-unfolding answers_at
-before base address h = rw (lt-leb base address h)
-
 -- Where it answers, the address is not before the base.
 pub not-before : (base address : ℕ) → answers_at base address ≡ true → base ≤ address
 unfolding answers_at

@@ -8,7 +8,7 @@ ghost use Rattle.rack.specs.State.{number_at};
 ghost use Rattle.rack.specs.Step.{runs_at, reached_by, aim_of, core_reset, device, byte_of, as_stepped, step_of};
 
 use super::targets::Target;
-use super::{Bus, CARD_EDITION, MOST_CARDS, NO_CARD, PLACES, Rack, targets, views};
+use super::{Bus, CARD_EDITION, NO_CARD, PLACES, Rack, targets, views};
 use bus::{ACCEPTED, Phase};
 use chip::{Chip, Core};
 
@@ -24,17 +24,13 @@ pub struct Stepped {
 fn reset(mut cores: [Core; 8]) -> [Core; 8]
     ensures { result ≡ map core_reset cores }
 {
-    let mut place = 0;
-    while place < MOST_CARDS {
-        let core = cores[place];
+    for core in &mut cores {
         let chip = step::kinds::reset(Chip {
             phase: Phase::Idle,
             edition: CARD_EDITION,
-            core,
+            core: *core,
         });
-        let core = chip.core;
-        cores[place] = core;
-        place = place + 1;
+        *core = chip.core;
     }
     cores
 }

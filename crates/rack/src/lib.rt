@@ -1,5 +1,6 @@
 // A rack of up to eight cards on one bus, and how it is built.
 #![tactic(auto)]
+
 ghost use Rattle.std.specs.Prelude.{◌≡◌, ◌++◌, ◌≤◌, ◌-◌, length, replicate};
 ghost use Rattle.rack.specs.Bases.{is_base, is_among, are_bases, makes_rack, most_cards};
 ghost use Rattle.rack.specs.State.{rack_of, built_of};
@@ -54,6 +55,7 @@ pub struct Built {
     pub rack: Rack,
 }
 
+#[tactic(auto, unfolding(crate::specs::Bases::is_base))]
 fn is_base(base: u16) -> bool
     ensures { result ≡ is_base base }
 {
@@ -64,32 +66,23 @@ fn is_base(base: u16) -> bool
 fn among(base: u16, bases: &[u16]) -> bool
     ensures { result ≡ is_among base bases.now }
 {
-    let mut at = 0;
-    while at < bases.len() {
-        if bases[at] == base {
-            return true;
-        }
-        at = at + 1;
-    }
-    false
+    bases.contains(&base)
 }
 
 // Whether each is a base, and none comes again behind itself.
+#[tactic(auto, unfolding(crate::specs::Bases::are_bases))]
 fn are_bases(bases: &[u16]) -> bool
     ensures { result ≡ are_bases bases.now }
 {
-    let mut at = 0;
-    while at < bases.len() {
-        let base = bases[at];
-        at = at + 1;
-        let again = among(base, &bases[at..]);
-        if !is_base(base) | again {
+    for (at, base) in bases.iter().enumerate() {
+        if !is_base(*base) | among(*base, &bases[at + 1..]) {
             return false;
         }
     }
     true
 }
 
+#[tactic(auto, unfolding(crate::specs::Bases::makes_rack))]
 fn makes_rack(bases: &[u16]) -> bool
     ensures { result ≡ makes_rack bases.now }
 {
@@ -105,15 +98,12 @@ fn in_places(bases: &[u16]) -> [u16; 8]
     ensures { result ≡ bases.now ++ replicate (most_cards - length bases.now) 0 }
 {
     let mut places = [0; 8];
-    let mut at = 0;
-    while at < bases.len() {
-        places[at] = bases[at];
-        at = at + 1;
-    }
+    places[..bases.len()].copy_from_slice(bases);
     places
 }
 
 // A rack of cards with these bases, each at its power-up.
+#[tactic(auto, unfolding(crate::specs::State::rack_of))]
 fn stand(bases: &[u16]) -> Rack
     requires { length bases.now ≤ most_cards }
     ensures { result ≡ rack_of bases.now }
@@ -133,6 +123,7 @@ fn stand(bases: &[u16]) -> Rack
 }
 
 // A rack of cards in the order of their bases. It is refused where two are equal, where a number is no base, and where there are too many.
+#[tactic(auto, unfolding(crate::specs::State::built_of, crate::specs::Bases::makes_rack))]
 pub fn build(bases: &[u16]) -> Built
     ensures { result ≡ built_of bases.now }
 {

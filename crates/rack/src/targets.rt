@@ -11,6 +11,7 @@ pub enum Target {
     At(u8, u8),
 }
 
+#[tactic(auto, unfolding(crate::specs::Targets::answers_at))]
 fn answers(base: u16, address: u16) -> bool
     ensures { result ≡ answers_at base address }
 {
@@ -24,21 +25,17 @@ fn answers(base: u16, address: u16) -> bool
 fn at_address(count: u8, bases: [u16; 8], address: u16) -> Target
     ensures { result ≡ target_from 0 (bases_in count bases) address }
 {
-    let mut place = 0u8;
-    while place < PLACES {
-        if count <= place {
-            break;
-        }
+    for place in 0..count.min(PLACES) {
         let base = bases[place as usize];
         if answers(base, address) {
             return Target::At(place, ((address - base) % REGISTERS) as u8);
         }
-        place = place + 1;
     }
     Target::NoCard
 }
 
 // Whether there is a card at the place.
+#[tactic(auto, unfolding(crate::specs::Targets::is_place))]
 pub(super) fn is_place(count: u8, place: u16) -> bool
     ensures { result ≡ is_place count place }
 {
@@ -46,6 +43,7 @@ pub(super) fn is_place(count: u8, place: u16) -> bool
 }
 
 // The card at the place, and its port.
+#[tactic(auto, unfolding(crate::specs::Targets::target_at, crate::specs::Targets::is_place))]
 fn at_place(count: u8, place: u16, port: u8) -> Target
     ensures { result ≡ target_at count place port }
 {
@@ -56,6 +54,7 @@ fn at_place(count: u8, place: u16, port: u8) -> Target
 }
 
 // What an event of the kind is for. A reset and an end name no card, and what is given for them is not asked.
+#[tactic(auto, unfolding(crate::specs::Targets::target_of))]
 pub(super) fn find(kind: u8, count: u8, bases: [u16; 8], first: u16, second: u8) -> Target
     ensures { result ≡ target_of count bases kind first second }
 {

@@ -74,6 +74,7 @@ pub(super) fn chip_of(phase: Phase, place: u8, core: Core) -> Chip
 }
 
 // The card at one of the eight places.
+#[tactic(auto, unfolding(crate::specs::State::chip_at))]
 fn chip_at(rack: Rack, place: u8) -> Chip
     requires { place < most_cards }
     ensures { result ≡ chip_at rack place }
@@ -85,6 +86,7 @@ fn chip_at(rack: Rack, place: u8) -> Chip
 }
 
 // The card at a place, taken out of the rack to be looked at.
+#[tactic(auto, unfolding(crate::specs::Views::card_of, crate::specs::Targets::is_place))]
 pub fn card_at(rack: Rack, place: u8) -> Card
     ensures { result ≡ card_of rack place }
 {
@@ -101,6 +103,7 @@ pub fn card_at(rack: Rack, place: u8) -> Card
 }
 
 // The pins of a port of the card at a place.
+#[tactic(auto, unfolding(crate::specs::Views::card_pins, crate::specs::Targets::is_place))]
 pub fn pins(rack: Rack, place: u8, port: u8) -> CardPins
     ensures { result ≡ card_pins rack place port }
 {
@@ -120,6 +123,7 @@ pub fn pins(rack: Rack, place: u8, port: u8) -> CardPins
 }
 
 // What became of the bytes offered to a channel of the card at a place, or planted in it.
+#[tactic(auto, unfolding(crate::specs::Views::card_tally, crate::specs::Targets::is_place))]
 pub fn tally(rack: Rack, place: u8, group: Group, side: Side) -> CardTally
     ensures { result ≡ card_tally rack place group side }
 {
@@ -144,6 +148,7 @@ pub fn tally(rack: Rack, place: u8, group: Group, side: Side) -> CardTally
 }
 
 // Why an INTR of the card at a place is low.
+#[tactic(auto, unfolding(crate::specs::Views::card_explained, crate::specs::Targets::is_place))]
 pub fn explain(rack: Rack, place: u8, group: u8) -> CardExplained
     ensures { result ≡ card_explained rack place group }
 {

@@ -19,19 +19,16 @@ fn start() -> Chip {
 }
 
 fn round(mut chip: Chip) -> Chip {
-    for i in 0..round::EVENTS {
-        let stepped = step::step(chip, round::KINDS[i], round::FIRSTS[i], round::BYTES[i]);
-        chip = stepped.chip;
+    for event in &round::EVENTS {
+        chip = step::step(chip, event.kind, event.first, event.byte).chip;
     }
     chip
 }
 
 fn handed(chip: Chip) -> Handed {
-    let digits = chip::channels::tally(chip, Group::A, Side::Input);
-    let signs = chip::channels::tally(chip, Group::B, Side::Output);
     Handed {
-        digits: digits.handed,
-        signs: signs.handed,
+        digits: chip::channels::tally(chip, Group::A, Side::Input).handed,
+        signs: chip::channels::tally(chip, Group::B, Side::Output).handed,
     }
 }
 

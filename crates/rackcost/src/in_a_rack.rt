@@ -1,6 +1,6 @@
 // The rounds on the last card of a rack of eight.
 use super::round;
-use super::round::Handed;
+use super::round::{Event, Handed};
 use channel::Side;
 use control::Group;
 use rack::{Rack, event, views};
@@ -31,44 +31,33 @@ fn start() -> Rack {
     stepped.rack
 }
 
-// The operands of a chip's event as those of the card's: an address in the rack, or the card's place and a port.
-fn first(kind: u8, first: u8) -> u16 {
-    if kind == events::OUTSIDE_LEVELS {
-        return LAST_PLACE as u16;
-    }
-    LAST_BASE + first as u16
-}
-
-fn second(kind: u8, first: u8, byte: u8) -> u8 {
-    if kind == events::OUTSIDE_LEVELS {
-        return first;
-    }
-    byte
+// The event of a chip as one of the card: its operands are an address in the rack, or the card's place and a port.
+fn happen(rack: Rack, event: Event) -> Rack {
+    let byte = event.byte;
+    let stepped = match event.kind {
+        events::OUTSIDE_LEVELS => {
+            event::step(rack, event.kind, LAST_PLACE as u16, event.first, byte)
+        }
+        _ => event::step(rack, event.kind, LAST_BASE + event.first as u16, byte, byte),
+    };
+    stepped.rack
 }
 
 fn round(mut rack: Rack) -> Rack {
-    for i in 0..round::EVENTS {
-        let kind = round::KINDS[i];
-        let named = round::FIRSTS[i];
-        let byte = round::BYTES[i];
-        let stepped = event::step(
-            rack,
-            kind,
-            first(kind, named),
-            second(kind, named, byte),
-            byte,
-        );
-        rack = stepped.rack;
+    for event in &round::EVENTS {
+        rack = happen(rack, *event);
     }
     rack
 }
 
 fn handed(rack: Rack) -> Handed {
-    let digits = views::tally(rack, LAST_PLACE, Group::A, Side::Input);
-    let signs = views::tally(rack, LAST_PLACE, Group::B, Side::Output);
     Handed {
-        digits: digits.tally.handed,
-        signs: signs.tally.handed,
+        digits: views::tally(rack, LAST_PLACE, Group::A, Side::Input)
+            .tally
+            .handed,
+        signs: views::tally(rack, LAST_PLACE, Group::B, Side::Output)
+            .tally
+            .handed,
     }
 }
 

@@ -7,14 +7,73 @@ pub(super) struct Handed {
     pub(super) signs: u16,
 }
 
-pub(super) const EVENTS: usize = 11;
+// An event of a chip: its kind, an address or a port, and a byte.
+#[derive(Clone, Copy)]
+pub(super) struct Event {
+    pub(super) kind: u8,
+    pub(super) first: u8,
+    pub(super) byte: u8,
+}
 
-// Levels on A, STB falls and rises, a read of A, a write to B, ACK falls and rises, a read of C: kinds, addresses or ports, and bytes.
-pub(super) const KINDS: [u8; 11] = [5, 5, 5, 1, 2, 3, 2, 5, 5, 1, 2];
-
-pub(super) const FIRSTS: [u8; 11] = [0, 2, 2, 0, 0, 1, 0, 2, 2, 2, 0];
-
-pub(super) const BYTES: [u8; 11] = [0x41, 0xef, 0xff, 0, 0, 0x54, 0, 0xfb, 0xff, 0, 0];
+pub(super) static EVENTS: [Event; 11] = [
+    // Levels on A, STB falls and rises, a read of A.
+    Event {
+        kind: 5,
+        first: 0,
+        byte: 0x41,
+    },
+    Event {
+        kind: 5,
+        first: 2,
+        byte: 0xef,
+    },
+    Event {
+        kind: 5,
+        first: 2,
+        byte: 0xff,
+    },
+    Event {
+        kind: 1,
+        first: 0,
+        byte: 0,
+    },
+    Event {
+        kind: 2,
+        first: 0,
+        byte: 0,
+    },
+    // A write to B, ACK falls and rises, a read of C.
+    Event {
+        kind: 3,
+        first: 1,
+        byte: 0x54,
+    },
+    Event {
+        kind: 2,
+        first: 0,
+        byte: 0,
+    },
+    Event {
+        kind: 5,
+        first: 2,
+        byte: 0xfb,
+    },
+    Event {
+        kind: 5,
+        first: 2,
+        byte: 0xff,
+    },
+    Event {
+        kind: 1,
+        first: 2,
+        byte: 0,
+    },
+    Event {
+        kind: 2,
+        first: 0,
+        byte: 0,
+    },
+];
 
 // A takes bytes by STB, and B gives them by ACK; and the lines are high.
 pub(super) const MODE_WORD: u8 = 0xb4;

@@ -1,9 +1,9 @@
 -- The output while lines are answered into it: each line changes it, and what it will hold at the end stays the same.
 -- Rests on script's Filling and on Cards.
-use mathlib.Core.Path.{◌≡◌, ◌∙◌, refl, ap, sym}
+use mathlib.Core.Path.{◌≡◌, ◌∙◌, ap, sym}
 use mathlib.Core.List.{List, [], ◌∷◌, ◌++◌, append_assoc}
 use Prim.Native.Nat.{ℕ, suc, ◌+◌, ◌*◌, ◌-◌, ◌≤◌}
-use native.Mathlib.Nat.{zero-add, add-zero, add_comm, mul-zero, mul-suc}
+use native.Mathlib.Nat.{add-zero, add_comm, mul-zero, mul-suc}
 use native.Mathlib.Omega.{arith}
 use lib.ListN.{length, take, drop, length-drop, take-append-drop}
 use borrow.Author.Rules.{part_to_end}
@@ -12,7 +12,7 @@ use Rattle.rack.specs.declared.event.Stepped.{Stepped}
 use Rattle.script.proofs.Filling.{back, back-front, back-behind, back-length}
 use Rattle.text.specs.Lines.{Line}
 use Rattle.rackscript.specs.Answers.{at_line, line_text, line_width, answers_from}
-use Rattle.rackscript.specs.Run.{room_for, filled}
+use Rattle.rackscript.specs.Run.{filled}
 use Rattle.rackscript.proofs.Cards.{count-stays, line-length}
 
 -- What the output will hold: what stands before `at`, the answers to the lines that are left, w bytes each, and what stands behind these.
@@ -27,16 +27,6 @@ pub record UnderWay (start : Rack) (all : List Line) (first out : List ℕ) (ls 
   pub long : length out ≡ length first
   pub room : at + w * length ls ≤ length out
   pub comes : to_come r ls w at out ≡ filled start all first
-
-pub starts : (start : Rack) (all : List Line) (out : List ℕ) (w : ℕ) → w ≡ line_width start.count → room_for start all ≤ length out
-    → UnderWay start all out out all start w 0
-starts start all out w is room = record {
-  wide = is;
-  cards = refl;
-  long = refl;
-  room = rw (is, zero-add (room_for start all)) room;
-  comes = rw (is, zero-add (room_for start all));
-}
 
 -- One more line, of w bytes.
 one-more : (w n : ℕ) → w * suc n ≡ w + w * n

@@ -38,11 +38,6 @@ pub record Showing (r : Rack) (first out : List ℕ) (at i : ℕ) : Type 0 where
   pub long : length out ≡ length first
   pub comes : sets out at (levels_from r i (r.count - i)) ≡ sets first front_digits (all_levels r)
 
-pub none-shown : (r : Rack) (out : List ℕ) → Showing r out out front_digits 0
-none-shown r out =
-    let all : r.count - 0 ≡ r.count = omega arith in
-    record { here = refl; among = omega arith; long = refl; comes = rw (all) }
-
 -- The card at a place that there is.
 card-there : (r : Rack) (i : ℕ) → i < r.count → r.count ≤ most_cards → (card_of r i).chip ≡ chip_at r i
 unfolding card_of is_place

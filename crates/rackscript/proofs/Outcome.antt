@@ -6,7 +6,7 @@ use Prim.Native.Nat.{ℕ, ◌≤◌, ◌<◌}
 use lib.ListN.{length}
 use borrow.Author.Tests.{lt-ltb, le-ltb, eq-eqb, ne_eqb}
 use Rattle.rack.specs.Bases.{bad_rack_number}
-use Rattle.script.specs.Run.{longest_script, too_long_number, no_room_number}
+use Rattle.script.specs.Run.{longest_script, no_room_number}
 use Rattle.text.specs.Lines.{lines_of}
 use Rattle.rackscript.specs.Bases.{rack_for}
 use Rattle.rackscript.specs.Run.{rack_named, to_answer, room_for_text, run_number, refused_run, accepted_run, ran_of, filled, output_left}
@@ -21,10 +21,6 @@ module _ (text out : List ℕ) where
   accepted is = (rw (is), rw (is))
 
 module _ (text : List ℕ) (room : ℕ) where
-  pub too-long : longest_script < length text → run_number text room ≡ too_long_number
-  unfolding run_number
-  too-long h = rw (lt-ltb longest_script (length text) h)
-
   module _ (h : length text ≤ longest_script) where
     pub no-rack : ¬ ((rack_for (lines_of text)).number ≡ 0) → run_number text room ≡ bad_rack_number
     unfolding run_number

@@ -31,9 +31,6 @@ pub record Placed (line places : List ℕ) (n : ℕ) : Type 0 where
   pub reached : base_digits * n < length line + base_digits
   pub comes : take n places ++ bases_of_line (drop (base_digits * n) line) ≡ bases_of_line line
 
-pub none_yet : (line places : List ℕ) → length places ≡ most_cards → Placed line places 0
-none_yet line places long = record { eight = long; reached = omega arith; comes = refl }
-
 module _ (line places : List ℕ) (n : ℕ) (few : length line ≤ base_digits * most_cards) (so : Placed line places n) where
   pub one-more : (b : ℕ) → base_digits * n < length line → b ≡ leading_base (drop (base_digits * n) line)
       → Placed line (set places n b) (n + 1)

@@ -22,6 +22,7 @@ struct Named {
 }
 
 // The number of four digits, by the bytes that two and two of them write.
+#[tactic(auto, unfolding(crate::specs::Bases::base_of))]
 fn base(high: u16, low: u16) -> u16
     ensures { result ≡ base_of high low }
 {
@@ -57,6 +58,7 @@ fn bases(line: &[u8]) -> Named
 }
 
 // What is no rack, as a building says it of a number that is no base.
+#[tactic(auto, unfolding(rack::specs::Bases::is_base, rack::specs::Bases::are_bases, rack::specs::Bases::makes_rack, rack::specs::State::built_of))]
 fn none() -> Built
     ensures { result ≡ no_rack }
 {

@@ -18,6 +18,7 @@ pub(super) enum RackFrame {
 }
 
 // How many bytes the operands of a kind have; none where there is no such kind.
+#[tactic(auto, unfolding(crate::specs::Frames::operand_bytes))]
 fn operand_bytes(kind: u16) -> u8
     ensures { result ≡ operand_bytes kind }
 {
@@ -31,6 +32,7 @@ fn operand_bytes(kind: u16) -> u8
 }
 
 // The event of a kind and the bytes behind it. The first two of a cycle are its address.
+#[tactic(auto, unfolding(crate::specs::Frames::event_of))]
 fn event(kind: u8, first: u8, second: u8, third: u8) -> RackFrame
     ensures { result ≡ event_of kind first second third }
 {
@@ -41,6 +43,7 @@ fn event(kind: u8, first: u8, second: u8, third: u8) -> RackFrame
 }
 
 // What a line says; its LF is not part of it.
+#[tactic(auto, unfolding(crate::specs::Frames::rack_frame_of, crate::specs::Frames::is_rack_frame))]
 fn frame(line: &[u8]) -> RackFrame
     ensures { result ≡ rack_frame_of line.now }
 {
@@ -49,14 +52,15 @@ fn frame(line: &[u8]) -> RackFrame
     let second = line::byte_at(line, 4);
     let third = line::byte_at(line, 6);
     let exact = line.len() == 2 + 2 * (operand_bytes(kind) as usize);
-    let known = events::is_kind(kind) & exact;
-    if known & (first < NO_BYTE) & (second < NO_BYTE) & (third < NO_BYTE) {
+    let known = events::is_kind(kind) && exact;
+    if known && first < NO_BYTE && second < NO_BYTE && third < NO_BYTE {
         return event(kind as u8, first as u8, second as u8, third as u8);
     }
     RackFrame::NoFrame
 }
 
 // What the line between two places says; nothing where the text ends there, and not the line.
+#[tactic(auto, unfolding(crate::specs::Frames::rack_frame_in))]
 pub(super) fn in_text(text: &[u8], start: usize, end: usize) -> RackFrame
     ensures { result ≡ rack_frame_in (line_between text.now start end) }
 {
@@ -70,6 +74,7 @@ pub(super) fn in_text(text: &[u8], start: usize, end: usize) -> RackFrame
 }
 
 // A frame is an event; what is no frame has the number of an event of no kind, and leaves the rack as it was.
+#[tactic(auto, unfolding(crate::specs::Answers::acted))]
 pub(super) fn act(rack: Rack, frame: RackFrame) -> Stepped
     ensures { result ≡ acted rack frame }
 {

@@ -1,5 +1,6 @@
 // The run of a rack's script: a text whose first line has the bases of the cards, and each further line a frame, which the rack answers.
 #![tactic(auto)]
+
 ghost use Rattle.std.specs.Prelude.{◌≡◌, ◌≤◌, length};
 ghost use Rattle.rack.specs.Bases.{most_cards};
 ghost use Rattle.text.specs.Lines.{lines_of};
@@ -55,6 +56,7 @@ fn answer_all(mut rack: Rack, text: &[u8], out: &mut [u8])
 }
 
 // Runs a text on the rack that its first line names, and leaves the output where the run is refused.
+#[tactic(auto, unfolding(crate::specs::Run::run_number))]
 pub fn run(text: &[u8], out: &mut [u8]) -> Ran
     ensures { (result ≡ ran_of text.now (length out.old)) × (out.new ≡ output_left text.now out.old) }
 {
@@ -67,13 +69,13 @@ pub fn run(text: &[u8], out: &mut [u8]) -> Ran
         return refuse(BAD_RACK);
     }
     let rack = built.rack;
-    let start = end + 1;
-    let lines = lines::count(&text[start..]);
+    let further = &text[end + 1..];
+    let lines = lines::count(further);
     let length = writer::width(rack.count) * lines;
     if out.len() < length {
         return refuse(NO_ROOM);
     }
-    answer_all(rack, &text[start..], out);
+    answer_all(rack, further, out);
     Ran {
         number: ACCEPTED,
         lines,

@@ -32,6 +32,7 @@ fn put(out: &mut [u8], at: usize, byte: u8)
 }
 
 // The levels of a card's three ports at that place.
+#[tactic(auto, unfolding(crate::specs::Answers::levels_text))]
 fn put_card(out: &mut [u8], at: usize, chip: Chip)
     requires { at + card_digits ≤ length out.old }
     ensures { out.new ≡ sets out.old at (levels_text chip) }
@@ -50,12 +51,10 @@ fn put_cards(out: &mut [u8], rack: Rack) -> usize
     ensures { (result ≡ front_digits + card_digits * rack.count) × (out.new ≡ sets out.old front_digits (all_levels rack)) }
 {
     let mut at = FRONT_DIGITS;
-    let mut place = 0;
-    while place < rack.count {
+    for place in 0..rack.count {
         let card = rack::views::card_at(rack, place);
         put_card(out, at, card.chip);
         at = at + CARD_DIGITS;
-        place = place + 1;
     }
     at
 }

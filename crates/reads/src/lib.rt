@@ -1,5 +1,6 @@
 // A read, which begins and ends: it hands over the byte of a strobed input, and then empties the channel.
 #![tactic(auto)]
+
 ghost use Rattle.std.specs.Prelude.{◌≡◌};
 ghost use Rattle.reads.specs.Read.{fetched_from, done_with, after_read_begins, after_read_ends};
 
@@ -24,6 +25,7 @@ fn finish(mut port: Port, strobed: bool) -> Port
 }
 
 // A read of the port begins.
+#[tactic(auto, unfolding(crate::specs::Read::after_read_begins))]
 pub fn begin(mut core: Core, port: u8) -> Core
     ensures { result ≡ after_read_begins core port }
 {
@@ -41,6 +43,7 @@ pub fn begin(mut core: Core, port: u8) -> Core
 }
 
 // A read of the port ends.
+#[tactic(auto, unfolding(crate::specs::Read::after_read_ends))]
 pub fn end(mut core: Core, port: u8) -> Core
     ensures { result ≡ after_read_ends core port }
 {

@@ -3,16 +3,16 @@
 use mathlib.Core.Path.{◌≡◌, ◌∙◌, refl, ap, sym}
 use mathlib.Core.List.{List, [], ◌∷◌, ◌++◌, append_assoc}
 use Prim.Native.Nat.{ℕ, suc, ◌+◌, ◌*◌, ◌-◌, ◌≤◌}
-use native.Mathlib.Nat.{zero-add, add-zero}
+use native.Mathlib.Nat.{add-zero}
 use native.Mathlib.Omega.{arith}
 use lib.ListN.{length, take, drop, length-drop, take-append-drop}
 use borrow.Author.Rules.{part_to_end}
-use Rattle.text.specs.Lines.{Line, lines_of}
+use Rattle.text.specs.Lines.{Line}
 use Rattle.script.specs.declared.Answerer.{Answerer}
 use Rattle.script.specs.declared.Acted.{Acted}
 use Rattle.script.specs.declared.Shown.{Shown}
 use Rattle.script.specs.Answers.{at_line, shown_after, line_text, answer_width, answers_from}
-use Rattle.script.specs.Run.{room_for, filled}
+use Rattle.script.specs.Run.{filled}
 use Rattle.script.proofs.Filling.{back, back-front, back-behind, back-length}
 
 pub line-length : (r : Shown) → length (line_text r) ≡ answer_width
@@ -42,13 +42,6 @@ pub record UnderWay (start : Answerer) (text first out : List ℕ) (ls : List Li
   pub long : length out ≡ length first
   pub room : at + answer_width * length ls ≤ length out
   pub comes : to_come m ls at out ≡ filled start text first
-
-pub starts : (start : Answerer) (text out : List ℕ) → room_for text ≤ length out → UnderWay start text out out (lines_of text) start 0
-starts start text out room = record {
-  long = refl;
-  room = omega (arith, room);
-  comes = rw (zero-add (room_for text));
-}
 
 -- A turn answers the line l, and there is room for that: s is what the answerer makes of it, and `part` is the part of the output that is
 -- lent, as it comes back.

@@ -1,29 +1,16 @@
--- The number of a run, test by test, and what a run gives back by its number.
+-- The number of a run by what it gives back, and the room that it says there is.
 -- Rests on nothing.
 use mathlib.Core.Path.{◌≡◌, ◌∙◌, refl, ap}
 use mathlib.Core.Bool.{Bool, true, false, cond}
 use mathlib.Core.List.{List}
-use Prim.Native.Nat.{ℕ, zero, suc, ◌<◌, ◌≤◌}
+use Prim.Native.Nat.{ℕ, zero, suc, ◌≤◌}
 use native.Mathlib.Omega.{arith}
 use lib.Dec.{ltb}
-use lib.ListN.{length}
-use borrow.Author.Tests.{lt-ltb, le-ltb, ltb-false, ne_eqb}
+use borrow.Author.Tests.{ltb-false, ne_eqb}
 use Rattle.script.specs.declared.Ran.{Ran}
-use Rattle.script.specs.Run.{longest_script, too_long, room_for, too_long_number, no_room_number, run_number, refused_run, accepted_run, ran_by, ran_of}
+use Rattle.script.specs.Run.{too_long, room_for, too_long_number, no_room_number, run_number, ran_by, ran_of}
 
 module _ (text : List ℕ) (room : ℕ) where
-  pub too-long : longest_script < length text → refused_run too_long_number ≡ ran_of text room
-  unfolding run_number
-  too-long h = rw (lt-ltb _ _ h)
-
-  pub no-room : length text ≤ longest_script → room < room_for text → refused_run no_room_number ≡ ran_of text room
-  unfolding run_number
-  no-room h l = rw (le-ltb _ _ h, lt-ltb _ _ l)
-
-  pub runs : length text ≤ longest_script → room_for text ≤ room → accepted_run text ≡ ran_of text room
-  unfolding run_number
-  runs h l = rw (le-ltb _ _ h, le-ltb _ _ l)
-
   -- The number that a run gives back is the run's.
   pub number-given : (r : Ran) → r ≡ ran_of text room → r.number ≡ run_number text room
   number-given r is = ap (λ (r : Ran). r.number) is ∙ go (run_number text room)

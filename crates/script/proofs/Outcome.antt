@@ -12,7 +12,7 @@ use Rattle.text.proofs.LineCount.{lines-at-most}
 use Rattle.script.specs.declared.Answerer.{Answerer}
 use Rattle.script.specs.declared.Ran.{Ran}
 use Rattle.script.specs.Answers.{answer_width, answers_of, answers_from}
-use Rattle.script.specs.Run.{longest_script, room_for, run_number, ran_of, filled, output_left}
+use Rattle.script.specs.Run.{longest_script, room_for, run_number, ran_of, output_left}
 use Rattle.script.proofs.Numbers.{number-given, has-room}
 use Rattle.script.proofs.Pieces.{answers-length}
 
@@ -21,10 +21,7 @@ module _ (m : Answerer) (text out : List ℕ) where
   pub refused-leaves : ¬ (run_number text (length out) ≡ 0) → output_left m text out ≡ out
   refused-leaves h = rw (ne_eqb _ _ h)
 
-  -- An accepted one fills it, and leaves every byte behind its answers.
-  pub accepted-fills : run_number text (length out) ≡ 0 → output_left m text out ≡ filled m text out
-  accepted-fills e = rw (e)
-
+  -- An accepted one leaves every byte behind its answers.
   pub behind-stays : run_number text (length out) ≡ 0 → drop (room_for text) (output_left m text out) ≡ drop (room_for text) out
   behind-stays e = rw (e) (drop_at (answers_of m text) (drop (room_for text) out) (room_for text) (answers-length m text))
 

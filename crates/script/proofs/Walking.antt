@@ -1,11 +1,11 @@
 -- A walk through the lines of a text: each line changes the chip and the count, and what they will be at the end stays the same.
 -- Rests on text's LineCount.
-use mathlib.Core.Path.{◌≡◌, refl}
+use mathlib.Core.Path.{◌≡◌}
 use mathlib.Core.Bool.{Bool, true, false, not}
 use mathlib.Core.List.{List, [], ◌∷◌}
 use Prim.Native.Nat.{ℕ, ◌+◌, ◌≤◌}
 use native.Mathlib.Omega.{arith}
-use native.Mathlib.Nat.{zero-add, add-zero}
+use native.Mathlib.Nat.{add-zero}
 use lib.Dec.{eqb}
 use lib.ListN.{length}
 use Rattle.bits.specs.Bit.{num}
@@ -19,9 +19,6 @@ use Rattle.script.specs.Left.{chip_met, chip_at_line, chip_after, refused_among,
 pub record Walking (text : List ℕ) (ls : List Line) (c : Chip) (n : ℕ) : Type 0 where
   pub leads : chip_after c ls ≡ chip_left text
   pub counts : n + refused_among c ls ≡ refused_among chip_met (lines_of text)
-
-pub sets-out : (text : List ℕ) → Walking text (lines_of text) chip_met 0
-sets-out text = record { leads = refl; counts = zero-add (refused_among chip_met (lines_of text)) }
 
 -- A turn takes the line l: s is what the chip makes of it, and k what it adds to the count.
 pub goes-on : (text : List ℕ) (l : Line) (ls : List Line) (c : Chip) (n : ℕ) (s : Stepped) (k : ℕ)

@@ -19,6 +19,7 @@ pub(super) fn start(device: Device) -> Answerer
 }
 
 // The 8355 does as the 8255A: a frame is an event, and what is no frame is refused.
+#[tactic(auto, unfolding(crate::specs::Answers::acted8355, crate::specs::Answers::acted_in, i8355::specs::Step::step_of))]
 fn act_8355(chip: Chip8355, frame: Frame) -> i8355::step::Stepped
     ensures { result ≡ acted8355 chip frame }
 {

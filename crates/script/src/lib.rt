@@ -1,5 +1,6 @@
 // The run of a script: a text of frames, one to a line, answered line by line by a device just powered up.
 #![tactic(auto)]
+
 ghost use Rattle.std.specs.Prelude.{◌≡◌, ◌≤◌, length};
 ghost use Rattle.script.specs.Answers.{at_start};
 ghost use Rattle.script.specs.Run.{room_for, refused_run, ran_of, filled, output_left};
@@ -73,6 +74,7 @@ fn refuse(number: u8) -> Ran
 }
 
 // What a run gives back, whoever answers: a text is refused where it is too long, and where the output has no room for the answers.
+#[tactic(auto, unfolding(crate::specs::Run::run_number))]
 fn judge(text: &[u8], room: usize) -> Ran
     ensures { result ≡ ran_of text.now room }
 {

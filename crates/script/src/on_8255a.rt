@@ -22,6 +22,7 @@ pub(super) fn chip_at_start(edition: Edition) -> Chip
 }
 
 // A frame is an event; what is no frame has the number of an event of no kind, and leaves the chip as it was.
+#[tactic(auto, unfolding(crate::specs::Answers::acted, crate::specs::Answers::acted_in, step::specs::Step::step_of))]
 pub(super) fn act(chip: Chip, frame: Frame) -> Stepped
     ensures { result ≡ acted chip frame }
 {

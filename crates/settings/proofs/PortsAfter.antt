@@ -1,10 +1,8 @@
 -- What a mode word or a reset makes of each channel and of its surroundings, and what bit set/reset does.
 -- Rests on Flags, and on chip's Surrounded and OneChannel.
-use mathlib.Core.Path.{◌≡◌, ◌∙◌, refl, ap}
-use mathlib.Core.Bool.{Bool, true, false, cond, and-true, and-false}
-use Prim.Native.Nat.{ℕ, ◌/◌, ◌%◌, ◌<◌}
-use native.Mathlib.Omega.{arith}
-use Rattle.bits.specs.Bit.{bit_of}
+use Rattle.std.proofs.Common.{arith, ◌≡◌, ◌∙◌, refl, ap, Bool, true, false, cond, ℕ, ◌/◌, ◌%◌, ◌<◌}
+use mathlib.Core.Bool.{and-true, and-false}
+use Rattle.bits.specs.Bit.{bit_of, with_bit}
 use Rattle.control.specs.declared.Group.{Group}
 use Rattle.control.specs.declared.Group.TheVariants.{A, B}
 use Rattle.control.specs.Word.{control_of}
@@ -18,7 +16,7 @@ use Rattle.chip.specs.Handshakes.{group_at}
 use Rattle.chip.proofs.Surrounded.{Surrounded, spares-itself, latch-spares, enables-spare, spared-channel, spared-surrounded}
 use Rattle.chip.proofs.OneChannel.{same_group, one-channel, channel-surrounded}
 use Rattle.settings.specs.ModeWord.{cleared_port, after_mode_word}
-use Rattle.settings.specs.ControlWord.{set_as, pin_set, after_control_word}
+use Rattle.settings.specs.ControlWord.{enabled, set_as, pin_set, after_control_word}
 use Rattle.settings.proofs.Flags.{is_flag_of, flag_at_pin, flag-by-role}
 
 module _ (c : Core) (w : ℕ) where
@@ -72,18 +70,18 @@ module _ (c : Core) (n : ℕ) (v : Bool) where
   set-channel : (r : Role) (g : Group) (s : Side) → Forced r g s
   set-channel input g Input = refl
   set-channel input g Output = refl
-  set-channel output g Input = spared-channel (latch-spares c _) g Input
-  set-channel output g Output = spared-channel (latch-spares c _) g Output
+  set-channel output g Input = spared-channel (latch-spares c (with_bit c.c.latch n v)) g Input
+  set-channel output g Output = spared-channel (latch-spares c (with_bit c.c.latch n v)) g Output
   set-channel INTR g Input = refl
   set-channel INTR g Output = refl
   set-channel IBF g Input = rw (one-channel c (λ s. after_force s v) (group_at n) g Input Input, and-true (same_group (group_at n) g))
   set-channel IBF g Output = rw (one-channel c (λ s. after_force s v) (group_at n) g Input Output, and-false (same_group (group_at n) g))
   set-channel OBF g Input = rw (one-channel c (λ s. after_force s v) (group_at n) g Output Input, and-false (same_group (group_at n) g))
   set-channel OBF g Output = rw (one-channel c (λ s. after_force s v) (group_at n) g Output Output, and-true (same_group (group_at n) g))
-  set-channel STB g Input = spared-channel (enables-spare c _) g Input
-  set-channel STB g Output = spared-channel (enables-spare c _) g Output
-  set-channel ACK g Input = spared-channel (enables-spare c _) g Input
-  set-channel ACK g Output = spared-channel (enables-spare c _) g Output
+  set-channel STB g Input = spared-channel (enables-spare c (enabled c.inte (group_at n) Input v)) g Input
+  set-channel STB g Output = spared-channel (enables-spare c (enabled c.inte (group_at n) Input v)) g Output
+  set-channel ACK g Input = spared-channel (enables-spare c (enabled c.inte (group_at n) Output v)) g Input
+  set-channel ACK g Output = spared-channel (enables-spare c (enabled c.inte (group_at n) Output v)) g Output
 
   set-surrounded : (r : Role) → Surrounded (set_as c n v r) c
   set-surrounded input = spared-surrounded (spares-itself c)

@@ -1,5 +1,6 @@
 // What the control address sets: a mode word, which makes the chip anew, and one pin of port C, which may be a channel's flag.
 #![tactic(auto)]
+
 ghost use Rattle.std.specs.Prelude.{◌≡◌, ◌<◌, cond};
 ghost use Rattle.settings.specs.ModeWord.{cleared_port, after_mode_word};
 ghost use Rattle.settings.specs.ControlWord.{set_as, pin_set, after_control_word};
@@ -16,6 +17,7 @@ use chip::{Core, Enables, Port};
 use control::Group;
 use control::word::Control;
 
+#[tactic(auto, unfolding(crate::specs::ModeWord::cleared_port))]
 fn clear(mut port: Port) -> Port
     ensures { result ≡ cleared_port port }
 {
@@ -25,6 +27,7 @@ fn clear(mut port: Port) -> Port
 }
 
 // The chip under a new mode word: latches and enables zero, channels empty. The outside levels stay.
+#[tactic(auto, unfolding(crate::specs::ModeWord::after_mode_word))]
 pub fn renew(mut core: Core, word: u8) -> Core
     ensures { result ≡ after_mode_word core word }
 {
@@ -118,6 +121,7 @@ fn set_pin(mut core: Core, pin: u8, on: bool) -> Core
 }
 
 // The end of a write to the control address.
+#[tactic(auto, unfolding(crate::specs::ControlWord::after_control_word))]
 pub fn command(core: Core, byte: u8) -> Core
     ensures { result ≡ after_control_word core byte }
 {

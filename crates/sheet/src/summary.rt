@@ -1,13 +1,32 @@
 // The summary of port C's pins by mode. Each cell is gathered from what the lookup answers for every word that it speaks of; which
 // words those are is plain arithmetic here, apart from the model's own decoding.
-use super::print;
+use std::io;
 
-// What a cell can say beside the roles 2 to 6: a free pin, nothing yet, or answers that do not agree.
-const FREE: u8 = 10;
+// The sheet's columns: mode 0 in and out, mode 1 in and out, mode 2.
+#[derive(Clone, Copy, PartialEq, Eq)]
+enum Column {
+    Mode0In,
+    Mode0Out,
+    Mode1In,
+    Mode1Out,
+    Mode2,
+}
 
-const NOTHING: u8 = 11;
+const COLUMNS: [Column; 5] = [
+    Column::Mode0In,
+    Column::Mode0Out,
+    Column::Mode1In,
+    Column::Mode1Out,
+    Column::Mode2,
+];
 
-const MIXED: u8 = 12;
+// What a cell says: a role from 2 to 6, by its number, a free pin, or answers that do not agree.
+#[derive(Clone, Copy, PartialEq, Eq)]
+enum Entry {
+    Role(u8),
+    Free,
+    Mixed,
+}
 
 fn half_is_input(word: u8, pin: u8) -> bool {
     if pin < 4 {
@@ -17,97 +36,85 @@ fn half_is_input(word: u8, pin: u8) -> bool {
     }
 }
 
-// The sheet's column for the pin's group under the word: mode 0 in and out, mode 1 in and out, mode 2.
-fn column_of(word: u8, pin: u8) -> u8 {
+// The sheet's column for the pin's group under the word.
+fn column_of(word: u8, pin: u8) -> Column {
+    let half = half_is_input(word, pin);
     if pin < 3 {
-        return column(word / 4 % 2, word / 2 % 2 == 1, half_is_input(word, pin));
+        return column_in(word / 4 % 2, word / 2 % 2 == 1, half);
     }
     if word / 64 % 2 == 1 {
-        return 4;
+        return Column::Mode2;
     }
-    column(word / 32 % 2, word / 16 % 2 == 1, half_is_input(word, pin))
+    column_in(word / 32 % 2, word / 16 % 2 == 1, half)
 }
 
-fn column(mode: u8, input: bool, half: bool) -> u8 {
-    if mode == 0 {
-        return if half { 0 } else { 1 };
+fn column_in(mode: u8, input: bool, half: bool) -> Column {
+    match (mode, input, half) {
+        (0, _, true) => Column::Mode0In,
+        (0, _, false) => Column::Mode0Out,
+        (_, true, _) => Column::Mode1In,
+        (_, false, _) => Column::Mode1Out,
     }
-    if input { 2 } else { 3 }
 }
 
 // Group B has no mode 2: in that column the sheet shows its pins as group A's mode 2 leaves them.
-fn speaks_of(column: u8, word: u8, pin: u8) -> bool {
-    if (column == 4) & (pin < 3) {
-        return (word / 64 % 2 == 1) & (word / 4 % 2 == 0);
+fn speaks_of(column: Column, word: u8, pin: u8) -> bool {
+    if column == Column::Mode2 && pin < 3 {
+        return word / 64 % 2 == 1 && word / 4 % 2 == 0;
     }
     column_of(word, pin) == column
 }
 
 // The entry of a cell for a word: the answer as the sheet would name it. A free pin has to follow the direction of its half.
-fn entry(word: u8, pin: u8) -> u8 {
-    let role = lookup::role(word, pin);
-    if 1 < role {
-        return role;
-    }
-    if half_is_input(word, pin) {
-        return if role == 0 { FREE } else { MIXED };
-    }
-    if role == 1 { FREE } else { MIXED }
-}
-
-fn joined(found: u8, next: u8) -> u8 {
-    if (found == NOTHING) | (found == next) {
-        next
-    } else {
-        MIXED
+fn entry_for(word: u8, pin: u8) -> Entry {
+    let free = if half_is_input(word, pin) { 0 } else { 1 };
+    match lookup::role(word, pin) {
+        role @ 2.. => Entry::Role(role),
+        role if role == free => Entry::Free,
+        _ => Entry::Mixed,
     }
 }
 
-fn cell(column: u8, pin: u8) -> u8 {
-    let mut found = NOTHING;
-    for k in 0..128u8 {
-        let word = 128 + k;
-        if speaks_of(column, word, pin) {
-            found = joined(found, entry(word, pin));
-        }
-    }
-    found
+fn joined(found: Entry, next: Entry) -> Entry {
+    if found == next { next } else { Entry::Mixed }
 }
 
-fn free(column: u8) {
-    match column {
-        0 => print::word(b"\tIN"),
-        1 => print::word(b"\tOUT"),
-        _ => print::word(b"\tI/O"),
-    }
+// What all the words say of which the column speaks, if there are any.
+fn cell(column: Column, pin: u8) -> Option<Entry> {
+    (128..=255)
+        .filter(|word| speaks_of(column, *word, pin))
+        .map(|word| entry_for(word, pin))
+        .reduce(joined)
 }
 
-fn name(column: u8, cell: u8) {
-    match cell {
-        2 => print::word(b"\tINTR"),
-        3 => print::word(b"\tIBF"),
-        4 => print::word(b"\tOBF"),
-        5 => print::word(b"\tSTB"),
-        6 => print::word(b"\tACK"),
-        FREE => free(column),
-        _ => print::word(b"\t?"),
+fn name(column: Column, cell: Option<Entry>) -> &'static str {
+    match (cell, column) {
+        (Some(Entry::Role(2)), _) => "INTR",
+        (Some(Entry::Role(3)), _) => "IBF",
+        (Some(Entry::Role(4)), _) => "OBF",
+        (Some(Entry::Role(5)), _) => "STB",
+        (Some(Entry::Role(6)), _) => "ACK",
+        (Some(Entry::Free), Column::Mode0In) => "IN",
+        (Some(Entry::Free), Column::Mode0Out) => "OUT",
+        (Some(Entry::Free), _) => "I/O",
+        _ => "?",
     }
 }
 
-fn row(pin: u8) {
-    print::word(b"PC");
-    print::number(pin);
-    for column in 0..5u8 {
-        name(column, cell(column, pin));
+fn row(rt: &impl Print, pin: u8) -> io::Result<()> {
+    print!(rt; "PC{pin}")?;
+    for column in COLUMNS {
+        print!(rt; "\t{}", name(column, cell(column, pin)))?;
     }
-    print::word(b"\n");
+    println!(rt)
 }
 
-pub(super) fn all() {
-    print::word(
-        b"MODE DEFINITION SUMMARY\n\tMODE 0 IN\tMODE 0 OUT\tMODE 1 IN\tMODE 1 OUT\tMODE 2\n",
-    );
-    for pin in 0..8u8 {
-        row(pin);
+pub(super) fn all(rt: &impl Print) -> io::Result<()> {
+    println!(rt;
+        "MODE DEFINITION SUMMARY\n\tMODE 0 IN\tMODE 0 OUT\tMODE 1 IN\tMODE 1 OUT\tMODE 2"
+    )?;
+    for pin in 0..8 {
+        row(rt, pin)?;
     }
+    Ok(())
 }

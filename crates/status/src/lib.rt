@@ -1,5 +1,6 @@
 // The interrupt requests, why one is not made, and the status word: what port C tells of both handshakes.
 #![tactic(auto)]
+
 ghost use Rattle.std.specs.Prelude.{◌≡◌};
 ghost use Rattle.status.specs.Status.{flag_at, request_of, intr_of, flag_of_b, status_of};
 
@@ -18,6 +19,7 @@ fn flag(core: Core, group: Group, side: Side) -> bool
 }
 
 // Whether the channel asks for an interrupt: one half of its group's INTR.
+#[tactic(auto, unfolding(crate::specs::Status::request_of))]
 fn request(chip: Chip, group: Group, side: Side) -> bool
     ensures { result ≡ request_of chip group side }
 {
@@ -32,6 +34,7 @@ fn request(chip: Chip, group: Group, side: Side) -> bool
 }
 
 // The group's INTR.
+#[tactic(auto, unfolding(crate::specs::Status::intr_of))]
 fn intr(chip: Chip, group: Group) -> bool
     ensures { result ≡ intr_of chip group }
 {
@@ -47,6 +50,7 @@ fn flag_of_b(core: Core) -> bool
 }
 
 // Every flag, enable and request on the pin that tells it.
+#[tactic(auto, unfolding(crate::specs::Status::status_of))]
 pub fn status(chip: Chip) -> u8
     ensures { result ≡ status_of chip }
 {

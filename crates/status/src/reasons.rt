@@ -69,6 +69,7 @@ fn first(off: bool, wrong: bool, low: bool, runs: bool) -> Reason
     Reason::High
 }
 
+#[tactic(auto, unfolding(crate::specs::Reasons::reason_of))]
 fn half(chip: Chip, group: Group, side: Side) -> Reason
     ensures { result ≡ reason_of chip group side }
 {
@@ -94,6 +95,7 @@ fn one_way(chip: Chip, group: Group) -> Explained
     }
 }
 
+#[tactic(auto, unfolding(crate::specs::Reasons::explained_in))]
 fn in_group(chip: Chip, group: Group) -> Explained
     ensures { result ≡ explained_in chip group }
 {
@@ -109,6 +111,7 @@ fn in_group(chip: Chip, group: Group) -> Explained
 }
 
 // Explains the INTR of group 0 or 1, A or B.
+#[tactic(auto, unfolding(crate::specs::Reasons::explained_of))]
 pub fn explain(chip: Chip, group: u8) -> Explained
     ensures { result ≡ explained_of chip group }
 {

@@ -1,5 +1,6 @@
 // One event of the chip: refused by its number, and then nothing changes, or accepted, with its effect and the byte of a read.
 #![tactic(auto)]
+
 ghost use Rattle.std.specs.Prelude.{◌≡◌};
 ghost use Rattle.bus.specs.Refusals.{number_of};
 ghost use Rattle.bus.specs.Device.{after_in, byte_in};
@@ -66,6 +67,7 @@ fn byte(chip: Chip, kind: u8, first: u8) -> u8
 }
 
 // One event: a kind and two operands, of which those that the kind lacks are ignored.
+#[tactic(auto, unfolding(crate::specs::Step::step_of, bus::specs::Device::step_in))]
 pub fn step(chip: Chip, kind: u8, first: u8, second: u8) -> Stepped
     ensures { result ≡ step_of chip kind first second }
 {

@@ -1,38 +1,32 @@
 // How often an answer is given, over every pair of a word and a pin that two bytes can name.
 use super::reading;
-use std::num::wrapping_add_u64;
 
 // To how many pairs of a word and a pin the table gives an answer, to how many the lookup does, and to how many both do.
 #[derive(Clone, Copy)]
 pub(super) struct Counts {
-    pub(super) table: u64,
-    pub(super) lookup: u64,
-    pub(super) both: u64,
+    pub(super) table: usize,
+    pub(super) lookup: usize,
+    pub(super) both: usize,
 }
 
-fn more(count: u64, given: bool) -> u64 {
-    wrapping_add_u64(count, given as u64)
-}
-
-// The counts, and one pair more.
-fn counted(counts: Counts, answer: u8, word: u8, pin: u8) -> Counts {
-    let table = reading::answer(word, pin) == answer;
-    let lookup = lookup::role(word, pin) == answer;
-    Counts {
-        table: more(counts.table, table),
-        lookup: more(counts.lookup, lookup),
-        both: more(counts.both, table & lookup),
-    }
+// For how many pairs that holds.
+fn pairs<F: Fn(u8, u8) -> bool>(holds: F) -> usize
+    requires { F.IsAlwaysCallable holds }
+{
+    (0..=u16::MAX)
+        .filter(|pair| {
+            let [word, pin] = pair.to_be_bytes();
+            holds(word, pin)
+        })
+        .count()
 }
 
 pub(super) fn of(answer: u8) -> Counts {
-    let mut counts = Counts {
-        table: 0,
-        lookup: 0,
-        both: 0,
-    };
-    for pair in 0..65_536u32 {
-        counts = counted(counts, answer, (pair / 256) as u8, (pair % 256) as u8);
+    let in_table = |word, pin| reading::answer(word, pin) == answer;
+    let looked_up = |word, pin| lookup::role(word, pin) == answer;
+    Counts {
+        table: pairs(in_table),
+        lookup: pairs(looked_up),
+        both: pairs(|word, pin| in_table(word, pin) && looked_up(word, pin)),
     }
-    counts
 }

@@ -2,29 +2,29 @@
 // and a pin that two bytes can name. For each answer that there can be it prints to how many pairs the table gives it, to how many the
 // lookup does, and to how many both do.
 #![tactic(auto)]
+
 mod counts;
 mod entries;
-mod print;
 mod reading;
 
-fn row(name: &[u8], answer: u8) {
+use std::io;
+
+fn row(rt: &impl Print, name: &str, answer: u8) -> io::Result<()> {
     let found = counts::of(answer);
-    print::word(name);
-    print::number(answer as u64);
-    print::number(found.table);
-    print::number(found.lookup);
-    print::number(found.both);
-    print::word(b"\n");
+    println!(rt;
+        "{name}\t{answer}\t{}\t{}\t{}",
+        found.table, found.lookup, found.both
+    )
 }
 
-fn main() {
-    print::word(b"role\tanswer\ttable\tlookup\tboth\n");
-    row(b"input", 0);
-    row(b"output", 1);
-    row(b"INTR", 2);
-    row(b"IBF", 3);
-    row(b"OBF", 4);
-    row(b"STB", 5);
-    row(b"ACK", 6);
-    row(b"none", 255);
+fn main(rt: HostRuntime) -> io::Result<()> {
+    println!(rt; "role\tanswer\ttable\tlookup\tboth")?;
+    row(&rt, "input", 0)?;
+    row(&rt, "output", 1)?;
+    row(&rt, "INTR", 2)?;
+    row(&rt, "IBF", 3)?;
+    row(&rt, "OBF", 4)?;
+    row(&rt, "STB", 5)?;
+    row(&rt, "ACK", 6)?;
+    row(&rt, "none", 255)
 }

@@ -6,10 +6,11 @@ use super::entries;
 
 // The table's entry for a word and a pin; 255 where it has none. The contract is that of the lookup: so the two agree, at every word
 // and every pin.
+#[tactic(auto, using(crate::proofs::Place::entry_of), unfolding(lookup::specs::Lookup::lookup_of))]
 pub(super) fn answer(word: u8, pin: u8) -> u8
     ensures { result ≡ lookup_of word pin }
 {
-    if (word < 128) | (7 < pin) {
+    if word < 128 || 7 < pin {
         return 255;
     }
     let roles = entries::published();

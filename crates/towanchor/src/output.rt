@@ -1,33 +1,11 @@
 // Standard output: what the program says of a script, or the number of its refusal.
-use libc::STDOUT_FILENO;
-use text::LF;
+use anyhow::Context;
 
-// A part of what is said; whether it was written.
-pub(super) fn put(bytes: &[u8]) -> bool {
-    io::write_all(STDOUT_FILENO, bytes)
-}
-
-pub(super) fn put_number(number: u64) -> bool {
-    io::print_decimal(STDOUT_FILENO, number)
-}
-
-// All is said; where a part was not written, that is told once.
-pub(super) fn end(written: bool) {
-    if !written {
-        os::fail(b"standard output");
-    }
-}
-
-pub(super) fn write(bytes: &[u8]) {
-    end(put(bytes));
+pub(super) fn write(rt: &impl Print, bytes: &[u8]) -> anyhow::Result<()> {
+    rt.write_all(bytes).context("standard output")
 }
 
 // Two digits and LF.
-pub(super) fn refuse(number: u8) {
-    let line = [
-        text::digits::code(number / 16),
-        text::digits::code(number),
-        LF,
-    ];
-    write(&line);
+pub(super) fn refuse(rt: &impl Print, number: u8) -> anyhow::Result<()> {
+    println!(rt; "{number:02X}").context("standard output")
 }

@@ -2,78 +2,71 @@
 // hosts in C.
 use super::output;
 use channel::Side;
+use script::left::Left;
 use status::reasons::{Explained, Reason};
+use std::alloc::{AllocError, Global};
 
-fn either(side: Side, of_input: &[u8], of_output: &[u8]) -> bool {
-    match side {
-        Side::Input => output::put(of_input),
-        Side::Output => output::put(of_output),
+fn words(side: Side, reason: Reason) -> &'static str {
+    match (reason, side) {
+        (Reason::EnableOff, _) => "low, the interrupt is not enabled",
+        (Reason::FlagWrong, Side::Input) => "low, no byte is waiting to be read",
+        (Reason::FlagWrong, Side::Output) => "low, the last byte has not been taken",
+        (Reason::LineLow, Side::Input) => "low, the strobe line is low",
+        (Reason::LineLow, Side::Output) => "low, the acknowledge line is low",
+        (Reason::OwnCycle, Side::Input) => "low, a read of the port is running",
+        (Reason::OwnCycle, Side::Output) => "low, a write to the port is running",
+        (Reason::High, _) => "high",
     }
 }
 
-fn words(side: Side, reason: Reason) -> bool {
-    match reason {
-        Reason::EnableOff => output::put(b"low, the interrupt is not enabled\n"),
-        Reason::FlagWrong => either(
-            side,
-            b"low, no byte is waiting to be read\n",
-            b"low, the last byte has not been taken\n",
-        ),
-        Reason::LineLow => either(
-            side,
-            b"low, the strobe line is low\n",
-            b"low, the acknowledge line is low\n",
-        ),
-        Reason::OwnCycle => either(
-            side,
-            b"low, a read of the port is running\n",
-            b"low, a write to the port is running\n",
-        ),
-        Reason::High => output::put(b"high\n"),
-    }
+fn half(said: &mut String, letter: char, side: Side, reason: Reason) -> Result<(), AllocError> {
+    let name = match side {
+        Side::Input => "input",
+        Side::Output => "output",
+    };
+    writeln!(said, "group {letter}, {name}: {}", words(side, reason))
 }
 
-fn head(letter: u8) -> bool {
-    output::put(b"group ") & output::put(&[letter])
-}
-
-fn half(letter: u8, side: Side, reason: Reason) -> bool {
-    head(letter) & either(side, b", input: ", b", output: ") & words(side, reason)
-}
-
-fn group(letter: u8, said: Explained) -> bool {
-    match said {
-        Explained::NoGroup => head(letter) & output::put(b": there is no such group\n"),
+fn group(said: &mut String, letter: char, explained: Explained) -> Result<(), AllocError> {
+    match explained {
+        Explained::NoGroup => writeln!(said, "group {letter}: there is no such group"),
         Explained::ModeZero => {
-            head(letter) & output::put(b": there is no INTR, the group is in mode 0\n")
+            writeln!(
+                said,
+                "group {letter}: there is no INTR, the group is in mode 0"
+            )
         }
-        Explained::InputHalf(reason) => half(letter, Side::Input, reason),
-        Explained::OutputHalf(reason) => half(letter, Side::Output, reason),
+        Explained::InputHalf(reason) => half(said, letter, Side::Input, reason),
+        Explained::OutputHalf(reason) => half(said, letter, Side::Output, reason),
         Explained::BothHalves(input, output) => {
-            half(letter, Side::Input, input) & half(letter, Side::Output, output)
+            half(said, letter, Side::Input, input)?;
+            half(said, letter, Side::Output, output)
         }
     }
 }
 
-// A script that was refused in part may have left another chip than its writer had in mind.
-fn refused(lines: usize) -> bool {
-    if lines == 0 {
-        return true;
+// What is said of the chip that a script left. One that was refused in part may have left another chip than its writer had in mind.
+fn explanation(alloc: Global, left: Left) -> Result<String, AllocError> {
+    let mut said = String::new(alloc);
+    group(&mut said, 'A', status::reasons::explain(left.chip, 0))?;
+    group(&mut said, 'B', status::reasons::explain(left.chip, 1))?;
+    if left.refused != 0 {
+        writeln!(
+            said,
+            "lines that were refused, and changed nothing: {}",
+            left.refused
+        )?;
     }
-    output::put(b"lines that were refused, and changed nothing: ")
-        & output::put_number(lines as u64)
-        & output::put(b"\n")
+    Ok(said)
 }
 
-pub(super) fn explain(text: &[u8]) {
+pub(super) fn explain(rt: &(impl Print + AllocGlobal), text: &[u8]) -> anyhow::Result<()> {
     let left = script::left::chip_after(text);
     if left.number != 0 {
-        output::write(b"the text is longer than 4,096 bytes, and was not run\n");
-        return;
+        return output::write(
+            rt,
+            b"the text is longer than 4,096 bytes, and was not run\n",
+        );
     }
-    let chip = left.chip;
-    let a = group(b'A', status::reasons::explain(chip, 0));
-    let b = group(b'B', status::reasons::explain(chip, 1));
-    let lines = refused(left.refused);
-    output::end(a & b & lines);
+    output::write(rt, explanation(rt.alloc(), left)?.as_bytes())
 }

@@ -1,5 +1,6 @@
 // The end of a write, when the byte takes effect.
 #![tactic(auto)]
+
 ghost use Rattle.std.specs.Prelude.{◌≡◌};
 ghost use Rattle.writes.specs.Write.{stored_in, stored_by, latch_written, after_write_ends};
 
@@ -20,6 +21,7 @@ fn stored(channel: Channel, strobed: bool, byte: u8) -> Channel
 }
 
 // A write to port A or B: nothing happens where the port is no output.
+#[tactic(auto, unfolding(crate::specs::Write::stored_by))]
 fn store(mut port: Port, word: u8, group: Group, byte: u8) -> Port
     ensures { result ≡ stored_by port word group byte }
 {
@@ -42,6 +44,7 @@ fn latch(word: u8, before: u8, byte: u8) -> u8
 }
 
 // A write of the byte to the address ends.
+#[tactic(auto, unfolding(crate::specs::Write::after_write_ends))]
 pub fn end(mut core: Core, address: u8, byte: u8) -> Core
     ensures { result ≡ after_write_ends core address byte }
 {

@@ -1,7 +1,6 @@
 -- `chart::row` meets its contract: the index puts bits 4, 3, 1 and 0 side by side, and the chart has the rule's line there.
 -- Rests on bits' Tested and Tabled.
-use Rattle.std.proofs.Common.{arith, ◌≡◌, ◌∙◌, ap, Bool, false, List, [], ◌∷◌, ℕ, ◌/◌, ◌<◌, bit_and, bit_or, get_or}
-use lib.Dec.{T, ltb, ltb→lt}
+use Rattle.std.proofs.Common.{arith, ◌≡◌, ◌∙◌, ap, Bool, false, List, [], ◌∷◌, ℕ, ◌/◌, ◌<◌, bit_and, bit_or, get_or, T, ltb, ltb→lt}
 use Rattle.bits.specs.Bit.{bit_of}
 use Rattle.bits.proofs.Tested.{all, each, same, bits}
 use Rattle.bits.proofs.Tabled.{table_at}

@@ -29,8 +29,7 @@ pub(super) fn begin_read(machine: Machine, address: u8) -> Machine {
 
 // Whatever runs is over.
 pub(super) fn end_cycle(machine: Machine) -> Machine {
-    let phase = machine.phase;
-    let done = match phase {
+    let done = match machine.phase {
         READING => release(machine),
         WRITING => store(machine),
         _ => machine,
@@ -51,13 +50,9 @@ fn release(machine: Machine) -> Machine {
 
 // The byte on the bus goes where it was addressed to.
 fn store(mut machine: Machine) -> Machine {
-    let address = machine.place;
-    match address {
-        0 | 1 => machine = write_port(machine, address as usize, machine.data),
-        2 => {
-            let stored = pins::ask(machine, 2, pins::STORED);
-            machine.latch_c = stored;
-        }
+    match machine.place {
+        0 | 1 => machine = write_port(machine, machine.place as usize, machine.data),
+        2 => machine.latch_c = pins::ask(machine, 2, pins::STORED),
         3 => machine = commands::write(machine, machine.data),
         _ => {}
     }

@@ -28,7 +28,7 @@ pub(super) fn moved(mut machine: Machine, port: u8, level: u8) -> Machine {
 // While its STB is low the latch of a strobed input takes what its port is given, whatever the channel's mark. That is no new byte, so
 // only the latch moves. Levels equal to the last are taken too: a mode word may have cleared the latch under a low STB.
 fn follow(mut machine: Machine, channel: usize, level: u8, pin: usize) -> Machine {
-    if words::strobed(machine.word, channel) & !digits::bit(machine.outside_c, pin) {
+    if words::strobed(machine.word, channel) && !digits::bit(machine.outside_c, pin) {
         machine.latch[channel % 4] = level;
     }
     machine
@@ -37,7 +37,7 @@ fn follow(mut machine: Machine, channel: usize, level: u8, pin: usize) -> Machin
 // On port C only a fall acts, and only in a channel that is strobed now. A byte that is strobed in is what is put on the pins, also where the
 // chip drives the port itself; one that is acknowledged frees its channel at once.
 fn edge(machine: Machine, channel: usize, fell: u8, pin: usize) -> Machine {
-    if !(digits::bit(fell, pin) & words::strobed(machine.word, channel)) {
+    if !(digits::bit(fell, pin) && words::strobed(machine.word, channel)) {
         return machine;
     }
     match channel {

@@ -18,7 +18,7 @@ pub(super) fn channel_of(role: u8) -> usize {
 // A flag that stands at the level already stays, and so does all behind it. To turn it over, either a mark is set by which the byte of the
 // latch, whatever it is, waits there uninvited, or the byte that waits is struck off. A mark that says neither is left.
 pub(super) fn turn(mut machine: Machine, channel: usize, level: bool) -> Machine {
-    if (channel == NONE) | (signals::buffer_flag(machine, channel) == level) {
+    if channel == NONE || signals::buffer_flag(machine, channel) == level {
         return machine;
     }
     let is_output = channel % 2 == 1;

@@ -33,7 +33,7 @@ pub(super) fn settle(mut machine: Machine, channel: usize, fate: usize, mark: u8
         return machine;
     }
     let at = place * TALLIES + fate % TALLIES;
-    machine.tally[at] = std::num::wrapping_add_u16(machine.tally[at], 1);
+    machine.tally[at] = machine.tally[at].wrapping_add(1);
     machine.fill[place] = mark;
     machine
 }

@@ -61,7 +61,7 @@ pub(super) fn power_up_of(part: u8, a: u8, b: u8, c: u8) -> Machine {
         latch_c: 0,
         enable: 0,
         fill: [0, 0, 0, 0],
-        tally: [0u16; 28],
+        tally: [0; 28],
     }
 }
 

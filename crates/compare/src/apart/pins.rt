@@ -34,8 +34,8 @@ fn ask_word(machine: Machine, asked: u8) -> u8 {
 // Port A or B. In mode 2 the outside holds port A by its ACK, for as long as that is high. A reader of a strobed
 // input sees its latch; any other sees what an observer sees.
 fn ask_port(machine: Machine, port: usize, outside: u8, asked: u8) -> u8 {
-    let held = (port == 0) & digits::bit(machine.word & machine.outside_c, 6);
-    let driven = words::puts_out(machine.word, port) & !held;
+    let held = port == 0 && digits::bit(machine.word & machine.outside_c, 6);
+    let driven = words::puts_out(machine.word, port) && !held;
     let input = port % 2 * 2;
     let seen = digits::pick(driven, latch_of(machine, input + 1), outside);
     match asked {
@@ -56,9 +56,9 @@ fn latch_of(machine: Machine, channel: usize) -> u8 {
 // Port C: the eight answers of its pins as a byte.
 fn ask_c(machine: Machine, asked: u8) -> u8 {
     let roles = words::roles_of(machine.word);
-    let mut byte = 0u8;
-    for pin in 0..8 {
-        byte = digits::with_bit(byte, pin, ask_pin(machine, pin, roles[pin], asked));
+    let mut byte = 0;
+    for (pin, role) in roles.iter().enumerate() {
+        byte = digits::with_bit(byte, pin, ask_pin(machine, pin, *role, asked));
     }
     byte
 }
@@ -67,7 +67,7 @@ fn ask_c(machine: Machine, asked: u8) -> u8 {
 // is neither an input nor one of the outside's strobes.
 fn ask_pin(machine: Machine, pin: usize, role: u8, asked: u8) -> bool {
     match asked {
-        DRIVEN => (role != words::INPUT) & (role != words::STROBE),
+        DRIVEN => role != words::INPUT && role != words::STROBE,
         STORED => digits::bit(
             digits::pick(open(machine.word, pin, role), machine.data, machine.latch_c),
             pin,
@@ -82,12 +82,16 @@ fn level(machine: Machine, pin: usize, role: u8, strobes: u8) -> bool {
     match role {
         words::INPUT => digits::bit(machine.outside_c, pin),
         words::OUTPUT => digits::bit(machine.latch_c, pin),
-        words::INTR_A => signals::requests(machine, channels::A_IN, 4)
-            | signals::requests(machine, channels::A_OUT, 6),
+        words::INTR_A => {
+            signals::requests(machine, channels::A_IN, 4)
+                || signals::requests(machine, channels::A_OUT, 6)
+        }
         words::IBF_A => signals::buffer_flag(machine, channels::A_IN),
         words::OBF_A => signals::buffer_flag(machine, channels::A_OUT),
-        words::INTR_B => signals::requests(machine, channels::B_IN, 2)
-            | signals::requests(machine, channels::B_OUT, 2),
+        words::INTR_B => {
+            signals::requests(machine, channels::B_IN, 2)
+                || signals::requests(machine, channels::B_OUT, 2)
+        }
         words::IBF_B => signals::buffer_flag(machine, channels::B_IN),
         words::OBF_B => signals::buffer_flag(machine, channels::B_OUT),
         _ => digits::bit(strobes, pin),
@@ -96,5 +100,5 @@ fn level(machine: Machine, pin: usize, role: u8, strobes: u8) -> bool {
 
 // A write reaches the free outputs of port C, but the upper ones only while group A has no handshake.
 fn open(word: u8, pin: usize, role: u8) -> bool {
-    (role == words::OUTPUT) & ((pin < 4) | (word / 32 % 4 == 0))
+    role == words::OUTPUT && (pin < 4 || word / 32 % 4 == 0)
 }

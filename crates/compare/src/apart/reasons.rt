@@ -41,7 +41,7 @@ pub(super) fn of_output(machine: Machine, group: u8) -> u8 {
 // own on its port. A channel that is not strobed is of mode 0 unless the other one is.
 fn of_half(machine: Machine, channel: usize, other: usize, pin: usize, cycle: u8) -> u8 {
     let unstrobed = digits::pick(words::strobed(machine.word, other), NO_SUCH_HALF, MODE_0);
-    let busy = (machine.phase == cycle) & (machine.place as usize == channel / 2);
+    let busy = machine.phase == cycle && machine.place as usize == channel / 2;
     let mut said = least(HIGH, !words::strobed(machine.word, channel), unstrobed);
     said = least(said, !digits::bit(machine.enable, pin), ENABLE_OFF);
     said = least(said, !signals::buffer_flag(machine, channel), FLAG_WRONG);
@@ -51,5 +51,5 @@ fn of_half(machine: Machine, channel: usize, other: usize, pin: usize, cycle: u8
 
 // A reason that does not hold changes nothing.
 fn least(said: u8, holds: bool, reason: u8) -> u8 {
-    digits::pick(holds & (reason < said), reason, said)
+    digits::pick(holds && reason < said, reason, said)
 }

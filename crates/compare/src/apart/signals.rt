@@ -19,7 +19,7 @@ pub(super) fn requests(machine: Machine, channel: usize, pin: usize) -> bool {
         _ => cycles::WRITING,
     };
     words::strobed(machine.word, channel)
-        & buffer_flag(machine, channel)
-        & digits::bit(machine.enable & machine.outside_c, pin)
-        & !((machine.phase == own) & (machine.place as usize == channel / 2))
+        && buffer_flag(machine, channel)
+        && digits::bit(machine.enable & machine.outside_c, pin)
+        && !(machine.phase == own && machine.place as usize == channel / 2)
 }

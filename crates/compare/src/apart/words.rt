@@ -27,8 +27,8 @@ pub(super) const STROBE: u8 = 8;
 pub(super) fn strobed(word: u8, channel: usize) -> bool {
     let mode_2 = digits::bit(word, 6);
     match channel {
-        channels::A_IN => mode_2 | (word / 16 % 4 == 3),
-        channels::A_OUT => mode_2 | (word / 16 % 4 == 2),
+        channels::A_IN => mode_2 || word / 16 % 4 == 3,
+        channels::A_OUT => mode_2 || word / 16 % 4 == 2,
         channels::B_IN => word / 2 % 4 == 3,
         channels::B_OUT => word / 2 % 4 == 2,
         _ => false,
@@ -38,7 +38,7 @@ pub(super) fn strobed(word: u8, channel: usize) -> bool {
 // Whether port 0 or 1 can put a byte out at all. Port A in mode 2 can, whatever its direction says.
 pub(super) fn puts_out(word: u8, port: usize) -> bool {
     if port == 0 {
-        digits::bit(word, 6) | !digits::bit(word, 4)
+        digits::bit(word, 6) || !digits::bit(word, 4)
     } else {
         !digits::bit(word, 1)
     }
@@ -55,7 +55,7 @@ pub(super) fn roles_of(word: u8) -> [u8; 8] {
         digits::pick(b, INTR_B, low),
         digits::pick(b, digits::pick(digits::bit(word, 1), IBF_B, OBF_B), low),
         digits::pick(b, STROBE, low),
-        digits::pick(a_in | a_out, INTR_A, low),
+        digits::pick(a_in || a_out, INTR_A, low),
         digits::pick(a_in, STROBE, high),
         digits::pick(a_in, IBF_A, high),
         digits::pick(a_out, STROBE, high),

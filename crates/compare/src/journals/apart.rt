@@ -7,11 +7,6 @@ use super::changes;
 // A journal with more words than this is refused.
 const MOST_WORDS: usize = 8192;
 
-// A journal stands in a row, which has room for one word more, and what it becomes in another.
-pub(super) const ROOM: usize = 8193;
-
-pub(super) type Row = [u32; 8193];
-
 // The numbers of a refusal.
 const NO_FRAME: u8 = 1;
 
@@ -24,12 +19,12 @@ const NO_SUCH_PART: u8 = 8;
 pub(super) struct Trimmed {
     pub(super) number: u8,
     pub(super) kept: usize,
-    pub(super) idle: usize,
+    pub(super) idle: u64,
 }
 
 // The five shapes of a frame: 00000000, 0001aa00, 00020000, 0003aadd and 0005ppdd.
-fn is_shaped(word: u32) -> bool {
-    match word {
+fn is_shaped(word: &u32) -> bool {
+    match *word {
         0 | 0x20000 => true,
         0x10000..=0x1ffff => word % 0x100 == 0,
         0x30000..=0x3ffff | 0x50000..=0x5ffff => true,
@@ -37,22 +32,13 @@ fn is_shaped(word: u32) -> bool {
     }
 }
 
-fn all_shaped(journal: &Row, count: usize) -> bool {
-    for at in 0..count {
-        if !is_shaped(journal[at % ROOM]) {
-            return false;
-        }
-    }
-    true
-}
-
 // Of several numbers that apply the last one here counts.
-fn refusal(journal: &Row, count: usize, part: u8) -> u8 {
+fn refusal(journal: &[u32], part: u8) -> u8 {
     let mut number = 0;
-    if !all_shaped(journal, count) {
+    if !journal.iter().all(is_shaped) {
         number = NO_FRAME;
     }
-    if count > MOST_WORDS {
+    if journal.len() > MOST_WORDS {
         number = TOO_MANY;
     }
     if part > 1 {
@@ -61,34 +47,27 @@ fn refusal(journal: &Row, count: usize, part: u8) -> u8 {
     number
 }
 
-// The row before anything is kept: the journal as it was where it is refused, and zero words where not.
-fn lay(row: &mut Row, journal: &Row, count: usize, refused: bool) {
-    for at in 0..count {
-        row[at % ROOM] = if refused { journal[at % ROOM] } else { 0 };
-    }
-}
-
 // Every word in turn; one that is kept goes to the first place that is free.
-fn sift(row: &mut Row, journal: &Row, count: usize, start: Machine) -> Trimmed {
+fn sift(row: &mut [u32], journal: &[u32], start: Machine) -> Trimmed {
     let mut machine = start;
-    let mut kept = 0;
-    let mut idle = 0;
-    for at in 0..count {
-        let word = journal[at % ROOM];
+    let mut kept = 0usize;
+    let mut idle = 0u64;
+    for word in journal {
         let answer = apart::event(
             machine,
             (word / 0x10000 % 0x100) as u8,
             (word / 0x100 % 0x100) as u8,
             (word % 0x100) as u8,
         );
-        let next = answer.machine;
-        if changes::differ(machine, next) {
-            row[kept % ROOM] = word;
-            kept = std::num::wrapping_add_usize(kept, 1);
+        if changes::differ(machine, answer.machine) {
+            if let Some(free) = row.get_mut(kept) {
+                *free = *word;
+            }
+            kept = kept.wrapping_add(1);
         } else if answer.number == 0 {
-            idle = std::num::wrapping_add_usize(idle, 1);
+            idle = idle.wrapping_add(1);
         }
-        machine = next;
+        machine = answer.machine;
     }
     Trimmed {
         number: 0,
@@ -97,18 +76,10 @@ fn sift(row: &mut Row, journal: &Row, count: usize, start: Machine) -> Trimmed {
     }
 }
 
-// Leaves in the row what a journal of so many words becomes from a power-up of that part under these levels.
-pub(super) fn trim(
-    row: &mut Row,
-    journal: &Row,
-    count: usize,
-    part: u8,
-    a: u8,
-    b: u8,
-    c: u8,
-) -> Trimmed {
-    let number = refusal(journal, count, part);
-    lay(row, journal, count, number != 0);
+// Makes of a row, in which a journal stands, what the journal becomes from a power-up of that part under these levels: zero words behind
+// those that are kept; and leaves it where the journal is refused.
+pub(super) fn trim(row: &mut [u32], journal: &[u32], part: u8, a: u8, b: u8, c: u8) -> Trimmed {
+    let number = refusal(journal, part);
     if number != 0 {
         return Trimmed {
             number,
@@ -116,5 +87,6 @@ pub(super) fn trim(
             idle: 0,
         };
     }
-    sift(row, journal, count, apart::power_up_of(part, a, b, c))
+    row.fill(0);
+    sift(row, journal, apart::power_up_of(part, a, b, c))
 }

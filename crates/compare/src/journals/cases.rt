@@ -1,25 +1,22 @@
 // The journals that are drawn: their power-ups, their lengths and their words, of which one may be damaged.
-use super::super::counts::add;
 use super::super::random;
 use super::super::random::byte;
-use super::apart::{ROOM, Row};
 use super::counts::Counts;
 use super::words::{Drawing, Lines};
 use super::{counts, words};
+use std::alloc::{AllocError, Global};
 
 // So many words a journal may have.
-pub(super) const LONGEST: u16 = 8192;
+pub(super) const LONGEST: usize = 8192;
 
-// A journal's power-up, an edition by its number and the levels of the three ports; and how many words it has.
+// A journal's power-up: an edition by its number and the levels of the three ports.
 #[derive(Clone, Copy)]
 pub(super) struct Case {
     pub(super) edition: u8,
     pub(super) lines: Lines,
-    pub(super) length: u16,
 }
 
-// In one of eight an edition that there is not; in one of four every line is high. Mostly up to a few hundred words; now and then as many
-// as there may be, or one more.
+// In one of eight an edition that there is not; in one of four every line is high.
 fn power_up(number: u64) -> Case {
     let any = byte(number);
     let edition = if (number >> 40) % 8 == 0 {
@@ -28,11 +25,6 @@ fn power_up(number: u64) -> Case {
         any % 2
     };
     let high = if (number >> 32) % 4 == 0 { 0xff } else { 0 };
-    let length = match (number >> 43) % 256 {
-        0 => LONGEST,
-        1..=4 => LONGEST + 1,
-        _ => ((number >> 51) % 300) as u16,
-    };
     Case {
         edition,
         lines: Lines {
@@ -40,49 +32,63 @@ fn power_up(number: u64) -> Case {
             b: byte(number >> 16) | high,
             c: byte(number >> 24) | high,
         },
-        length,
+    }
+}
+
+// Mostly up to a few hundred words; now and then as many as there may be, or one more.
+fn length(number: u64) -> usize {
+    match (number >> 43) % 256 {
+        0 => LONGEST,
+        1..=4 => LONGEST + 1,
+        _ => ((number >> 51) % 300) as usize,
     }
 }
 
 // In one of four journals a word is made no frame, if one stands at the place that is drawn; whether it is.
-fn damage(counts: &mut Counts, journal: &mut Row, length: u16, number: u64) -> bool {
-    let place = ((number >> 16) % (length as u64 + 1)) as usize;
-    if (number % 4 != 0) | (place == length as usize) {
+fn damage(counts: &mut Counts, journal: &mut [u32], number: u64) -> bool {
+    if number % 4 != 0 {
         return false;
     }
+    let place = (number >> 16) % (journal.len() as u64 + 1);
+    let Some(word) = journal.get_mut(place as usize) else {
+        return false;
+    };
     let way = byte(number >> 8) % words::WAYS;
-    let word = words::damaged(journal[place % ROOM], way, random::next(number));
-    journal[place % ROOM] = word;
-    add(counts, counts::WAYS, way, 1);
+    *word = words::damaged(*word, way, random::next(number));
+    counts.add(counts::WAYS + way as usize, 1);
     true
 }
 
 // A journal that was drawn: whether it has a word that is no frame, and the last number.
-#[derive(Clone, Copy)]
+#[derive(Drop)]
 pub(super) struct Drawn {
     pub(super) case: Case,
+    pub(super) journal: Vec<u32>,
     pub(super) damaged: bool,
     pub(super) number: u64,
 }
 
-pub(super) fn draw(counts: &mut Counts, journal: &mut Row, seed: u64) -> Drawn {
-    let case = power_up(random::far(seed));
-    let lines = case.lines;
+pub(super) fn draw(counts: &mut Counts, alloc: Global, seed: u64) -> Result<Drawn, AllocError> {
+    let far = random::far(seed);
+    let case = power_up(far);
+    let mut journal = Vec::new(alloc);
     let mut drawing = Drawing {
         number: seed,
         exchange: 0,
         step: 0,
         word: 0,
-        lines,
+        lines: case.lines,
     };
-    for place in 0..case.length as usize {
+    for _ in 0..length(far) {
         drawing = words::next(drawing);
-        journal[place % ROOM] = drawing.word;
+        journal.push(drawing.word)?;
     }
     let number = random::next(drawing.number);
-    Drawn {
+    let damaged = damage(counts, &mut journal, number);
+    Ok(Drawn {
         case,
-        damaged: damage(counts, journal, case.length, number),
+        journal,
+        damaged,
         number,
-    }
+    })
 }

@@ -7,17 +7,32 @@
 //     those of them that the chip accepted
 //     40 to 46 what became of bytes, all four channels together, in the order of the tallies
 //     47 words that were trimmed again, 48 words with which a trimmed journal was gone on; 49 differences
-use super::super::counts::{add, flag, order};
+use super::super::row::{Row, order};
 use super::super::twins::{PER_CHANNEL, Tallies};
-use super::apart::{ROOM, Row, Trimmed};
+use super::apart::Trimmed;
 use super::cases::{Case, LONGEST};
 use super::words;
+use std::fmt;
 
-pub(super) type Counts = [u64; 50];
+// What is compared, a word of a log among other things.
+#[derive(Clone, Copy, PartialEq, Eq)]
+pub(crate) struct Word(pub(super) u32);
+
+impl fmt::Display for Word {
+    fn fmt<W: fmt::Write>(&self, f: &mut fmt::Formatter<W>) -> fmt::Result {
+        write!(f, " {}", self.0)
+    }
+}
+
+pub(super) type Counts = Row<Word, 50>;
 
 const EDITIONS: usize = 2;
 
-const LENGTHS: usize = 4;
+const WITHOUT_A_WORD: usize = 4;
+
+const OF_THE_LONGEST: usize = 5;
+
+const OF_ONE_MORE: usize = 6;
 
 const NUMBERS: usize = 7;
 
@@ -32,7 +47,7 @@ const KEPT: usize = 27;
 const DROPPED: usize = 33;
 
 // Behind the kinds: levels that were there already.
-const REPEATED: u8 = 5;
+const REPEATED: usize = 5;
 
 const IDLE: usize = 39;
 
@@ -42,58 +57,58 @@ const AGAIN: usize = 47;
 
 const GONE_ON: usize = 48;
 
-pub(super) const DIFFERENCES: usize = 49;
-
-// What is not counted stands behind the row.
-const BEHIND: u8 = 255;
-
-// A journal, the number by which it is answered, and whether it has a word that is no frame.
-pub(super) fn journal(counts: &mut Counts, case: Case, number: u8, damaged: bool) {
-    let by_number = match number {
-        0 | 1 => number,
+// A journal by the number with which it is answered, if there is such a number, and whether it has a word that is no frame.
+fn answered(counts: &mut Counts, length: usize, number: u8, damaged: bool) {
+    let behind = match number {
+        0 | 1 => number as usize,
         6 => 2,
         8 => 3,
-        _ => BEHIND,
+        _ => return,
     };
-    let length = case.length;
-    let by_length = match length {
-        0 => 0,
-        1..=8191 => BEHIND,
-        LONGEST => 1,
-        _ => 2,
-    };
-    add(counts, 0, 0, 1);
-    add(counts, 1, 0, length);
-    add(counts, EDITIONS, case.edition, flag(case.edition < 2));
-    add(counts, LENGTHS, by_length, 1);
-    add(counts, NUMBERS, by_number, 1);
-    add(counts, DAMAGED, by_number, flag(damaged));
-    add(counts, TOO_LONG, by_number, flag(length > LONGEST));
+    counts.add(NUMBERS + behind, 1);
+    counts.add(DAMAGED + behind, damaged as u64);
+    counts.add(TOO_LONG + behind, (length > LONGEST) as u64);
+}
+
+// A journal of so many words.
+pub(super) fn journal(counts: &mut Counts, case: Case, length: usize, number: u8, damaged: bool) {
+    counts.add(0, 1);
+    counts.add(1, length as u64);
+    if case.edition < 2 {
+        counts.add(EDITIONS + case.edition as usize, 1);
+    }
+    match length {
+        0 => counts.add(WITHOUT_A_WORD, 1),
+        LONGEST => counts.add(OF_THE_LONGEST, 1),
+        _ if length > LONGEST => counts.add(OF_ONE_MORE, 1),
+        _ => {}
+    }
+    answered(counts, length, number, damaged);
 }
 
 // What became of each word of a journal that was trimmed to the row. A word is the next one that was kept where it is the same: had it been
 // dropped, nothing would have changed before that one, which would have been dropped as well.
-pub(super) fn census(counts: &mut Counts, journal: &Row, row: &Row, case: Case, trimmed: Trimmed) {
+pub(super) fn census(counts: &mut Counts, journal: &[u32], row: &[u32], case: Case, idle: u64) {
     let mut lines = case.lines;
-    let mut next = 0;
-    for place in 0..case.length as usize {
-        let word = journal[place % ROOM];
-        let kept = (next < trimmed.kept) & (word == row[next % ROOM]);
-        let first = if kept { KEPT } else { DROPPED };
+    let mut kept = row.iter().peekable();
+    for word in journal {
+        let first = match kept.next_if_eq(&word) {
+            Some(_) => KEPT,
+            None => DROPPED,
+        };
         let repeated = words::repeated(lines, (word / 0x100 % 0x100) as u8);
-        add(counts, first, order((word / 0x10000 % 0x100) as u8), 1);
-        add(counts, first, REPEATED, flag(word == repeated));
-        lines = words::after(lines, word);
-        next = std::num::wrapping_add_usize(next, flag(kept) as usize);
+        counts.add(first + order((word / 0x10000 % 0x100) as u8), 1);
+        counts.add(first + REPEATED, (*word == repeated) as u64);
+        lines = words::after(lines, *word);
     }
-    add(counts, IDLE, 0, (trimmed.idle % 0x10000) as u16);
+    counts.add(IDLE, idle);
 }
 
 // How many words were trimmed again, with how many the journal was gone on, and what became of the bytes that the chip met.
 pub(super) fn gone_on(counts: &mut Counts, again: usize, new: usize, tallies: Tallies) {
-    add(counts, AGAIN, 0, (again % 0x10000) as u16);
-    add(counts, GONE_ON, 0, (new % 0x10000) as u16);
-    for at in 0..28 {
-        add(counts, FATES, (at % PER_CHANNEL) as u8, tallies[at]);
+    counts.add(AGAIN, again as u64);
+    counts.add(GONE_ON, new as u64);
+    for (at, tally) in tallies.iter().enumerate() {
+        counts.add(FATES + at % PER_CHANNEL, *tally as u64);
     }
 }

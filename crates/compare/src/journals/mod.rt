@@ -6,70 +6,65 @@ mod cases; // the journals that are drawn
 mod changes; // how the second trimmer sees that an event changed something
 mod counts;
 mod going_on;
-mod rows;
 mod words;
 
-use apart::{Row, Trimmed};
+use apart::Trimmed;
 use cases::Case;
 use counts::Counts;
+use std::alloc::{AllocError, Global};
 
-// The proved trimmer, on so many words.
-fn trimmed(log: &mut [u32], count: usize, case: Case) -> u32 {
+// The proved trimmer.
+fn trimmed(log: &mut [u32], case: Case) -> u32 {
     let lines = case.lines;
-    if count < log.len() {
-        let front = &mut log[0..count];
-        return journal::towanchor_trim(front, case.edition, lines.a, lines.b, lines.c);
-    }
     journal::towanchor_trim(log, case.edition, lines.a, lines.b, lines.c)
 }
 
-// A journal by both trimmers; and what was kept once more, all of which is kept. Leaves what the second one answers.
-fn hold(counts: &mut Counts, journal: &Row, log: &mut Row, row: &mut Row, case: Case) -> Trimmed {
-    let length = case.length as usize;
+// A journal, which stands in the log and in the row, by both trimmers; and what was kept once more, all of which is kept. Leaves what the
+// second one answers.
+fn hold(
+    counts: &mut Counts,
+    journal: &[u32],
+    log: &mut Vec<u32>,
+    row: &mut [u32],
+    case: Case,
+) -> Trimmed {
     let lines = case.lines;
-    rows::copy(journal, 0, log, 0, length);
-    let answer = trimmed(log, length, case);
-    let other = apart::trim(
-        row,
-        journal,
-        length,
-        case.edition,
-        lines.a,
-        lines.b,
-        lines.c,
-    );
-    agree::hold_all(counts, answer, log, other, row, length);
+    let answer = trimmed(log, case);
+    let other = apart::trim(row, journal, case.edition, lines.a, lines.b, lines.c);
+    agree::hold_all(counts, answer, log, other, row);
     if other.number == 0 {
-        let again = trimmed(log, other.kept, case);
-        agree::hold_all(counts, again, log, other, row, other.kept);
+        log.truncate(other.kept);
+        let again = trimmed(log, case);
+        agree::hold_all(counts, again, log, other, row);
     }
     other
 }
 
 // One journal, and the seed of the next one.
-fn one(counts: &mut Counts, journal: &mut Row, log: &mut Row, row: &mut Row, seed: u64) -> u64 {
-    let drawn = cases::draw(counts, journal, seed);
+fn one(counts: &mut Counts, alloc: Global, seed: u64) -> Result<u64, AllocError> {
+    let drawn = cases::draw(counts, alloc, seed)?;
     let case = drawn.case;
-    let other = hold(counts, journal, log, row, case);
-    counts::journal(counts, case, other.number, drawn.damaged);
+    let journal = drawn.journal.as_slice();
+    let mut log = journal.to_vec(alloc)?;
+    let mut row = journal.to_vec(alloc)?;
+    let other = hold(counts, journal, &mut log, &mut row, case);
+    counts::journal(counts, case, journal.len(), other.number, drawn.damaged);
     if other.number == 0 {
-        let place = ((drawn.number >> 24) % (case.length as u64 + 1)) as usize;
-        counts::census(counts, journal, row, case, other);
-        going_on::hold(counts, journal, log, row, case, other, place);
+        let place = (drawn.number >> 24) % (journal.len() as u64 + 1);
+        let kept = other.kept.min(row.len());
+        counts::census(counts, journal, &row[..kept], case, other.idle);
+        going_on::hold(counts, alloc, journal, &row, case, other, place as usize)?;
     }
-    drawn.number
+    Ok(drawn.number)
 }
 
 const JOURNALS: usize = 3000;
 
-pub(super) fn from_any_power_up() -> Counts {
-    let mut counts = [0u64; 50];
-    let mut journal = [0u32; 8193];
-    let mut log = [0u32; 8193];
-    let mut row = [0u32; 8193];
+pub(super) fn from_any_power_up(alloc: Global) -> Result<Counts, AllocError> {
+    let mut counts = Counts::new();
     let mut seed = 0x8192819281928192;
     for _ in 0..JOURNALS {
-        seed = one(&mut counts, &mut journal, &mut log, &mut row, seed);
+        seed = one(&mut counts, alloc, seed)?;
     }
-    counts
+    Ok(counts)
 }

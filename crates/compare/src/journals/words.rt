@@ -76,7 +76,7 @@ pub(super) fn next(mut drawing: Drawing) -> Drawing {
     } else {
         drawing.exchange = events::exchange(number, drawing.exchange, drawing.step);
         drawing.word = framed(events::draw(number, drawing.exchange, drawing.step));
-        drawing.step = std::num::wrapping_add_u64(drawing.step, 1);
+        drawing.step = drawing.step.wrapping_add(1);
     }
     drawing.number = number;
     drawing.lines = after(lines, drawing.word);

@@ -82,21 +82,21 @@ pub(super) fn event(machine: Machine, kind: u8, first: u8, second: u8) -> Answer
 // The number by which an event is refused, or 0. The numbers are gone through from the last to the first, and each that applies takes the
 // place of those behind it. Operands that a kind lacks are not looked at.
 fn refusal(phase: u8, kind: u8, first: u8) -> u8 {
-    let begins = (kind == BEGIN_READ) | (kind == BEGIN_WRITE);
-    let mut number = 0u8;
-    if (kind == END) & (phase == IDLE) {
+    let begins = kind == BEGIN_READ || kind == BEGIN_WRITE;
+    let mut number = 0;
+    if kind == END && phase == IDLE {
         number = 5;
     }
-    if begins & (phase != IDLE) {
+    if begins && phase != IDLE {
         number = 4;
     }
-    if (kind == BEGIN_READ) & (first > LAST_PORT) {
+    if kind == BEGIN_READ && first > LAST_PORT {
         number = 3;
     }
-    if (begins & (first > LAST_ADDRESS)) | ((kind == LEVELS) & (first > LAST_PORT)) {
+    if (begins && first > LAST_ADDRESS) || (kind == LEVELS && first > LAST_PORT) {
         number = 2;
     }
-    if (kind == GAP) | (kind > LEVELS) {
+    if kind == GAP || kind > LEVELS {
         number = 1;
     }
     number
@@ -135,16 +135,14 @@ fn stored(mut machine: Machine) -> Machine {
     }
     let address = machine.place;
     if address <= LAST_ADDRESS {
-        let at = address as usize;
-        machine.register[at] = machine.data;
+        machine.register[address as usize] = machine.data;
     }
     machine
 }
 
 fn put_on(mut machine: Machine, port: u8, level: u8) -> Machine {
     if port <= LAST_PORT {
-        let at = port as usize;
-        machine.outside[at] = level;
+        machine.outside[port as usize] = level;
     }
     machine
 }
@@ -167,15 +165,14 @@ pub(super) fn driven(machine: Machine, port: u8) -> u8 {
     if port > LAST_PORT {
         return 0;
     }
-    let at = port as usize + DIRECTIONS;
-    machine.register[at]
+    machine.register[port as usize + DIRECTIONS]
 }
 
 // The byte of eight pins, one after the other.
 fn gathered(outputs: u8, latch: u8, outside: u8) -> u8 {
-    let mut byte = 0u8;
-    for pin in 0u8..8 {
-        byte = byte | shown(outputs, latch, outside, 1u8 << pin);
+    let mut byte = 0;
+    for pin in 0..8u8 {
+        byte |= shown(outputs, latch, outside, 1 << pin);
     }
     byte
 }

@@ -2,7 +2,7 @@
 use super::super::random;
 use super::apart::{Answer, Machine};
 use super::counts::Counts;
-use super::{agree, apart, counts, events, views};
+use super::{apart, counts, events, views};
 use i8355::Chip8355;
 use i8355::step::Stepped;
 
@@ -39,8 +39,7 @@ fn happen(pair: Pair, kind: u8, first: u8, second: u8) -> Pair {
 // Compares the models after an event, and by the number that decided it their views of a port that there is not.
 fn compare(counts: &mut Counts, pair: Pair, number: u64, event: u64, place: u64) {
     let above = views::above(number);
-    agree::hold(
-        counts,
+    counts.hold(
         event,
         place,
         views::of_proved(pair.proved, above),

@@ -1,6 +1,5 @@
 // The two runs of the 8355: long histories from power-up, and short ones from arbitrary states,
 // where a reset or one end soon ends a strange cycle.
-mod agree;
 mod apart; // the second model
 mod counts;
 mod events;
@@ -30,7 +29,7 @@ fn anywhere(counts: &mut Counts, seed: u64) -> u64 {
 
 // One history, and the seed of the next one.
 fn one(counts: &mut Counts, start: Start, seed: u64) -> u64 {
-    super::counts::add(counts, 0, 0, 1);
+    counts.add(0, 1);
     match start {
         Start::PowerUp => powered(counts, seed),
         Start::Anywhere => anywhere(counts, seed),
@@ -38,7 +37,7 @@ fn one(counts: &mut Counts, start: Start, seed: u64) -> u64 {
 }
 
 fn all(start: Start, first: u64, histories: usize) -> Counts {
-    let mut counts = [0u64; 20];
+    let mut counts = Counts::new();
     let mut seed = first;
     for _ in 0..histories {
         seed = one(&mut counts, start, seed);

@@ -26,8 +26,7 @@ pub(super) fn arbitrary(seed: u64) -> Chip8355 {
 }
 
 pub(super) fn twin(chip: Chip8355) -> Machine {
-    let phase = chip.phase;
-    let bus = twins::running(phase);
+    let bus = twins::running(chip.phase);
     Machine {
         phase: bus.phase,
         place: bus.place,

@@ -1,4 +1,5 @@
 // What a model of the 8355 shows and keeps after an event, in one form for both models.
+use super::super::numbers::Numbers;
 use super::super::{random, twins};
 use super::apart;
 use super::apart::Answer;
@@ -7,7 +8,7 @@ use i8355::view;
 
 // 0 the number, 1 the byte; 2 to 5 the levels of ports 0, 1 and 2 and of one above, 6 to 9 their driven pins; and of what is kept: 10 to 12
 // the phase, its address and its byte, 13 and 14 the latches of A and B, 15 and 16 their directions, 17 and 18 their outside levels.
-pub(super) type View = [u8; 19];
+pub(super) type View = Numbers<19>;
 
 // A port above 2, of which there is none.
 pub(super) fn above(number: u64) -> u8 {
@@ -16,13 +17,12 @@ pub(super) fn above(number: u64) -> u8 {
 
 pub(super) fn of_proved(last: Stepped, above: u8) -> View {
     let chip = last.chip;
-    let phase = chip.phase;
-    let bus = twins::running(phase);
+    let bus = twins::running(chip.phase);
     let a = view::pins(chip, 0);
     let b = view::pins(chip, 1);
     let c = view::pins(chip, 2);
     let none = view::pins(chip, above);
-    [
+    let row = [
         last.number,
         last.byte,
         a.levels,
@@ -42,14 +42,15 @@ pub(super) fn of_proved(last: Stepped, above: u8) -> View {
         chip.ports.b.direction,
         chip.ports.a.outside,
         chip.ports.b.outside,
-    ]
+    ];
+    Numbers { row }
 }
 
 pub(super) fn of_apart(last: Answer, above: u8) -> View {
     let machine = last.machine;
     let register = machine.register;
     let outside = machine.outside;
-    [
+    let row = [
         last.number,
         last.byte,
         apart::levels(machine, 0),
@@ -69,5 +70,6 @@ pub(super) fn of_apart(last: Answer, above: u8) -> View {
         register[3],
         outside[0],
         outside[1],
-    ]
+    ];
+    Numbers { row }
 }

@@ -47,11 +47,10 @@ const NO_CARD: u8 = 10;
 
 // A rack of so many cards, on which nothing has happened yet.
 pub(super) fn power_up(cards: u8) -> Shelf {
-    let chip = apart::power_up();
     Shelf {
         cards,
         taken: NOWHERE,
-        chips: [chip; 8],
+        chips: [apart::power_up(); 8],
     }
 }
 
@@ -69,8 +68,7 @@ fn chip_at(shelf: Shelf, place: u8) -> Machine {
 
 // What one card answers, as the answer of the rack, on which another card may have the bus now.
 fn answered(mut shelf: Shelf, place: u8, taken: u8, answer: apart::Answer) -> Answer {
-    let chip = answer.machine;
-    shelf.chips[(place % 8) as usize] = chip;
+    shelf.chips[(place % 8) as usize] = answer.machine;
     shelf.taken = taken;
     Answer {
         shelf,
@@ -99,10 +97,8 @@ pub(super) fn event(
 
 // Every card is reset, and none has the bus.
 fn reset(mut shelf: Shelf) -> Shelf {
-    for place in 0..8 {
-        let answer = apart::event(shelf.chips[place], RESET, 0, 0);
-        let chip = answer.machine;
-        shelf.chips[place] = chip;
+    for chip in &mut shelf.chips {
+        *chip = apart::event(*chip, RESET, 0, 0).machine;
     }
     shelf.taken = NOWHERE;
     shelf

@@ -84,18 +84,7 @@ fn one(made: Made, seed: u64, at: u64) -> u16 {
 }
 
 fn list(made: Made, seed: u64) -> [u16; 10] {
-    [
-        one(made, seed, 0),
-        one(made, seed, 1),
-        one(made, seed, 2),
-        one(made, seed, 3),
-        one(made, seed, 4),
-        one(made, seed, 5),
-        one(made, seed, 6),
-        one(made, seed, 7),
-        one(made, seed, 8),
-        one(made, seed, 9),
-    ]
+    std::array::from_fn(|at| one(made, seed, at as u64))
 }
 
 // A list that makes a rack: in one of two a full one, else of any number of cards.
@@ -131,14 +120,5 @@ pub(super) fn wild_list(seed: u64) -> Bases {
 
 // The bases at the eight places of a rack.
 pub(super) fn in_places(bases: Bases) -> [u16; 8] {
-    [
-        bases.list[0],
-        bases.list[1],
-        bases.list[2],
-        bases.list[3],
-        bases.list[4],
-        bases.list[5],
-        bases.list[6],
-        bases.list[7],
-    ]
+    std::array::from_fn(|place| bases.list[place])
 }

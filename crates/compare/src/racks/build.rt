@@ -13,16 +13,13 @@ const BASE_BITS: u16 = 0x7f8;
 // Of two cards with one base the second does not answer there.
 fn stands(who: &Who, base: u16, place: u8) -> bool {
     let there = who[base as usize];
-    (base & !BASE_BITS == 0) & (there == place % MOST_CARDS * who::LOCATIONS)
+    base & !BASE_BITS == 0 && there == place % MOST_CARDS * who::LOCATIONS
 }
 
 fn all_stand(who: &Who, bases: [u16; 8], cards: u8) -> bool {
-    for place in 0u8..8 {
-        if (place < cards) & !stands(who, bases[place as usize], place) {
-            return false;
-        }
-    }
-    true
+    (0..cards)
+        .zip(&bases)
+        .all(|(place, base)| stands(who, *base, place))
 }
 
 // The number of the building, and the rack, with a table in which there was nobody. A refused one is a rack of none, and has nobody in
@@ -31,7 +28,7 @@ pub(super) fn build(who: &mut Who, bases: Bases) -> Answer {
     let cards = bases.count;
     let places = bases::in_places(bases);
     who::enter(who, places, cards);
-    if (cards <= MOST_CARDS) & all_stand(who, places, cards) {
+    if cards <= MOST_CARDS && all_stand(who, places, cards) {
         return Answer {
             shelf: apart::power_up(cards),
             number: 0,

@@ -6,18 +6,21 @@
 //     73 cycles begun by the first copy of a register and 74 by the second; 75 kept out by a cycle on the same card and 76 on another
 //     77 ends on the first card and 78 on another; 79 levels within a cycle on the same card and 80 on another; 81 resets within a cycle
 //     82 differences
-use super::super::counts::flag;
+use super::super::row::Row;
+use super::super::twins;
 use super::super::twins::{PER_CHANNEL, Tallies};
-use super::super::{counts, twins};
+use super::agree::Compared;
 use super::apart::NOWHERE;
 use super::{apart, who};
 use rack::Rack;
 
-pub(super) type Counts = [u64; 83];
+pub(super) type Counts = Row<Compared, 83>;
 
 const NUMBERS: usize = 8;
 
-const BUILDS: usize = 15;
+const BUILT: usize = 15;
+
+const REFUSED: usize = 16;
 
 const FATES: usize = 17;
 
@@ -39,23 +42,21 @@ const LEVELS_WITHIN_OTHER: usize = 80;
 
 const RESET_WITHIN: usize = 81;
 
-pub(super) const DIFFERENCES: usize = 82;
-
-// The place of what is not counted: behind the row.
-const BEHIND: usize = 83;
-
-// The numbers of events: 10 stands behind 5, and one that no event gives behind the row.
-fn place_of_number(number: u8) -> usize {
+// The place of a number that an event gives: 10 stands behind 5.
+fn place_of_number(number: u8) -> Option<usize> {
     match number {
-        0..=5 => NUMBERS + number as usize,
-        rack::NO_CARD => NUMBERS + 6,
-        _ => BEHIND,
+        0..=5 => Some(NUMBERS + number as usize),
+        rack::NO_CARD => Some(NUMBERS + 6),
+        _ => None,
     }
 }
 
 pub(super) fn build(counts: &mut Counts, number: u8) {
-    counts::add(counts, BUILDS, 0, flag(number == 0));
-    counts::add(counts, BUILDS, 1, flag(number == rack::BAD_RACK));
+    match number {
+        0 => counts.add(BUILT, 1),
+        rack::BAD_RACK => counts.add(REFUSED, 1),
+        _ => {}
+    }
 }
 
 // What an event was for: the entry of its address, its place, and the place that had the bus before it.
@@ -66,59 +67,64 @@ pub(super) struct Aim {
     pub(super) taken: u8,
 }
 
-fn pick(on: bool, yes: usize, no: usize) -> usize {
-    if on { yes } else { no }
+fn begun(aim: Aim, number: u8) -> Option<usize> {
+    match number {
+        0 if who::is_second_copy(aim.entry) => Some(SECOND_COPY),
+        0 => Some(FIRST_COPY),
+        4 if who::place(aim.entry) == aim.taken => Some(KEPT_OUT_BY_SAME),
+        4 => Some(KEPT_OUT_BY_OTHER),
+        _ => None,
+    }
 }
 
-fn begun(aim: Aim, number: u8) -> usize {
-    match number {
-        0 => pick(who::is_second_copy(aim.entry), SECOND_COPY, FIRST_COPY),
-        4 => pick(
-            who::place(aim.entry) == aim.taken,
-            KEPT_OUT_BY_SAME,
-            KEPT_OUT_BY_OTHER,
-        ),
-        _ => BEHIND,
+// What an event did within a cycle.
+fn within(aim: Aim, kind: u8) -> Option<usize> {
+    match kind {
+        apart::RESET => Some(RESET_WITHIN),
+        apart::END if aim.taken == 0 => Some(END_ON_FIRST),
+        apart::END => Some(END_ON_OTHER),
+        apart::LEVELS if aim.place == aim.taken as u16 => Some(LEVELS_WITHIN_SAME),
+        apart::LEVELS => Some(LEVELS_WITHIN_OTHER),
+        _ => None,
     }
 }
 
 // The place of what an event did besides. A begun cycle is counted always, and one that is kept out; all else only where a cycle ran.
-fn deed(aim: Aim, kind: u8, number: u8) -> usize {
-    let within = (aim.taken != NOWHERE) & (number == 0);
-    let same = aim.place == aim.taken as u16;
-    let place = match kind {
-        apart::RESET => RESET_WITHIN,
-        apart::BEGIN_READ | apart::BEGIN_WRITE => return begun(aim, number),
-        apart::END => pick(aim.taken == 0, END_ON_FIRST, END_ON_OTHER),
-        apart::LEVELS => pick(same, LEVELS_WITHIN_SAME, LEVELS_WITHIN_OTHER),
-        _ => BEHIND,
-    };
-    pick(within, place, BEHIND)
+fn deed(aim: Aim, kind: u8, number: u8) -> Option<usize> {
+    match kind {
+        apart::BEGIN_READ | apart::BEGIN_WRITE => begun(aim, number),
+        _ if aim.taken != NOWHERE && number == 0 => within(aim, kind),
+        _ => None,
+    }
 }
 
 pub(super) fn event(counts: &mut Counts, aim: Aim, kind: u8, number: u8) {
-    counts::add(counts, 1, 0, 1);
-    counts::add(counts, 2, counts::order(kind), 1);
-    counts::add(counts, place_of_number(number), 0, 1);
-    counts::add(counts, deed(aim, kind, number), 0, 1);
-}
-
-// How far the event moved each tally of a card, which may have passed its end.
-fn fates_at(counts: &mut Counts, first: usize, before: Tallies, after: Tallies) {
-    for at in 0..28 {
-        let by = std::num::wrapping_sub_u16(after[at], before[at]);
-        counts::add(counts, first, (at % PER_CHANNEL) as u8, by);
+    counts.event(kind);
+    if let Some(place) = place_of_number(number) {
+        counts.add(place, 1);
+    }
+    if let Some(place) = deed(aim, kind, number) {
+        counts.add(place, 1);
     }
 }
 
 fn tallies(rack: Rack, place: u8) -> Tallies {
-    let card = rack::views::card_at(rack, place);
-    twins::tallies(card.chip)
+    twins::tallies(rack::views::card_at(rack, place).chip)
+}
+
+// How far the event moved each tally of the card at a place, which may have passed its end.
+fn fates_at(counts: &mut Counts, place: u8, before: Tallies, after: Tallies) {
+    let first = FATES + place as usize * PER_CHANNEL;
+    for at in 0..28 {
+        counts.add(
+            first + at % PER_CHANNEL,
+            after[at].wrapping_sub(before[at]) as u64,
+        );
+    }
 }
 
 pub(super) fn fates(counts: &mut Counts, before: Rack, after: Rack) {
-    for place in 0u8..8 {
-        let first = FATES + place as usize * PER_CHANNEL;
-        fates_at(counts, first, tallies(before, place), tallies(after, place));
+    for place in 0..8 {
+        fates_at(counts, place, tallies(before, place), tallies(after, place));
     }
 }

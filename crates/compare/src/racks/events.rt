@@ -47,16 +47,14 @@ pub(super) fn draw(number: u64, exchange: u64, step: u64, bases: Bases) -> u64 {
 
 // One of the cards of the list, by any number; 0 where there is none.
 fn card(number: u64, bases: Bases) -> u64 {
-    let count = bases.count;
-    if count == 0 {
-        return 0;
+    match bases.count {
+        0 => 0,
+        count => number % count as u64,
     }
-    number % count as u64
 }
 
 fn base_of(place: u64, bases: Bases) -> u16 {
-    let at = (place % 10) as usize;
-    bases.list[at]
+    bases.list[(place % 10) as usize]
 }
 
 // An event of a chip, as one of the card at a place. Operands that its kind lacks are drawn, and so is the copy of the register.

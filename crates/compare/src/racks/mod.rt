@@ -33,23 +33,19 @@ enum Start {
     Anywhere,
 }
 
-// The proved model builds a rack of so many bases.
-fn built_of(list: &[u16], count: usize) -> Built {
-    if count < list.len() {
-        return rack::build(&list[0..count]);
-    }
-    rack::build(list)
+// The proved model builds a rack of the bases.
+fn built_of(bases: Bases) -> Built {
+    let count = bases.list.len().min(bases.count as usize);
+    rack::build(&bases.list[..count])
 }
 
 // Both models build a rack of the bases, and their numbers are those of the building.
 fn built(counts: &mut Counts, who: &mut Who, bases: Bases) -> Pair {
-    let list = bases.list;
-    let built = built_of(&list, bases.count as usize);
+    let built = built_of(bases);
     counts::build(counts, built.number);
-    let rack = built.rack;
     Pair {
         proved: Stepped {
-            rack,
+            rack: built.rack,
             number: built.number,
             byte: 0,
         },
@@ -87,7 +83,7 @@ fn bases_of(start: Start, seed: u64) -> Bases {
 
 // One history, and the seed of the next one. In the short ones the cards are not set up first.
 fn one(counts: &mut Counts, start: Start, seed: u64) -> u64 {
-    super::counts::add(counts, 0, 0, 1);
+    counts.add(0, 1);
     let mut who = [who::NOBODY; 65536];
     let far = random::far(seed);
     let bases = bases_of(start, seed);
@@ -108,7 +104,7 @@ fn one(counts: &mut Counts, start: Start, seed: u64) -> u64 {
 }
 
 fn all(start: Start, first: u64, histories: usize) -> Counts {
-    let mut counts = [0u64; 83];
+    let mut counts = Counts::new();
     let mut seed = first;
     for _ in 0..histories {
         seed = one(&mut counts, start, seed);

@@ -12,8 +12,7 @@ use chip::{Chip, Core, Edition};
 use rack::Rack;
 
 fn core(seed: u64) -> Core {
-    let chip = states::arbitrary(seed);
-    chip.core
+    states::arbitrary(seed).core
 }
 
 fn cores(seed: u64) -> [Core; 8] {
@@ -46,11 +45,10 @@ fn phase(number: u64) -> Phase {
 // A rack with the bases of the list, and as many cards as it says.
 pub(super) fn arbitrary(bases: Bases, seed: u64) -> Rack {
     let number = next(seed);
-    let bus = rack::Bus {
-        phase: phase(number),
-    };
     Rack {
-        bus,
+        bus: rack::Bus {
+            phase: phase(number),
+        },
         count: bases.count,
         bases: bases::in_places(bases),
         cores: cores(far(number)),
@@ -59,9 +57,7 @@ pub(super) fn arbitrary(bases: Bases, seed: u64) -> Rack {
 
 // What runs on the bus of a rack. Its place is the number there.
 pub(super) fn running(rack: Rack) -> Bus {
-    let bus = rack.bus;
-    let phase = bus.phase;
-    twins::running(phase)
+    twins::running(rack.bus.phase)
 }
 
 // A chip of the second model at a place of the rack. Only on the card whose number it has does the cycle run.
@@ -90,9 +86,8 @@ fn taken(bus: Bus) -> u8 {
 }
 
 pub(super) fn twin(rack: Rack) -> Shelf {
-    let count = rack.count;
     Shelf {
-        cards: if count < 8 { count } else { 8 },
+        cards: rack.count.min(8),
         taken: taken(running(rack)),
         chips: [
             twin_at(rack, 0),

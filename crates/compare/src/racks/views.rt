@@ -1,5 +1,6 @@
 // What a model of the rack answers and shows after an event, in one form for both models: the answer, with one place that is asked by
 // itself, and each place as a chip.
+use super::super::numbers::Numbers;
 use super::super::random::byte;
 use super::super::{twins, views};
 use super::apart::{Answer, NOWHERE, Shelf};
@@ -13,7 +14,7 @@ use rack::views::CardTally;
 // 0 the number, 1 the byte, 2 whether a cycle runs; and of the place that is asked: 3 to 5 the number, the levels and the driven pins of
 // a port; 6 to 20 the number and the tallies of a channel, two bytes each; 21 to 24 the number and what is said of an INTR, by three
 // numbers.
-pub(super) type View = [u8; 25];
+pub(super) type View = Numbers<25>;
 
 // What is asked by itself: a place, and there a port, a group and a channel.
 #[derive(Clone, Copy)]
@@ -59,22 +60,17 @@ fn high(count: u16) -> u8 {
     (count / 256) as u8
 }
 
-fn flag(on: bool) -> u8 {
-    if on { 1 } else { 0 }
-}
-
 pub(super) fn of_proved(last: Stepped, question: Question) -> View {
     let rack = last.rack;
     let bus = states::running(rack);
     let pins = rack::views::pins(rack, question.place, question.port);
     let counted = tally(rack, question.place, question.channel);
     let said = rack::views::explain(rack, question.place, question.group);
-    let explained = said.explained;
-    let numbers = status::reasons::numbered(explained);
-    [
+    let half = status::reasons::numbered(said.explained);
+    let row = [
         last.number,
         last.byte,
-        flag(bus.phase != twins::IDLE),
+        (bus.phase != twins::IDLE) as u8,
         pins.number,
         pins.pins.levels,
         pins.pins.driven,
@@ -94,10 +90,11 @@ pub(super) fn of_proved(last: Stepped, question: Question) -> View {
         low(counted.tally.struck),
         high(counted.tally.struck),
         said.number,
-        numbers.number,
-        numbers.input,
-        numbers.output,
-    ]
+        half.number,
+        half.input,
+        half.output,
+    ];
+    Numbers { row }
 }
 
 pub(super) fn of_apart(last: Answer, question: Question) -> View {
@@ -106,10 +103,10 @@ pub(super) fn of_apart(last: Answer, question: Question) -> View {
     let said = apart::explain(shelf, question.place, question.group);
     let tally = card.machine.tally;
     let first = (question.channel % 4) as usize * twins::PER_CHANNEL;
-    [
+    let row = [
         last.number,
         last.byte,
-        flag(shelf.taken != NOWHERE),
+        (shelf.taken != NOWHERE) as u8,
         card.number,
         super::super::apart::levels(card.machine, question.port),
         super::super::apart::driven(card.machine, question.port),
@@ -132,15 +129,15 @@ pub(super) fn of_apart(last: Answer, question: Question) -> View {
         said.number,
         said.input,
         said.output,
-    ]
+    ];
+    Numbers { row }
 }
 
 // The card at a place: in its view as a chip the number is that of the place, and the byte the place itself.
 pub(super) fn place_of_proved(rack: Rack, place: u8) -> views::View {
     let card = rack::views::card_at(rack, place);
-    let chip = card.chip;
     views::of_proved(step::Stepped {
-        chip,
+        chip: card.chip,
         number: card.number,
         byte: place,
     })

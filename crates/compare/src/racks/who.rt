@@ -33,17 +33,16 @@ fn enter_location(who: &mut Who, base: u16, place: u8, location: u8) {
 }
 
 fn enter_card(who: &mut Who, base: u16, place: u8) {
-    for location in 0u8..8 {
+    for location in 0..LOCATIONS {
         enter_location(who, base, place, location);
     }
 }
 
 // Enters the cards that there are, from the last to the first, so that where several answer the first one stays.
 pub(super) fn enter(who: &mut Who, bases: [u16; 8], cards: u8) {
-    for behind in 0u8..8 {
-        let place = 7 - behind;
+    for (place, base) in (0..8).zip(bases).rev() {
         if place < cards {
-            enter_card(who, bases[place as usize], place);
+            enter_card(who, base, place);
         }
     }
 }
