@@ -2,7 +2,7 @@
 use super::apart::{Answer, Machine};
 use super::counts::Counts;
 use super::views::View;
-use super::{apart, counts, events, random, views};
+use super::{apart, counts, draws, random, views};
 use chip::Chip;
 use step::Stepped;
 
@@ -61,8 +61,8 @@ struct Course {
 
 fn advance(counts: &mut Counts, course: Course, place: u64) -> Course {
     let number = random::next(course.number);
-    let exchange = events::exchange(number, course.exchange, place);
-    let event = events::draw(number, exchange, place);
+    let exchange = draws::exchange(number, course.exchange, place);
+    let event = draws::draw(number, exchange, place);
     let pair = happen(
         course.pair,
         random::byte(event >> 16),

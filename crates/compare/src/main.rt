@@ -5,12 +5,12 @@
 
 mod apart; // the second model
 mod counts;
-mod events;
+mod draws;
 mod exchanges;
 mod history;
 mod journals; // journals, trimmed
-mod ports_8355; // the 8355
 mod numbers;
+mod ports_8355; // the 8355
 mod print;
 mod racks; // racks of cards
 mod random;

@@ -44,7 +44,9 @@ decided-in-order s m f h n d bs low high rest =
     (λ d decisive rest. (low, high, rest n (held-behind s Waiting h n d decisive))) f d rest
 
 in-order : (s : Side) (m : ℕ) (f : Fill) (h : Offer) (n : ℕ) (later : List Effect) → m ≤ h.place → h.place < n → InOrder m (story s f h n later)
-in-order s m f h n [] low high = elim f [ Empty ↦ tt | Waiting ↦ (low, high, tt) | Fetching ↦ tt ]
+in-order s m Empty h n [] low high = tt
+in-order s m Waiting h n [] low high = (low, high, tt)
+in-order s m Fetching h n [] low high = tt
 in-order s m f h n (d ∷ later) low high =
     let held = held_after s f h n (shape_of d) in
     rw (story-step s f h n d later)

@@ -1,9 +1,10 @@
 -- The scale and the printer side by side, computed from the events.
 -- Rests on nothing.
-use mathlib.Core.Path.{refl}
+use Rattle.std.proofs.Common.{◌≡◌, refl, true}
 use Rattle.bits.specs.Bit.{bit_of}
 use Rattle.control.specs.declared.Group.TheVariants.{A, B}
-use Rattle.groups.specs.SideBySide.{SideBySide, ReadInTheWay, StatusRead}
+use Rattle.groups.specs.Alone.{out_of_the_way}
+use Rattle.groups.specs.SideBySide.{start, both_at_work, SideBySide, ReadInTheWay, StatusRead}
 
 pub side_by_side : SideBySide
 unfolding bit_of
@@ -12,7 +13,7 @@ side_by_side = record {
   not_the_scales = refl;
   scale = refl;
   printer = refl;
-  both_out_of_the_way = λ g. elim g [ A ↦ refl | B ↦ refl ];
+  both_out_of_the_way = λ g. elim g as (λ g. out_of_the_way g start both_at_work ≡ true) [ A ↦ refl | B ↦ refl ];
   digits = refl;
   digits_alone = refl;
   prints = refl;

@@ -18,15 +18,14 @@ fn same(image: &[u8], other: &[u8]) -> bool
     ensures { result ≡ same_bytes image.now other.now }
 {
     let mut same = true;
-    let mut at = 0;
-    while at < LENGTH {
-        same = same & (image[at] == other[at]);
-        at = at + 1;
+    for at in 0..LENGTH {
+        same &= image[at] == other[at];
     }
     same
 }
 
 // Lets the event of a word happen to the chip whose image it is.
+#[tactic(auto, using(crate::proofs::Packed::frame_small))]
 fn pass(image: &mut [u8], word: u32)
     requires { is_frame (event_in word) ≡ true }
     ensures { image.new ≡ step_image image.old (event_in word).kind (event_in word).first (event_in word).second }
@@ -49,18 +48,16 @@ pub(super) fn keep(words: &mut [u32], chip: Chip) -> usize
 {
     let mut image = [0u8; LENGTH];
     image::save::state(&mut image, chip);
-    let mut at = 0;
     let mut kept = 0;
-    while at < words.len() {
+    for at in 0..words.len() {
         let word = words[at];
         words[at] = 0;
         let before = image;
         pass(&mut image, word);
         if !same(&before, &image) {
             words[kept] = word;
-            kept = kept + 1;
+            kept += 1;
         }
-        at = at + 1;
     }
     kept
 }

@@ -41,6 +41,7 @@ fn is_exact(word: u32, operands: u8) -> bool
 }
 
 // Whether a word is a frame: there is such a kind, and nothing stands where it has no operand.
+#[tactic(auto, unfolding(crate::specs::Words::is_frame))]
 fn is_frame(word: u32) -> bool
     ensures { result ≡ is_frame (event_in word) }
 {
@@ -52,12 +53,10 @@ fn is_frame(word: u32) -> bool
 pub(super) fn all_frames(words: &[u32]) -> bool
     ensures { result ≡ all_frames words.now }
 {
-    let mut at = 0;
-    while at < words.len() {
-        if !is_frame(words[at]) {
+    for word in words {
+        if !is_frame(*word) {
             return false;
         }
-        at = at + 1;
     }
     true
 }

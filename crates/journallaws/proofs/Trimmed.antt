@@ -16,7 +16,7 @@ use Rattle.image.specs.Layout.{edition_byte}
 use Rattle.restored.proofs.Stays.{power-up-has}
 use Rattle.journal.specs.Words.{all_frames}
 use Rattle.journal.specs.Trim.{kept_from, kept_of, trim_number, filled_up}
-use Rattle.journal.proofs.Trimming.{kept-at-most, refused-answer, refused-words, accepted-answer, accepted-words}
+use Rattle.journal.proofs.Trimming.{kept-at-most, refused_answer, refused-words, accepted_answer, accepted-words}
 use Rattle.journallaws.specs.Frames.{Frames}
 use Rattle.journallaws.specs.Keeps.{events_in, Keeps}
 use Rattle.journallaws.specs.Promise.{answer_of, left_of, front_of, Trimmed, RefusedWith, Numbered}
@@ -29,7 +29,7 @@ module _ (ws : List ℕ) (edition a b c : ℕ) where
   refused-with : (n : ℕ) → trim_number ws edition ≡ n → ¬ (n ≡ 0) → RefusedWith n ws edition a b c
   refused-with n is some =
       let refused : ¬ (trim_number ws edition ≡ 0) = λ e. some (sym is ∙ e) in
-      (sym (refused-answer ws edition a b c refused) ∙ is, sym (refused-words ws edition a b c refused))
+      (sym (refused_answer ws edition a b c refused) ∙ is, sym (refused-words ws edition a b c refused))
 
   no-edition : 1 < edition → trim_number ws edition ≡ 8
   unfolding trim_number
@@ -57,7 +57,7 @@ module _ (ws : List ℕ) (edition a b c : ℕ) where
     no_frame = λ known few none. refused-with 1 (by_frames known few false (not-all none)) (λ e. omega (arith, e));
     accepted = λ known few all.
         let zero = by_frames known few true (shapes-all ws all) in
-        let count = accepted-answer ws edition a b c zero in
+        let count = accepted_answer ws edition a b c zero in
         omega (arith, count);
   }
 
@@ -79,7 +79,7 @@ module _ (ed : Edition) (v : Levels) where
     zero = by_frames ws (edition_byte ed) 0 0 0 (known ed) few true all
 
     answer : answer_of ed v ws ≡ 256 * length (kept_in ws)
-    answer = sym (accepted-answer ws (edition_byte ed) v.a v.b v.c zero) ∙ ap (λ ks. 256 * length ks) (kept-is ed v ws)
+    answer = sym (accepted_answer ws (edition_byte ed) v.a v.b v.c zero) ∙ ap (λ ks. 256 * length ks) (kept-is ed v ws)
 
     words : left_of ed v ws ≡ filled_up (kept_in ws) (length ws)
     words = sym (accepted-words ws (edition_byte ed) v.a v.b v.c zero) ∙ ap (λ ks. filled_up ks (length ws)) (kept-is ed v ws)

@@ -19,7 +19,6 @@ fn length_of(line: &[u8]) -> usize
 }
 
 // How many bytes the clean script has.
-#[tactic(auto, unfolding(crate::specs::Mend::clean_of))]
 pub(super) fn length(text: &[u8]) -> usize
     ensures { result ≡ length (clean_of text.now) }
 {

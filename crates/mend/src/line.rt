@@ -73,7 +73,6 @@ fn is_event(frame: Frame) -> bool
 }
 
 // Whether a line is a frame when it is mended: it is read from a room that has just the longest one and its LF.
-#[tactic(auto, unfolding(text::specs::Frames::is_frame, crate::specs::Line::mended))]
 pub(super) fn is_fit(line: &[u8]) -> bool
     ensures { result ≡ is_frame (mended line.now) }
 {
@@ -87,7 +86,6 @@ pub(super) fn is_fit(line: &[u8]) -> bool
 }
 
 // The sign of the line between two places of a text. It is kept just where it is a frame as it stands.
-#[tactic(auto, unfolding(crate::specs::Line::sign_of))]
 pub(super) fn sign(text: &[u8], start: usize, end: usize) -> u8
     requires start_le_end { start ≤ end }
     requires end_in_bounds { end ≤ length text.now }

@@ -7,7 +7,6 @@ use super::line;
 use text::lines;
 
 // Writes the report to the front of an output.
-#[tactic(auto, unfolding(crate::specs::Mend::report_of))]
 pub(super) fn write(text: &[u8], out: &mut [u8])
     requires { line_count text.now ≤ length out.old }
     ensures { out.new ≡ in_front (report_of text.now) out.old }

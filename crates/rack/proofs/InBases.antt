@@ -1,6 +1,6 @@
 -- Bases in a list: what is among them, and how many make a rack.
 -- Rests on the laws of truth values.
-use Rattle.std.proofs.Common.{◌≡◌, refl, Bool, true, List, [], ◌∷◌, ℕ, ◌≤◌, eqb, leb, length}
+use Rattle.std.proofs.Common.{◌≡◌, refl, true, List, [], ◌∷◌, ℕ, ◌≤◌, eqb, leb, length}
 use Rattle.std.specs.List.{list_any}
 use borrow.Author.Tests.{leb-true}
 use Rattle.bits.proofs.Logic.{both, turned}

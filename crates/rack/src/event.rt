@@ -1,14 +1,14 @@
 // One event of the rack: refused by its number, and then no card changes, or accepted, with its effect and the byte of a read.
 ghost use Rattle.std.specs.Prelude.{◌≡◌, true, map, ◌<◌};
 ghost use Rattle.events.specs.Kinds.{begins};
-ghost use Rattle.bus.specs.Device.{gives, reset_in};
+ghost use Rattle.bus.specs.Device.{reset_in};
 ghost use Rattle.bus.specs.Cycles.{phase_after};
 ghost use Rattle.rack.specs.Bases.{most_cards};
 ghost use Rattle.rack.specs.State.{number_at};
-ghost use Rattle.rack.specs.Step.{runs_at, reached_by, aim_of, core_reset, device, byte_of, as_stepped, step_of};
+ghost use Rattle.rack.specs.Step.{runs_at, reached_by, aim_of, core_reset, device, byte_of, step_of};
 
 use super::targets::Target;
-use super::{Bus, CARD_EDITION, NO_CARD, PLACES, Rack, targets, views};
+use super::{CARD_EDITION, NO_CARD, PLACES, Rack, targets, views};
 use bus::{ACCEPTED, Phase};
 use chip::{Chip, Core};
 
@@ -21,10 +21,10 @@ pub struct Stepped {
 }
 
 // Every place is reset, whether a card is there or not.
-fn reset(mut cores: [Core; 8]) -> [Core; 8]
-    ensures { result ≡ map core_reset cores }
+fn reset(cores: &mut [Core; 8])
+    ensures { cores.new ≡ map core_reset cores.old }
 {
-    for core in &mut cores {
+    for core in cores.iter_mut() {
         let chip = step::kinds::reset(Chip {
             phase: Phase::Idle,
             edition: CARD_EDITION,
@@ -32,12 +32,12 @@ fn reset(mut cores: [Core; 8]) -> [Core; 8]
         });
         *core = chip.core;
     }
-    cores
 }
 
 // What runs on the bus after an accepted event.
 fn phase_after(phase: Phase, kind: u8, place: u8, register: u8, byte: u8) -> Phase
-    requires { (place < most_cards) × (begins kind ≡ true → register < 4) }
+    requires at_a_place { place < most_cards }
+    requires at_a_register { begins kind ≡ true → register < 4 }
     ensures { result ≡ phase_after phase kind (number_at place register) byte }
 {
     match kind {
@@ -80,19 +80,11 @@ fn byte(kind: u8, second: u8, third: u8) -> u8
 }
 
 // A reset drops the cycle that runs, on whatever card.
-fn reset_all(mut rack: Rack) -> Stepped
-    ensures { result ≡ as_stepped (gives (reset_in device rack) 0 0) }
+fn reset_all(rack: &mut Rack)
+    ensures { rack.new ≡ reset_in device rack.old }
 {
-    let cores = rack.cores;
-    let cores = reset(cores);
-    rack.cores = cores;
-    let bus = Bus { phase: Phase::Idle };
-    rack.bus = bus;
-    Stepped {
-        rack,
-        number: ACCEPTED,
-        byte: 0,
-    }
+    reset(&mut rack.cores);
+    rack.bus.phase = Phase::Idle;
 }
 
 // What is found out of an event before anything is done: its number, and the place and the register that it reaches.
@@ -121,42 +113,32 @@ fn aim_at(phase: Phase, kind: u8, target: Target) -> Aim
 }
 
 // One event: a kind, and an address and a byte, or a place, a port and levels; operands that the kind lacks are ignored. One card alone
-// is taken out of the rack, steps as a chip alone does, and is put back.
-pub fn step(mut rack: Rack, kind: u8, first: u16, second: u8, third: u8) -> Stepped
+// is taken out of the rack, steps as a chip alone does, and is put back. The rack changes in the place where it is given back, so that it
+// is copied once.
+pub fn step(rack: Rack, kind: u8, first: u16, second: u8, third: u8) -> Stepped
     ensures { result ≡ step_of rack kind first second third }
 {
-    let bus = rack.bus;
-    let phase = bus.phase;
-    let bases = rack.bases;
-    let aim = aim_at(
-        phase,
-        kind,
-        targets::find(kind, rack.count, bases, first, second),
-    );
+    let phase = rack.bus.phase;
+    let target = targets::find(kind, rack.count, rack.bases, first, second);
+    let aim = aim_at(phase, kind, target);
+    let mut stepped = Stepped {
+        rack,
+        number: aim.number,
+        byte: 0,
+    };
     if aim.number != ACCEPTED {
-        return Stepped {
-            rack,
-            number: aim.number,
-            byte: 0,
-        };
+        return stepped;
     }
     if kind == events::RESET {
-        return reset_all(rack);
+        reset_all(&mut stepped.rack);
+        return stepped;
     }
     let byte = byte(kind, second, third);
     let place = aim.place as usize;
-    let core = rack.cores[place];
-    let chip = views::chip_of(phase, aim.place, core);
-    let stepped = step::step(chip, kind, aim.register, byte);
-    let core = stepped.chip.core;
-    rack.cores[place] = core;
-    let bus = Bus {
-        phase: phase_after(phase, kind, aim.place, aim.register, byte),
-    };
-    rack.bus = bus;
-    Stepped {
-        rack,
-        number: ACCEPTED,
-        byte: stepped.byte,
-    }
+    let chip = views::chip_of(phase, aim.place, stepped.rack.cores[place]);
+    let given = step::step(chip, kind, aim.register, byte);
+    stepped.rack.cores[place] = given.chip.core;
+    stepped.rack.bus.phase = phase_after(phase, kind, aim.place, aim.register, byte);
+    stepped.byte = given.byte;
+    stepped
 }

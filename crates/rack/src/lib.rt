@@ -32,8 +32,7 @@ pub const BAD_RACK: u8 = 9;
 pub const NO_CARD: u8 = 10;
 
 // The one bus of a rack, which numbers the registers through: register r of the card at place p is 8 x r + p. So there is no rack on
-// which two cycles run. It is a struct of its own because an enum in a field is not stored to, and a rack that is made anew for it costs
-// half as much again.
+// which two cycles run.
 #[derive(Clone, Copy)]
 pub struct Bus {
     pub phase: Phase,

@@ -27,9 +27,9 @@ four (a ∷ b ∷ c ∷ []) h = absurd (omega (arith, h))
 four (a ∷ b ∷ c ∷ d ∷ later) h = refl
 
 module _ (line : List ℕ) (at : ℕ) where
-  pub few-left : at < length line → length line < at + base_digits → leading_base (drop at line) ≡ no_base
-  few-left within short = few (drop at line) (omega (arith, length-drop at line))
+  pub few_left : at < length line → length line < at + base_digits → leading_base (drop at line) ≡ no_base
+  few_left within short = few (drop at line) (omega (arith, length-drop at line))
 
-  pub four-left : at + base_digits ≤ length line
+  pub four_left : at + base_digits ≤ length line
       → leading_base (drop at line) ≡ base_of (leading_byte (drop at line)) (leading_byte (drop (at + 2) line))
-  four-left h = rw (← drop-drop 2 at line) (four (drop at line) (omega (arith, length-drop at line)))
+  four_left h = rw (← drop-drop 2 at line) (four (drop at line) (omega (arith, length-drop at line)))

@@ -33,6 +33,7 @@ fn base(high: u16, low: u16) -> u16
 }
 
 // The base at that place of the line.
+#[tactic(auto, using(crate::proofs::Leading::few_left, crate::proofs::Leading::four_left))]
 fn base_at(line: &[u8], at: usize) -> u16
     requires { at < length line.now }
     ensures { result ≡ leading_base (drop at line.now) }

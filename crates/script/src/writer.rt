@@ -17,7 +17,6 @@ fn put(out: &mut [u8], at: usize, byte: u8)
 }
 
 // An answer line.
-#[tactic(auto, unfolding(crate::specs::Answers::line_text))]
 pub(super) fn write(out: &mut [u8], answer: Shown)
     requires { answer_width ≤ length out.old }
     ensures { out.new ≡ line_text answer ++ drop answer_width out.old }

@@ -1,7 +1,7 @@
 // The words of a journal, as they are drawn: the frames of exchanges, in their order, and between them what an idle machine logs besides;
 // and words that are no frames.
 use super::super::random::byte;
-use super::super::{events, random};
+use super::super::{draws, random};
 
 // The levels on the lines of the three ports.
 #[derive(Clone, Copy)]
@@ -74,8 +74,8 @@ pub(super) fn next(mut drawing: Drawing) -> Drawing {
     if byte(number >> 48) < IDLE {
         drawing.word = idle(drawing.word, lines, number);
     } else {
-        drawing.exchange = events::exchange(number, drawing.exchange, drawing.step);
-        drawing.word = framed(events::draw(number, drawing.exchange, drawing.step));
+        drawing.exchange = draws::exchange(number, drawing.exchange, drawing.step);
+        drawing.word = framed(draws::draw(number, drawing.exchange, drawing.step));
         drawing.step = drawing.step.wrapping_add(1);
     }
     drawing.number = number;

@@ -2,7 +2,7 @@
 use super::super::random;
 use super::apart::{Answer, Machine};
 use super::counts::Counts;
-use super::{apart, counts, events, views};
+use super::{apart, counts, draws, views};
 use i8355::Chip8355;
 use i8355::step::Stepped;
 
@@ -57,8 +57,8 @@ struct Course {
 
 fn advance(counts: &mut Counts, course: Course, place: u64) -> Course {
     let number = random::next(course.number);
-    let exchange = events::exchange(number, course.exchange, place);
-    let event = events::draw(number, exchange, place);
+    let exchange = draws::exchange(number, course.exchange, place);
+    let event = draws::draw(number, exchange, place);
     let kind = random::byte(event >> 16);
     let pair = happen(
         course.pair,

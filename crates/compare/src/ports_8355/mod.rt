@@ -2,7 +2,7 @@
 // where a reset or one end soon ends a strange cycle.
 mod apart; // the second model
 mod counts;
-mod events;
+mod draws;
 mod history;
 mod states;
 mod views;

@@ -4,7 +4,7 @@ use super::apart::Answer;
 use super::bases::Bases;
 use super::counts::{Aim, Counts};
 use super::who::Who;
-use super::{agree, apart, counts, events, views};
+use super::{agree, apart, counts, draws, views};
 use rack::event;
 use rack::event::Stepped;
 
@@ -48,8 +48,8 @@ fn count(counts: &mut Counts, who: &Who, event: u64, before: Pair, after: Pair) 
 
 fn advance(counts: &mut Counts, who: &Who, bases: Bases, course: Course, step: u64) -> Course {
     let number = random::next(course.number);
-    let exchange = events::exchange(number, course.exchange, step);
-    let event = events::draw(number, exchange, step, bases);
+    let exchange = draws::exchange(number, course.exchange, step);
+    let event = draws::draw(number, exchange, step, bases);
     let pair = happen(course.pair, who, event);
     count(counts, who, event, course.pair, pair);
     agree::hold(counts, event, step, pair, views::drawn(number));

@@ -5,7 +5,7 @@ mod apart; // the second model
 mod bases;
 mod build; // how that builds a rack
 mod counts;
-mod events;
+mod draws;
 mod history;
 mod states;
 mod views;
@@ -23,7 +23,7 @@ use who::Who;
 // The steps at which histories end. Long ones have two rounds. Short ones have 24 steps: a mode word or a reset soon ends what is strange.
 const LONG: u64 = 600;
 
-const SHORT: u64 = events::SET_UP + 24;
+const SHORT: u64 = draws::SET_UP + 24;
 
 // Where histories begin.
 #[derive(Clone, Copy)]
@@ -94,11 +94,11 @@ fn one(counts: &mut Counts, start: Start, seed: u64) -> u64 {
         }
         Start::AnyBases => {
             let pair = built(counts, &mut who, bases);
-            history::run(counts, &who, bases, pair, far, events::SET_UP, SHORT)
+            history::run(counts, &who, bases, pair, far, draws::SET_UP, SHORT)
         }
         Start::Anywhere => {
             let pair = put(&mut who, bases, seed);
-            history::run(counts, &who, bases, pair, far, events::SET_UP, SHORT)
+            history::run(counts, &who, bases, pair, far, draws::SET_UP, SHORT)
         }
     }
 }

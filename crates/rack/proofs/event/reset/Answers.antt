@@ -10,6 +10,6 @@ use Rattle.rack.proofs.event.reset.Goals as goal
 pub loop-core-preserved : goal.loop-core-preserved
 loop-core-preserved c =
     let l = c.loop-core in
-    let within : l.core-index < length l.core-items = grind (arith, common_steps) in
+    let within : l.core-index < length l.cores = grind (arith, common_steps) in
     rw c.reset-chip.ensures
-    (map_over_more core_reset c.args.cores l.core-items l.core-index _ (omega arith) l.invariant (get_or_default l.core-items l.core-index no_core _ within))
+    (map_over_more core_reset c.args.cores.now l.cores l.core-index _ (omega arith) l.invariant (get_or_default l.cores l.core-index no_core _ within))

@@ -4,4 +4,4 @@ use Rattle.rack.specs.Step.{core_reset}
 use Rattle.rack.proofs.event.reset.Given as goal
 
 abbrev pub invariant-loop-core : goal.invariant-loop-core
-invariant-loop-core l = l.core-items ≡ map core_reset (take l.core-index l.initial.core-items) ++ drop l.core-index l.initial.core-items
+invariant-loop-core l = l.cores ≡ map core_reset (take l.core-index l.initial.cores) ++ drop l.core-index l.initial.cores

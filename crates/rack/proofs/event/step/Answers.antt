@@ -2,8 +2,7 @@
 -- Rests on Places and Aims.
 use Rattle.std.proofs.Common.{◌≡◌, ◌<◌, ℕ, true, ap, sym}
 use Rattle.events.specs.Kinds.{begins}
-use Rattle.bus.specs.Cycles.{phase_after}
-use Rattle.bus.specs.Device.{gives, reset_in}
+use Rattle.bus.specs.Device.{reset_in}
 use Rattle.rack.specs.declared.Rack.{Rack}
 use Rattle.rack.specs.declared.targets.Target.{Target}
 use Rattle.rack.specs.declared.event.Aim.{Aim}
@@ -31,29 +30,29 @@ module _ (r : Rack) (k x y : ℕ) (t : Target) (m : Aim) (found : t ≡ target_o
   refused z n =
       rw (← found, told) (ap as_stepped (refused-at r.count r.bases r.cores r.bus.phase k (byte_of k y z) t inside (rw told at n)))
 
-  reset : (z : ℕ) → m.number ≡ 0 → k ≡ 0 → step_of r k x y z ≡ as_stepped (gives (reset_in device r) 0 0)
+  reset : (z : ℕ) → m.number ≡ 0 → k ≡ 0 → step_of r k x y z ≡ record { rack = reset_in device r; number = 0; byte = 0 }
   unfolding step_of
   reset z e zero =
       rw (← found) (ap as_stepped (reset-at r.count r.bases r.cores r.bus.phase k (byte_of k y z) t inside (rw told at e) zero))
 
 pub returns-then-aim-ne-ACCEPTED : goal.returns-then-aim-ne-ACCEPTED
-returns-then-aim-ne-ACCEPTED c = sym (refused _ _ _ _ _ _ c.find.ensures c.aim_at-aim.ensures _ c.if-aim-ne-ACCEPTED.true)
+returns-then-aim-ne-ACCEPTED c = sym (refused _ _ _ _ _ _ c.find-target.ensures c.aim_at-aim.ensures _ c.if-aim-ne-ACCEPTED.true)
 
 pub returns-then-kind-eq-RESET : goal.returns-then-kind-eq-RESET
 returns-then-kind-eq-RESET c =
-    rw c.reset_all.ensures (sym (reset _ _ _ _ _ _ c.find.ensures c.aim_at-aim.ensures _ c.if-aim-ne-ACCEPTED.false c.if-kind-eq-RESET.true))
+    rw (c.reset_all.ensures, c.if-aim-ne-ACCEPTED.false) (sym (reset _ _ _ _ _ _ c.find-target.ensures c.aim_at-aim.ensures _ c.if-aim-ne-ACCEPTED.false c.if-kind-eq-RESET.true))
 
-pub bounds-rack-place : goal.bounds-rack-place
-bounds-rack-place c = place-below c.args.rack _ _ _ _ _ c.find.ensures c.aim_at-aim.ensures
+pub bounds-stepped-place : goal.bounds-stepped-place
+bounds-stepped-place c = place-below c.args.rack _ _ _ _ _ c.find-target.ensures c.aim_at-aim.ensures
 
-pub bounds-rack-place-2 : goal.bounds-rack-place-2
-bounds-rack-place-2 c = place-below c.args.rack _ _ _ _ _ c.find.ensures c.aim_at-aim.ensures
+pub bounds-stepped-place-2 : goal.bounds-stepped-place-2
+bounds-stepped-place-2 c = place-below c.args.rack _ _ _ _ _ c.find-target.ensures c.aim_at-aim.ensures
 
-pub phase_after-requires : goal.phase_after-requires
-phase_after-requires c = (
-    place-below c.args.rack _ _ _ _ _ c.find.ensures c.aim_at-aim.ensures,
-    register-below c.args.rack _ _ _ _ _ c.find.ensures c.aim_at-aim.ensures c.if-aim-ne-ACCEPTED.false,
-)
+pub phase_after-stepped-requires : goal.phase_after-stepped-requires
+phase_after-stepped-requires c = record {
+  at_a_place = place-below c.args.rack _ _ _ _ _ c.find-target.ensures c.aim_at-aim.ensures;
+  at_a_register = register-below c.args.rack _ _ _ _ _ c.find-target.ensures c.aim_at-aim.ensures c.if-aim-ne-ACCEPTED.false;
+}
 
 pub returns : goal.returns
 unfolding step_of chip_at
@@ -61,6 +60,6 @@ returns c =
     let a = c.args in
     let r = a.rack in
     let e = c.if-aim-ne-ACCEPTED.false in
-    rw (c.phase_after.ensures, c.step-stepped.ensures, c.chip_of-chip.ensures, c.byte-byte.ensures, ← c.find.ensures, c.aim_at-aim.ensures)
-    (sym (ap as_stepped (card-at r.count r.bases r.cores r.bus.phase a.kind (byte_of a.kind a.second a.third) c.find.result
-    (inside r a.kind a.first a.second _ _ c.find.ensures c.aim_at-aim.ensures) (rw c.aim_at-aim.ensures at e) c.if-kind-eq-RESET.false)))
+    rw (e, c.phase_after-stepped.ensures, c.step-given.ensures, c.chip_of-chip.ensures, c.byte-byte.ensures, ← c.find-target.ensures, c.aim_at-aim.ensures)
+    (sym (ap as_stepped (card-at r.count r.bases r.cores r.bus.phase a.kind (byte_of a.kind a.second a.third) c.find-target.result
+    (inside r a.kind a.first a.second _ _ c.find-target.ensures c.aim_at-aim.ensures) (rw c.aim_at-aim.ensures at e) c.if-kind-eq-RESET.false)))
