@@ -52,8 +52,7 @@ fn start(image: &mut [u8], chip: Chip) -> u32
 }
 
 // The chip at power-up, under the default levels.
-#[unsafe(no_mangle)]
-pub extern "C" fn towanchor_power_up(image: &mut [u8]) -> u32
+pub fn towanchor_power_up(image: &mut [u8]) -> u32
     ensures value { result ≡ power_up_answer image.old }
     ensures image_after { image.new ≡ power_up_image image.old }
 {
@@ -62,8 +61,7 @@ pub extern "C" fn towanchor_power_up(image: &mut [u8]) -> u32
 }
 
 // The chip at power-up, under levels that the host names for ports A, B and C.
-#[unsafe(no_mangle)]
-pub extern "C" fn towanchor_power_up_with_levels(image: &mut [u8], a: u8, b: u8, c: u8) -> u32
+pub fn towanchor_power_up_with_levels(image: &mut [u8], a: u8, b: u8, c: u8) -> u32
     ensures value { result ≡ power_up_answer image.old }
     ensures image_after { image.new ≡ power_up_image_with image.old a b c }
 {
@@ -73,9 +71,8 @@ pub extern "C" fn towanchor_power_up_with_levels(image: &mut [u8], a: u8, b: u8,
 }
 
 // The same of a chip of the edition that the host names, by its number in an image.
-#[unsafe(no_mangle)]
 #[tactic(auto, unfolding(crate::specs::Calls::power_up_as_answer, crate::specs::Calls::power_up_as_image))]
-pub extern "C" fn towanchor_power_up_as(image: &mut [u8], edition: u8, a: u8, b: u8, c: u8) -> u32
+pub fn towanchor_power_up_as(image: &mut [u8], edition: u8, a: u8, b: u8, c: u8) -> u32
     ensures value { result ≡ power_up_as_answer image.old edition }
     ensures image_after { image.new ≡ power_up_as_image image.old edition a b c }
 {
@@ -87,9 +84,8 @@ pub extern "C" fn towanchor_power_up_as(image: &mut [u8], edition: u8, a: u8, b:
 }
 
 // An older image made the image of the same state.
-#[unsafe(no_mangle)]
 #[tactic(auto, unfolding(crate::specs::Calls::convert_answer, crate::specs::Calls::convert_image))]
-pub extern "C" fn towanchor_convert(older: &[u8], image: &mut [u8]) -> u32
+pub fn towanchor_convert(older: &[u8], image: &mut [u8]) -> u32
     ensures value { result ≡ convert_answer older.now image.old }
     ensures image_after { image.new ≡ convert_image older.now image.old }
 {
@@ -105,9 +101,8 @@ pub extern "C" fn towanchor_convert(older: &[u8], image: &mut [u8]) -> u32
 }
 
 // One event, with its number and the byte of an accepted read.
-#[unsafe(no_mangle)]
 #[tactic(auto, using(image::proofs::Long::is_long, image::proofs::SameBytes::slice_told, crate::proofs::Stepping::refused_answer, crate::proofs::Stepping::refused_image, crate::proofs::Stepping::accepted_answer, crate::proofs::Stepping::accepted_image, crate::proofs::HostStep::bad_answer, crate::proofs::HostStep::bad_stays))]
-pub extern "C" fn towanchor_step(image: &mut [u8], kind: u8, first: u8, second: u8) -> u32
+pub fn towanchor_step(image: &mut [u8], kind: u8, first: u8, second: u8) -> u32
     ensures value { result ≡ step_answer image.old kind first second }
     ensures image_after { image.new ≡ step_image image.old kind first second }
 {
@@ -130,9 +125,8 @@ fn shown(pins: Pins) -> u32
 }
 
 // The levels of a port's pins, and a one for each that the chip drives.
-#[unsafe(no_mangle)]
 #[tactic(auto, using(image::proofs::Long::is_long), unfolding(crate::specs::Calls::pins_answer))]
-pub extern "C" fn towanchor_pins(image: &[u8], port: u8) -> u32
+pub fn towanchor_pins(image: &[u8], port: u8) -> u32
     ensures { result ≡ pins_answer image.now port }
 {
     if !image::check::good(image) {
@@ -176,9 +170,8 @@ fn counter(tally: Tally, number: u8) -> u16
 }
 
 // One of the seven tallies of one of the four channels.
-#[unsafe(no_mangle)]
 #[tactic(auto, using(image::proofs::Long::is_long), unfolding(crate::specs::Calls::tally_answer))]
-pub extern "C" fn towanchor_tally(image: &[u8], channel: u8, number: u8) -> u32
+pub fn towanchor_tally(image: &[u8], channel: u8, number: u8) -> u32
     ensures { result ≡ tally_answer image.now channel number }
 {
     if !image::check::good(image) {
@@ -198,9 +191,8 @@ fn given(said: Numbers) -> u32
 }
 
 // What each half of a group's INTR is doing, and where it is low the first reason.
-#[unsafe(no_mangle)]
 #[tactic(auto, using(image::proofs::Long::is_long), unfolding(crate::specs::Calls::explain_answer))]
-pub extern "C" fn towanchor_explain(image: &[u8], group: u8) -> u32
+pub fn towanchor_explain(image: &[u8], group: u8) -> u32
     ensures { result ≡ explain_answer image.now group }
 {
     if !image::check::good(image) {

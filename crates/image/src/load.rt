@@ -1,5 +1,5 @@
 // The state that an image tells. The length is asked for once, before any byte is read, and not at each byte.
-ghost use Rattle.std.specs.Prelude.{◌≡◌, ◌+◌, ◌*◌, ◌<◌, length};
+ghost use Rattle.std.specs.Prelude.{◌≡◌, ◌+◌, ◌<◌, length};
 ghost use Rattle.image.specs.Places as places;
 ghost use Rattle.image.specs.Loaded.{wide_at, tally_at, fill_as, channel_at, enables_as, phase_as, edition_as, state_of};
 ghost use Rattle.image.specs.Slices.{loaded_from};

@@ -41,9 +41,8 @@ fn number(words: &[u32], edition: u8) -> u8
 
 // Keeps the words whose events change the chip, from a power-up of that edition under those levels on, and gives their count above the
 // number. A refused call changes no word.
-#[unsafe(no_mangle)]
 #[tactic(auto, unfolding(crate::specs::Trim::trim_answer, crate::specs::Trim::trimmed_words))]
-pub extern "C" fn towanchor_trim(words: &mut [u32], edition: u8, a: u8, b: u8, c: u8) -> u32
+pub fn towanchor_trim(words: &mut [u32], edition: u8, a: u8, b: u8, c: u8) -> u32
     ensures value { result ≡ trim_answer words.old edition a b c }
     ensures words_after { words.new ≡ trimmed_words words.old edition a b c }
 {

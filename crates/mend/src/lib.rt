@@ -56,9 +56,8 @@ fn judge(text: &[u8], clean: usize, report: usize) -> Outcome
 }
 
 // Writes the clean script and the report to the front of their outputs, and gives both lengths above the number. A refused call writes nothing.
-#[unsafe(no_mangle)]
 #[tactic(auto, unfolding(crate::specs::Mend::mend_answer, crate::specs::Mend::clean_left, crate::specs::Mend::report_left, crate::specs::Mend::mend_number))]
-pub extern "C" fn towanchor_mend(text: &[u8], clean: &mut [u8], report: &mut [u8]) -> u64
+pub fn towanchor_mend(text: &[u8], clean: &mut [u8], report: &mut [u8]) -> u64
     ensures value { result ≡ mend_answer text.now (length clean.old) (length report.old) }
     ensures clean_after { clean.new ≡ clean_left text.now clean.old report.old }
     ensures report_after { report.new ≡ report_left text.now clean.old report.old }

@@ -1,9 +1,10 @@
 -- A reset: each card does as a chip alone.
--- Rests on the rack's Mapped and the step's Outcome.
+-- Rests on the step's Outcome.
 use mathlib.Core.Path.{◌≡◌, refl, ◌∙◌}
 use mathlib.Core.List.{List}
 use Prim.Native.Nat.{ℕ, ◌<◌}
 use native.Mathlib.Omega.{arith}
+use Rattle.std.proofs.lemmas.List.{get_or-map, length-map}
 use Rattle.events.specs.Kinds.{is_kind}
 use Rattle.events.specs.Event.{event}
 use Rattle.bus.specs.declared.Phase.{Phase}
@@ -18,7 +19,6 @@ use Rattle.rack.specs.declared.event.Stepped.{Stepped}
 use Rattle.rack.specs.Bases.{most_cards}
 use Rattle.rack.specs.State.{seen_at, no_core, chip_at, card_edition}
 use Rattle.rack.specs.Step.{core_reset, device, as_stepped}
-use Rattle.rack.proofs.Mapped.{mapped_at, mapped-length}
 use Rattle.rack.proofs.OnCard.{rack_in}
 use Rattle.racklaws.specs.Whom.{free, everybody}
 use Rattle.racklaws.specs.Promise.{Whole, Follows}
@@ -39,7 +39,7 @@ module _ (count : ℕ) (bases : List ℕ) (cores : List Core) (ph : Phase) (whol
   unfolding chip_at
   each i h = rw (
     step-accepts (chip_at rack i) 0 0 0 (always (seen_at i ph)),
-    mapped_at core_reset cores i no_core (omega (arith, h, whole.cores)),
+    get_or-map core_reset cores i no_core no_core (omega (arith, h, whole.cores)),
   )
 
   pub reset-follows : Follows rack given (everybody (event 0 0 0)) free
@@ -47,5 +47,5 @@ module _ (count : ℕ) (bases : List ℕ) (cores : List Core) (ph : Phase) (whol
     reached = record { accepted = refl; byte = refl; each = each };
     bus = refl;
     bases = refl;
-    whole = record { cores = mapped-length core_reset cores ∙ whole.cores; bases = whole.bases };
+    whole = record { cores = length-map cores core_reset ∙ whole.cores; bases = whole.bases };
   }

@@ -1,6 +1,6 @@
 -- `journal::towanchor_trim` meets its contract: it goes on where the words are frames of which there are few, from a chip that has an image.
 -- Rests on Trimming, on restored's Stays, and on the contracts of what it calls.
-use Rattle.std.proofs.Common.{rules, arith, ◌≡◌, ◌∙◌, sym, ◌≤◌}
+use Rattle.std.proofs.Common.{rules, arith, ◌∙◌, sym, ◌≤◌}
 use Rattle.restored.proofs.Stays.{power-up-has}
 use Rattle.journal.specs.Trim.{most_words}
 use Rattle.journal.proofs.Trimming.{kept-at-most, when-accepted}

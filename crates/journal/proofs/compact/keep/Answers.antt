@@ -1,6 +1,6 @@
 -- `compact::keep` meets its contract: at each turn one word more has been gone through, and is moved to the front where it changes the chip.
 -- Rests on Keeping, on image's Long and ComesBack, and on the contracts of what it calls.
-use Rattle.std.proofs.Common.{rules, arith, ◌≡◌, ◌∙◌, refl, sym, ap, true, false, List, ℕ, ◌<◌, length, length-set}
+use Rattle.std.proofs.Common.{rules, arith, ◌≡◌, ◌∙◌, refl, sym, ap, List, ℕ, ◌<◌, length, length-set}
 use Rattle.chip.specs.declared.Chip.{Chip}
 use Rattle.image.proofs.Long.{written_over}
 use Rattle.journal.specs.Trim.{kept_from, filled_up}
