@@ -1,4 +1,5 @@
-# How a script of tests/ counts: a verdict on each thing that it tried, and the last line 'N passed, M failed'. Read in by all of them.
+# How a script of tests/ counts: a verdict on each thing that it tried, and the last line 'N passed, M failed'. Read in by all of them, and by
+# ./test.
 # shellcheck shell=sh
 passed=0 failed=0
 

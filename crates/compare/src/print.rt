@@ -15,12 +15,10 @@ fn difference<V: Display>(rt: &impl Print, first: &Difference<V>) -> io::Result<
 fn filled(rt: &impl Print, text: &[u8], counts: &[u64]) -> io::Result<()> {
     let mut counts = counts.iter();
     for code in text {
-        match (code, counts.as_slice()) {
-            (b'#', [count, ..]) => {
-                print!(rt; "{count}")?;
-                counts.next();
-            }
-            _ => rt.write_all(&[*code])?,
+        let count = if *code == b'#' { counts.next() } else { None };
+        match count {
+            Some(count) => print!(rt; "{count}")?,
+            None => rt.write_all(&[*code])?,
         }
     }
     Ok(())

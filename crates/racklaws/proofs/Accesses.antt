@@ -27,7 +27,7 @@ use Rattle.rack.specs.declared.targets.Target.TheVariants.{NoCard, At}
 use Rattle.rack.specs.Bases.{most_cards}
 use Rattle.rack.specs.State.{place_of, chip_at, card_edition}
 use Rattle.rack.specs.Targets.{answers_at, register_at, target_from}
-use Rattle.rack.specs.Step.{aim_of, as_stepped, step_at, step_of}
+use Rattle.rack.specs.Step.{aim_of, as_stepped, step_at}
 use Rattle.rack.proofs.OnCard.{rack_in, place-numbered}
 use Rattle.rack.proofs.Places.{InRack}
 use Rattle.rack.proofs.Aims.{refused-at}

@@ -41,11 +41,12 @@ fn first_word(rt: &impl Env) -> Asked {
 }
 
 fn main(rt: HostRuntime) -> anyhow::Result<()> {
+    let alloc = rt.alloc();
     let text = input::read(&rt)?;
     match first_word(&rt) {
-        Asked::Answers(device) => answers::answer(&rt, device, &text),
-        Asked::RackAnswers => racks::answer(&rt, &text),
-        Asked::WhyQuiet => quiet::explain(&rt, &text),
+        Asked::Answers(device) => output::write(&rt, &answers::answer(alloc, device, &text)?),
+        Asked::RackAnswers => output::write(&rt, &racks::answer(alloc, &text)?),
+        Asked::WhyQuiet => output::write(&rt, quiet::explain(alloc, &text)?.as_bytes()),
         Asked::WhatChanges => trim::trim(&rt, &text),
     }
 }

@@ -1,8 +1,6 @@
 // What each group's INTR is doing after the last line of a script, and why, in plain words. include/towanchor.h has the same words for
 // hosts in C.
-use super::output;
 use channel::Side;
-use script::left::Left;
 use status::reasons::{Explained, Reason};
 use std::alloc::{AllocError, Global};
 
@@ -45,8 +43,15 @@ fn group(said: &mut String, letter: char, explained: Explained) -> Result<(), Al
     }
 }
 
-// What is said of the chip that a script left. One that was refused in part may have left another chip than its writer had in mind.
-fn explanation(alloc: Global, left: Left) -> Result<String, AllocError> {
+// What is said of the chip that a script leaves. One that was refused in part may have left another chip than its writer had in mind.
+pub(super) fn explain(alloc: Global, text: &[u8]) -> Result<String, AllocError> {
+    let left = script::left::chip_after(text);
+    if left.number != 0 {
+        return String::from_str(
+            alloc,
+            "the text is longer than 4,096 bytes, and was not run\n",
+        );
+    }
     let mut said = String::new(alloc);
     group(&mut said, 'A', status::reasons::explain(left.chip, 0))?;
     group(&mut said, 'B', status::reasons::explain(left.chip, 1))?;
@@ -58,15 +63,4 @@ fn explanation(alloc: Global, left: Left) -> Result<String, AllocError> {
         )?;
     }
     Ok(said)
-}
-
-pub(super) fn explain(rt: &(impl Print + AllocGlobal), text: &[u8]) -> anyhow::Result<()> {
-    let left = script::left::chip_after(text);
-    if left.number != 0 {
-        return output::write(
-            rt,
-            b"the text is longer than 4,096 bytes, and was not run\n",
-        );
-    }
-    output::write(rt, explanation(rt.alloc(), left)?.as_bytes())
 }

@@ -1,14 +1,19 @@
 // The answers of a rack to its script.
+ghost use Rattle.std.specs.Prelude.{◌≡◌, IfOk};
+ghost use Rattle.towanchor.specs.Printed.{printed_of_rack};
+
 use super::output;
 use rackscript::MOST_ROOM;
+use std::alloc::{AllocError, Global};
 
-// The room for the answers is enough for all the lines that a script can have.
-pub(super) fn answer(rt: &(impl Print + AllocGlobal), text: &[u8]) -> anyhow::Result<()> {
-    let mut out = vec![in rt.alloc(); 0; MOST_ROOM]?;
+pub(super) fn answer(alloc: Global, text: &[u8]) -> Result<Vec<u8>, AllocError>
+    ensures { IfOk result (λ out. out.items ≡ printed_of_rack text.now) }
+{
+    let mut out = output::room(alloc, MOST_ROOM)?;
     let ran = rackscript::run(text, &mut out);
     if ran.number != 0 {
-        return output::refuse(rt, ran.number);
+        return output::refusal(alloc, ran.number);
     }
     out.truncate(ran.length);
-    output::write(rt, &out)
+    Ok(out)
 }

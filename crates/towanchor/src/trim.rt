@@ -49,13 +49,13 @@ fn lines(alloc: Global, log: &[u32]) -> Result<String, AllocError> {
 // Where a line is no frame the whole text is refused, and such lines are named on standard error.
 pub(super) fn trim(rt: &(impl Print + Eprint + AllocGlobal), text: &[u8]) -> anyhow::Result<()> {
     if LONGEST < text.len() {
-        return output::refuse(rt, TOO_LONG);
+        return output::write(rt, &output::refusal(rt.alloc(), TOO_LONG)?);
     }
     let mut log = words_of(rt.alloc(), text)?;
     let answer = journal::towanchor_trim(&mut log, OLDER, HIGH, HIGH, HIGH);
     let number = (answer % 256) as u8;
     if number != 0 {
-        output::refuse(rt, number)?;
+        output::write(rt, &output::refusal(rt.alloc(), number)?)?;
         return strays::name(rt, text);
     }
     // The words that were kept stand in front.

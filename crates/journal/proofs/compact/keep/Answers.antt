@@ -35,8 +35,8 @@ pub loop-at-preserved : goal.loop-at-preserved
 loop-at-preserved c =
     let way = c.loop-at.invariant in
     elim c.if-not-same.branch [
-      then-not-same w ↦ rw (w.words-is, w.kept-is) (moved _ _ _ _ _ _ way (search rules) _ c.pass.ensures (sym w.if-not-same.ensures))
-    | else-not-same w ↦ rw (w.words-is, w.kept-is) (dropped _ _ _ _ _ _ way (search rules) _ c.pass.ensures (sym w.if-not-same.ensures))
+      | then-not-same w ↦ rw (w.words-is, w.kept-is) (moved _ _ _ _ _ _ way (search rules) _ c.pass.ensures (sym w.if-not-same.ensures))
+      | else-not-same w ↦ rw (w.words-is, w.kept-is) (dropped _ _ _ _ _ _ way (search rules) _ c.pass.ensures (sym w.if-not-same.ensures))
     ]
 
 -- What was kept in the end is what is kept of the words that were lent.

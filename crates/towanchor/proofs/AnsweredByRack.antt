@@ -1,0 +1,55 @@
+-- With room for any script's answers, what a rack's run leaves in front of the output, or its number alone, is what the program prints.
+-- Rests on rackscript's Enough.
+use Rattle.std.proofs.Common.{◌≡◌, ◌≢◌, ℕ, ◌≤◌, Bool, true, false, cond, not, List, length, take, drop, ap, sym, ◌∙◌, refl, take_at, ltb, arith}
+use Rattle.script.specs.Run.{too_long, too_long_number}
+use Rattle.rack.specs.Bases.{bad_rack_number}
+use Rattle.rackscript.specs.declared.Ran.{Ran}
+use Rattle.rackscript.specs.Answers.{answers_from}
+use Rattle.rackscript.specs.Run.{names_rack, rack_named, to_answer, room_for_text, run_number, ran_of, output_left}
+use Rattle.rackscript.proofs.Room.{most_room}
+use Rattle.rackscript.proofs.Enough.{answers-length, room-enough}
+use Rattle.towanchor.specs.Printed.{refusal, printed_of_rack}
+
+module _ (text out : List ℕ) (enough : most_room ≤ length out) where
+  -- The number by the first two tests: the third finds room.
+  number-by : (long rack : Bool) → too_long text ≡ long → names_rack text ≡ rack
+      → run_number text (length out) ≡ cond long too_long_number (cond (not rack) bad_rack_number 0)
+  unfolding run_number
+  number-by true rack l k = rw (l)
+  number-by false false l k = rw (l, k)
+  number-by false true l k = go (ltb (length out) (room_for_text text)) refl
+    where
+      go : (short : Bool) → ltb (length out) (room_for_text text) ≡ short → run_number text (length out) ≡ 0
+      go false e = rw (l, k, e)
+      go true e = absurd (room-enough text (length out) enough (rw (l, k, e)))
+
+  -- The number that a run gives back is the run's.
+  number-given : (r : Ran) → r ≡ ran_of text (length out) → r.number ≡ run_number text (length out)
+  number-given r is = ap (λ (r : Ran). r.number) is ∙ grind arith
+
+  -- An accepted run.
+  pub answered : (r : Ran) → r ≡ ran_of text (length out) → r.number ≡ 0
+      → take r.length (output_left text out) ≡ printed_of_rack text
+  unfolding printed_of_rack
+  answered r is zero = go (too_long text) (names_rack text) refl refl
+    where
+      accepted : run_number text (length out) ≡ 0
+      accepted = sym (number-given r is) ∙ zero
+
+      go : (long rack : Bool) → too_long text ≡ long → names_rack text ≡ rack → take r.length (output_left text out) ≡ printed_of_rack text
+      go true rack l k = absurd (omega (arith, number-by true rack l k, accepted))
+      go false false l k = absurd (omega (arith, number-by false false l k, accepted))
+      go false true l k =
+          rw (is, accepted, l, k)
+          (take_at (answers_from (rack_named text) (to_answer text)) (drop (room_for_text text) out) (room_for_text text)
+          (answers-length (rack_named text) (to_answer text)))
+
+  -- A refused one.
+  pub refused : (r : Ran) → r ≡ ran_of text (length out) → r.number ≢ 0 → refusal r.number ≡ printed_of_rack text
+  unfolding printed_of_rack
+  refused r is other = go (too_long text) (names_rack text) refl refl
+    where
+      go : (long rack : Bool) → too_long text ≡ long → names_rack text ≡ rack → refusal r.number ≡ printed_of_rack text
+      go true rack l k = rw (number-given r is, number-by true rack l k, l) refl
+      go false false l k = rw (number-given r is, number-by false false l k, l, k) refl
+      go false true l k = absurd (other (number-given r is ∙ number-by false true l k))

@@ -1,0 +1,2 @@
+pub mod Answered
+pub mod AnsweredByRack
