@@ -29,6 +29,7 @@ fn leave(image: &mut [u8], core: Core)
 }
 
 // The chip under a new mode word, by which a reset is done too.
+#[inline(always)]
 pub(super) fn renew(image: &mut [u8], word: u8)
     requires { Told image.old }
     ensures { image.new ≡ image_of (on_bus Idle (state_of image.old).edition (after_mode_word (state_of image.old).core word)) }

@@ -1,6 +1,6 @@
 // The state that an image tells, for a caller that has seen that it is one. The length is handed on as a constant: so the compiler sees
-// that the loading need not ask for it, and makes the loading a part of each call. Without that it stays a function by itself, which costs
-// more than a hundred instructions a call.
+// that the loading need not ask for it. That the loading is made a part of each call is asked for, here and in the crate image: as a function by
+// itself it costs more than a hundred instructions a call.
 ghost use Rattle.std.specs.Prelude.{◌≡◌, length};
 ghost use Rattle.image.specs.Places as places;
 ghost use Rattle.image.specs.Loaded.{state_of};
@@ -9,6 +9,7 @@ use bus::Phase;
 use chip::{Chip, Edition};
 use image::places::{EDITION, LENGTH};
 
+#[inline(always)]
 pub(super) fn state(image: &[u8]) -> Chip
     requires { length image.now ≡ places.length }
     ensures { result ≡ state_of image.now }

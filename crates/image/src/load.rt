@@ -109,6 +109,7 @@ pub fn edition(byte: u8) -> Edition
     }
 }
 
+#[inline(always)]
 #[tactic(auto, unfolding(crate::specs::Loaded::state_of))]
 fn whole(image: &[u8]) -> Chip
     requires { length image.now ≡ places.length }
@@ -143,6 +144,7 @@ pub fn bus(image: &[u8]) -> Phase
 }
 
 // The whole state. Bytes of another length than an image's tell none: for them it is the chip at power-up.
+#[inline(always)]
 #[tactic(auto, unfolding(crate::specs::Slices::loaded_from, crate::specs::Loaded::state_of))]
 pub fn state(image: &[u8]) -> Chip
     ensures { result ≡ loaded_from image.now }
