@@ -8,7 +8,7 @@
 
 #define GUARD_BYTE 0xA5
 
-/* A multiple of each size that pages have, on whichever processor the emulator runs. FENCED_FIELD is one too. */
+/* A multiple of each size that pages have, on whichever machine this runs. FENCED_FIELD is one too. */
 #define FENCE 65536
 
 static unsigned char *open_field(void)
