@@ -1,5 +1,4 @@
 pub mod Behind
-pub mod Asked
 pub mod Bounds
 pub mod Cycle
 pub mod BusNumber

@@ -4,24 +4,18 @@ use mathlib.Core.Path.{◌≡◌, ◌∙◌, refl, ap, sym, subst}
 use mathlib.Core.Bool.{true}
 use mathlib.Core.List.{List}
 use Prim.Native.Nat.{ℕ}
-use lib.ListN.{length}
 use Rattle.events.specs.Event.{Event}
 use Rattle.chip.specs.declared.Chip.{Chip}
 use Rattle.step.specs.Step.{stepped}
-use Rattle.image.specs.Places as places
 use Rattle.image.specs.Layout.{image_of}
 use Rattle.image.specs.Loaded.{state_of}
 use Rattle.image.specs.Good.{has_image}
-use Rattle.image.proofs.Long.{is_long}
 use Rattle.image.proofs.ComesBack.{comes_back}
 use Rattle.image.proofs.OneImage.{has-image}
 use Rattle.calls.specs.Calls.{step_image}
 use Rattle.calls.proofs.HostStep.{by_number}
 
 module _ (c : Chip) (has : has_image c ≡ true) where
-  pub image-long : length (image_of c) ≡ places.length
-  image-long = is_long (image_of c) (has-image c has)
-
   -- What the step of an image leaves is the image of the chip after the event.
   pub passed : (e : Event) → step_image (image_of c) e.kind e.first e.second ≡ image_of (stepped c e).chip
   passed e =

@@ -11,7 +11,6 @@ use lib.Seq.{set_at, get_or_at}
 use Rattle.bits.specs.Same.{same_bytes}
 use Rattle.bits.proofs.Logic.{both}
 use Rattle.chip.specs.declared.Chip.{Chip}
-use Rattle.image.specs.Places as places
 use Rattle.image.specs.Layout.{image_of}
 use Rattle.image.specs.Good.{has_image}
 use Rattle.calls.specs.Calls.{step_image}
@@ -19,7 +18,7 @@ use Rattle.restored.proofs.Stays.{image-stays}
 use Rattle.journal.specs.Words.{event_in, is_frame, all_frames}
 use Rattle.journal.specs.Trim.{same_state, after_word, kept_from, filled_up}
 use Rattle.journal.proofs.Ahead.{ahead}
-use Rattle.journal.proofs.Held.{image-long, passed}
+use Rattle.journal.proofs.Held.{passed}
 
 -- Of the words ws₀, met by the chip c₀, those before the place `at` have been gone through, and `kept` of them are kept. They are `done`, and have
 -- led to `chip`, whose image is held. What they and those ahead are kept as is what is kept of all.
@@ -75,9 +74,6 @@ module _ (c₀ : Chip) (ws₀ ws image : List ℕ) (at kept : ℕ) (way : Keepin
   pub long : length ws ≡ length ws₀
   long = ap length way.words ∙ length-append passed-by (drop at ws₀) ∙ omega (arith, up-to-here, length-drop at ws₀, way.inside)
 
-  pub held-long : length image ≡ places.length
-  held-long = ap length way.held ∙ image-long way.chip way.has
-
   module _ (ahead-of-it : at < length ws) where
     abbrev word : ℕ
     word = get_or ws₀ at 0
@@ -121,9 +117,6 @@ module _ (c₀ : Chip) (ws₀ ws image : List ℕ) (at kept : ℕ) (way : Keepin
           met
           ∙ (λ i. step_image (way.held i) (event_in (here i)).kind (event_in (here i)).first (event_in (here i)).second)
           ∙ passed way.chip way.has (event_in word)
-
-      pub next-long : length next ≡ places.length
-      next-long = ap length now-held ∙ image-long (after_word way.chip word) (image-stays way.chip (event_in word) way.has)
 
       told : (b : Bool) → same_bytes image next ≡ b → same_state way.chip (after_word way.chip word) ≡ b
       unfolding same_state
