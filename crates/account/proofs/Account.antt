@@ -1,18 +1,18 @@
 -- Demand 2: over every history, from every chip and from every power-up, all that can be seen of the chip is what the account says.
--- Rests on Agrees, Views, Interrupts, Reasons and Numbers, on events' ByKind and the step's Outcome, and on fates' Accepted.
+-- Rests on Agrees, Interrupts, Reasons, Views, Numbers, the bus's ByKind, chip's Outcome, and fates' Accepted.
 use mathlib.Core.Path.{◌≡◌, ◌∙◌, refl, ap, sym}
 use mathlib.Core.Bool.{true, cond}
 use mathlib.Core.List.{List, [], ◌∷◌}
 use Prim.Native.Nat.{ℕ}
-use Rattle.events.proofs.ByKind.{by_kind}
-use Rattle.events.specs.Event.{Event, event}
+use Rattle.bus.proofs.ByKind.{by_kind}
+use Rattle.bus.specs.Event.{Event, event}
 use Rattle.bus.specs.Device.{byte_in}
 use Rattle.chip.specs.declared.Edition.{Edition}
 use Rattle.chip.specs.declared.Chip.{Chip}
 use Rattle.chip.specs.declared.Levels.{Levels}
 use Rattle.chip.specs.State.{power_up_as}
-use Rattle.step.specs.Step.{device, stepped}
-use Rattle.step.proofs.Outcome.{step-number}
+use Rattle.chip.specs.Step.{device, stepped}
+use Rattle.chip.proofs.Outcome.{step-number}
 use Rattle.fates.specs.Kinds.{kind_of, accepts}
 use Rattle.fates.specs.Promise.{run}
 use Rattle.fates.proofs.Accepted.{no-kind-accepted, by_result}

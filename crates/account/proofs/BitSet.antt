@@ -9,9 +9,8 @@ use Rattle.bits.specs.Bit.{bit_of, with_bit}
 use Rattle.bits.proofs.BitLaws.{bit-of-with}
 use Rattle.control.specs.declared.Group.{Group}
 use Rattle.control.specs.declared.Group.TheVariants.{A, B}
-use Rattle.roles.specs.Role.{Role}
-use Rattle.roles.specs.Role
-use Rattle.roles.specs.Pins.{is_output}
+use Rattle.control.specs.Role.{Role}
+use Rattle.control.specs.Pins.{is_output}
 use Rattle.channel.specs.declared.Side.{Side}
 use Rattle.channel.specs.declared.Side.TheVariants.{Input, Output}
 use Rattle.channel.specs.Moves.{after_force}
@@ -19,7 +18,7 @@ use Rattle.chip.specs.declared.Enables.{Enables}
 use Rattle.chip.specs.declared.Core.{Core}
 use Rattle.chip.specs.Handshakes.{group_at, enable_of}
 use Rattle.chip.proofs.OneChannel.{channel-lines, channel-enables}
-use Rattle.settings.specs.ControlWord.{enabled, flag_put, set_as}
+use Rattle.chip.specs.ControlWord.{enabled, flag_put, set_as}
 use Rattle.fates.specs.Effects.{strobe_pin}
 use Rattle.account.specs.Summary.{Signal, io, INTR, IBF, OBF, STB, ACK, signal_at, is_in, free_out}
 use Rattle.account.proofs.Signals.{role_by, by-signal}

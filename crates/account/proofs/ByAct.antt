@@ -1,5 +1,5 @@
 -- What holds of the chip's core after each act holds after every event.
--- Rests on fates' Accepted, on settings' PortsAfter, and on events' ByKind.
+-- Rests on the bus's ByKind, chip's SettingsAfter, and fates' Accepted.
 use mathlib.Core.Path.{◌≡◌, refl}
 use mathlib.Core.Bool.{Bool, true, false, cond, ◌&&◌}
 use Prim.Native.Nat.{ℕ}
@@ -13,17 +13,16 @@ use Rattle.bus.specs.declared.Phase.TheVariants.{Idle, Reading, Writing}
 use Rattle.chip.specs.declared.Core.{Core}
 use Rattle.chip.specs.declared.Chip.{Chip}
 use Rattle.chip.specs.State.{with_latch, on_port}
-use Rattle.settings.specs.ModeWord.{after_mode_word}
-use Rattle.settings.specs.ControlWord.{after_control_word}
-use Rattle.settings.proofs.PortsAfter.{mode-word}
-use Rattle.reads.specs.Read.{after_read_begins, after_read_ends}
-use Rattle.writes.specs.Write.{stored_by, latch_written}
-use Rattle.writes.specs.Write
-use Rattle.levels.specs.Levels.{after_levels}
-use Rattle.step.specs.Step.{device, after_end, stepped}
-use Rattle.events.proofs.ByKind.{by_kind}
-use Rattle.events.specs.Event.{Event, event}
-use Rattle.step.specs.Step.{device, after_end}
+use Rattle.chip.specs.ModeWord.{after_mode_word}
+use Rattle.chip.specs.ControlWord.{after_control_word}
+use Rattle.chip.proofs.SettingsAfter.{mode-word}
+use Rattle.chip.specs.Read.{after_read_begins, after_read_ends}
+use Rattle.chip.specs.Write.{stored_by, latch_written}
+use Rattle.chip.specs.Write
+use Rattle.chip.specs.Levels.{after_levels}
+use Rattle.chip.specs.Step.{device, after_end, stepped}
+use Rattle.bus.proofs.ByKind.{by_kind}
+use Rattle.bus.specs.Event.{Event, event}
 use Rattle.fates.specs.Kinds.{kind_of, accepts}
 use Rattle.fates.specs.Promise.{surroundings_of}
 use Rattle.fates.proofs.Accepted.{no-kind-accepted, by-outcome}

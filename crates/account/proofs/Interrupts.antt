@@ -14,7 +14,7 @@ use Rattle.channel.specs.Channel.{flag_of}
 use Rattle.chip.specs.declared.Chip.{Chip}
 use Rattle.chip.specs.State.{channel_of}
 use Rattle.chip.specs.Handshakes.{enable_of, reading, writing}
-use Rattle.status.specs.Status.{request_of, intr_of}
+use Rattle.chip.specs.Status.{request_of, intr_of}
 use Rattle.fates.specs.Effects.{strobe_pin, read_runs, write_runs}
 use Rattle.fates.proofs.Tables.{own_same, line_same as pin-same}
 use Rattle.account.specs.Account.{Account}

@@ -10,9 +10,9 @@ use Rattle.chip.specs.declared.Port.{Port}
 use Rattle.chip.specs.declared.Core.{Core}
 use Rattle.chip.specs.State.{on_port}
 use Rattle.chip.proofs.OnPort.{word_on, lines-on, enables-on}
-use Rattle.reads.specs.Read.{fetched_from, done_with, after_read_begins, after_read_ends}
-use Rattle.writes.specs.Write.{stored_by}
-use Rattle.levels.specs.Levels.{lets_through, port_after_levels, after_levels_on_c, after_levels}
+use Rattle.chip.specs.Read.{fetched_from, done_with, after_read_begins, after_read_ends}
+use Rattle.chip.specs.Write.{stored_by}
+use Rattle.chip.specs.Levels.{lets_through, port_after_levels, after_levels_on_c, after_levels}
 use Rattle.account.proofs.ByAct.{stored}
 
 -- The mode word, port C's latch and the enables are the same.

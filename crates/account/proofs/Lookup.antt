@@ -6,8 +6,8 @@ use Prim.Native.Nat.{ℕ}
 use native.Mathlib.Omega.{arith}
 use lib.Dec.{ltb}
 use borrow.Author.Tests.{lt-ltb, le-ltb}
-use Rattle.roles.specs.Role.{number}
-use Rattle.lookup.specs.Lookup.{lookup_of}
+use Rattle.control.specs.Role.{number}
+use Rattle.control.specs.Lookup.{lookup_of}
 use Rattle.account.specs.Summary.{Signal, io, INTR, IBF, OBF, STB, ACK, signal_at, is_in, role_number}
 use Rattle.account.specs.Promise.{LooksUp}
 use Rattle.account.proofs.Signals.{role_by, role_same}

@@ -14,7 +14,7 @@ use Rattle.channel.specs.Moves.{after_offer, after_follow, after_hand_over, afte
 use Rattle.channel.proofs.ConditionsLeft.{leaves, offer-waits, offer-latches, follow-stays, follow-latches, hand-over-leaves, hand-over-keeps, end-read-empties, end-read-keeps, forced_to, force-leaves, force-keeps}
 use Rattle.chip.specs.declared.Port.{Port}
 use Rattle.chip.specs.State.{with_output}
-use Rattle.writes.specs.Write.{stored_in}
+use Rattle.chip.specs.Write.{stored_in}
 use Rattle.laws.specs.Forcing.{is_fetching}
 use Rattle.laws.proofs.Forcing.{forced-flag}
 

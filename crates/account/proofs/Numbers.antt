@@ -1,19 +1,19 @@
 -- The number of an event is the account's, place by place.
--- Rests on events' ByKind, and on fates' Accepted.
+-- Rests on the bus's ByKind, and fates' Accepted.
 use mathlib.Core.Path.{◌≡◌, refl}
 use mathlib.Core.Bool.{cond}
 use Prim.Native.Nat.{ℕ, zero, suc}
 use native.Mathlib.Omega.{arith}
 use borrow.Author.Tests.{le-ltb}
-use Rattle.events.specs.Kinds.{is_kind}
-use Rattle.events.proofs.ByKind.{by_kind}
-use Rattle.events.specs.Event.{event}
+use Rattle.bus.specs.Kinds.{is_kind}
+use Rattle.bus.proofs.ByKind.{by_kind}
+use Rattle.bus.specs.Event.{event}
 use Rattle.bus.specs.Refusals.{is_busy, number_of}
 use Rattle.bus.specs.declared.Phase.{Phase}
 use Rattle.bus.specs.declared.Phase.TheVariants.{Idle, Reading, Writing}
 use Rattle.chip.specs.declared.Edition.{Edition}
 use Rattle.chip.specs.declared.Edition.TheVariants.{Older, Newer}
-use Rattle.step.specs.Step.{limits}
+use Rattle.chip.specs.Step.{limits}
 use Rattle.fates.specs.Kinds.{cycle_ended, read_begun, write_begun, new_levels, kind_of}
 use Rattle.fates.proofs.Accepted.{no_name}
 use Rattle.account.specs.Acts.{begun, number_by}

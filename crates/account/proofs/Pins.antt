@@ -1,5 +1,5 @@
 -- The bit that a program puts at a pin of port C goes on as the account says: the latch of a free pin, or the enable of a line.
--- Rests on ByAct, Words, Columns, Signals, BitSet and Kept, on bits' BitLaws and Tested, on settings' PortsAfter, and on fates' PinNamed.
+-- Rests on Words, Columns, Signals, ByAct, Kept, BitSet, bits' Tested and BitLaws, chip's SettingsAfter, and fates' PinNamed.
 use mathlib.Core.Path.{◌≡◌, ◌∙◌, refl, ap, sym}
 use mathlib.Core.Bool.{Bool, true, false, cond, ◌&&◌, ◌||◌, and-false}
 use Prim.Native.Nat.{ℕ, ◌/◌, ◌%◌, ◌<◌}
@@ -9,7 +9,7 @@ use borrow.Author.Tests.{eqb-true}
 use Rattle.bits.specs.Bit.{bit_of}
 use Rattle.bits.proofs.Tested.{bits}
 use Rattle.bits.proofs.BitLaws.{bit-of-assembled}
-use Rattle.events.specs.Event.{Event}
+use Rattle.bus.specs.Event.{Event}
 use Rattle.control.specs.declared.Group.{Group}
 use Rattle.control.specs.declared.Group.TheVariants.{A, B}
 use Rattle.channel.specs.declared.Side.{Side}
@@ -18,11 +18,11 @@ use Rattle.chip.specs.declared.Core.{Core}
 use Rattle.chip.specs.declared.Chip.{Chip}
 use Rattle.chip.specs.State.{no_enables}
 use Rattle.chip.specs.Handshakes.{enable_of}
-use Rattle.settings.specs.ModeWord.{after_mode_word}
-use Rattle.settings.specs.ControlWord.{set_as, pin_set, after_control_word}
-use Rattle.settings.proofs.PortsAfter.{mode-word-latch, mode-word-enables, bit-word, bit-put}
-use Rattle.writes.specs.Write.{latch_written, writable}
-use Rattle.step.specs.Step.{stepped}
+use Rattle.chip.specs.ModeWord.{after_mode_word}
+use Rattle.chip.specs.ControlWord.{set_as, pin_set, after_control_word}
+use Rattle.chip.proofs.SettingsAfter.{mode-word-latch, mode-word-enables, bit-word, bit-put}
+use Rattle.chip.specs.Write.{latch_written, writable}
+use Rattle.chip.specs.Step.{stepped}
 use Rattle.fates.specs.Effects.{strobe_pin}
 use Rattle.fates.proofs.PinNamed.{pin-same}
 use Rattle.account.specs.Summary.{column_of, is_plain, Signal, io, INTR, IBF, OBF, STB, ACK, signal_at, is_in, settable, free_out, reached}

@@ -1,6 +1,6 @@
 -- The latches of ports A and B, IBF, the byte that a read was given, and OBF go on as the account says.
--- Rests on ByAct, Columns and Moves, on bits' Logic, the channel's ConditionsLeft, chip's OnPort, control's Strobed, settings' Flags, settings', reads' and
--- levels' PortsAfter, and fates' PinNamed and Tables.
+-- Rests on Columns, ByAct, Moves, bits' Logic, control's Strobed, the channel's ConditionsLeft, chip's OnPort, Flags, SettingsAfter,
+-- ReadsAfter and LevelsAfter, and fates' PinNamed and Tables.
 use mathlib.Core.Path.{◌≡◌, refl, ap, sym}
 use mathlib.Core.Bool.{Bool, true, false, cond, not, ◌&&◌, and-false, and-true}
 use Prim.Native.Nat.{ℕ, ◌/◌, ◌%◌}
@@ -8,7 +8,7 @@ use lib.Dec.{eqb}
 use borrow.Author.Tests.{eqb-true}
 use Rattle.bits.specs.Bit.{bit_of}
 use Rattle.bits.proofs.Logic.{turned}
-use Rattle.events.specs.Event.{Event}
+use Rattle.bus.specs.Event.{Event}
 use Rattle.control.specs.declared.Group.{Group}
 use Rattle.control.specs.declared.Group.TheVariants.{A, B}
 use Rattle.control.specs.Mode.{strobed_input, strobed_output, output_of}
@@ -24,14 +24,14 @@ use Rattle.chip.specs.declared.Chip.{Chip}
 use Rattle.chip.specs.State.{port_of, channel_of}
 use Rattle.chip.specs.Handshakes.{own_address, line_pin, flag_pin}
 use Rattle.chip.proofs.OnPort.{lines-not-own, control-not-own, port-on}
-use Rattle.settings.specs.ControlWord.{after_control_word}
-use Rattle.settings.proofs.Flags.{flag_at_pin}
-use Rattle.settings.proofs.PortsAfter.{mode-word-channel, bit-put}
-use Rattle.reads.proofs.PortsAfter.{begun-input, begun-output, ended-input, ended-output}
-use Rattle.writes.specs.Write.{stored_by}
-use Rattle.levels.specs.Levels.{fallen, line_falls, lets_through}
-use Rattle.levels.proofs.PortsAfter.{levels-input, levels-output}
-use Rattle.step.specs.Step.{stepped}
+use Rattle.chip.specs.ControlWord.{after_control_word}
+use Rattle.chip.proofs.Flags.{flag_at_pin}
+use Rattle.chip.proofs.SettingsAfter.{mode-word-channel, bit-put}
+use Rattle.chip.proofs.ReadsAfter.{begun-input, begun-output, ended-input, ended-output}
+use Rattle.chip.specs.Write.{stored_by}
+use Rattle.chip.specs.Levels.{fallen, line_falls, lets_through}
+use Rattle.chip.proofs.LevelsAfter.{levels-input, levels-output}
+use Rattle.chip.specs.Step.{stepped}
 use Rattle.fates.specs.Effects.{levels_on}
 use Rattle.fates.proofs.PinNamed.{pin-same}
 use Rattle.fates.proofs.Tables.{own_same, line_same, full-same}

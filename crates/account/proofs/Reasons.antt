@@ -5,6 +5,7 @@ use mathlib.Core.Bool.{Bool, true, false, cond, not}
 use Prim.Native.Nat.{ℕ, zero, suc}
 use native.Mathlib.Omega.{arith}
 use borrow.Author.Tests.{ne_eqb}
+use Rattle.std.specs.Prelude.{Some}
 use Rattle.bits.specs.Bit.{bit_of}
 use Rattle.control.specs.declared.Group.{Group}
 use Rattle.control.specs.declared.Group.TheVariants.{A, B}
@@ -14,9 +15,9 @@ use Rattle.channel.specs.Channel.{flag_of}
 use Rattle.chip.specs.declared.Chip.{Chip}
 use Rattle.chip.specs.State.{channel_of}
 use Rattle.chip.specs.Handshakes.{strobed, enable_of}
-use Rattle.status.specs.declared.reasons.Reason.TheVariants.{EnableOff, FlagWrong, LineLow, OwnCycle, High}
-use Rattle.status.specs.declared.reasons.Explained.TheVariants.{ModeZero, InputHalf, OutputHalf, BothHalves}
-use Rattle.status.specs.Reasons.{reason_of, explained_in, explained_of, reason_number, numbers_of}
+use Rattle.chip.specs.declared.reasons.Reason.TheVariants.{EnableOff, FlagWrong, LineLow, OwnCycle, High}
+use Rattle.chip.specs.declared.reasons.Explained.TheVariants.{ModeZero, InputHalf, OutputHalf, BothHalves}
+use Rattle.chip.specs.Reasons.{reason_of, explained_in, explained_of, reason_number, numbers_of}
 use Rattle.fates.specs.Effects.{strobe_pin, read_runs, write_runs}
 use Rattle.fates.proofs.Tables.{line_same as pin-same}
 use Rattle.account.specs.Summary.{Column, plain_in, plain_out, strobed_in, strobed_out, both_ways, column_of, takes, gives, keeps, is_plain}
@@ -54,7 +55,7 @@ module _ (c : Chip) (a : Account) (k : Agrees c a) where
       rw (line_same c a k g Output on, k.obf g, lines-here c a k (strobe_pin g Output), phase-here, ← pin-same g Output, write-runs c.phase g)
       (first (enable_of c.core.inte g Output) (vacant (channel_of c.core g Output)) (bit_of c.core.c.outside (strobe_pin g Output)) (write_runs g c.phase))
 
-  said_same : (g : Group) → numbers_of (explained_in c g) ≡ said_in a g (column_of a.surroundings.word g)
+  said_same : (g : Group) → numbers_of (Some (explained_in c g)) ≡ said_in a g (column_of a.surroundings.word g)
   unfolding explained_in
   said_same g = rw (column-here c a k g, ← plain-same w g, ← two-same w g, ← keeps_same w g) (go (column_of w g) refl)
     where
@@ -65,8 +66,8 @@ module _ (c : Chip) (a : Account) (k : Agrees c a) where
       given col e on = reason-same g Output (sym (gives_same w g) ∙ ap gives e ∙ on)
 
       go : (col : Column) → column_of w g ≡ col
-          → numbers_of (cond (is_plain col) ModeZero (cond (is_two col) (BothHalves (reason_of c g Input) (reason_of c g Output))
-          (cond (keeps col) (OutputHalf (reason_of c g Output)) (InputHalf (reason_of c g Input))))) ≡ said_in a g col
+          → numbers_of (Some (cond (is_plain col) ModeZero (cond (is_two col) (BothHalves (reason_of c g Input) (reason_of c g Output))
+          (cond (keeps col) (OutputHalf (reason_of c g Output)) (InputHalf (reason_of c g Input)))))) ≡ said_in a g col
       go plain_in e = refl
       go plain_out e = refl
       go strobed_in e = ap (λ (i : ℕ). said i 0) (taken strobed_in e refl)

@@ -3,13 +3,15 @@
 use mathlib.Core.Path.{◌≡◌, ◌∙◌, refl}
 use mathlib.Core.List.{List, [], ◌∷◌}
 use Prim.Native.Nat.{ℕ}
-use Rattle.events.specs.Event.{Event}
+use Rattle.bus.specs.Event.{Event}
 use Rattle.chip.specs.declared.Edition.{Edition}
 use Rattle.chip.specs.declared.Chip.{Chip}
 use Rattle.chip.specs.State.{all_high, power_up_as}
-use Rattle.step.specs.Step.{stepped}
+use Rattle.chip.specs.Pins.{pins_of}
+use Rattle.chip.specs.Step.{device, step_of, stepped}
 use Rattle.text.specs.History.{history_of}
-use Rattle.script.specs.Answers.{as_8255a, by_8255a, line_text, shown_after}
+use Rattle.bus.specs.Begun.{given_in}
+use Rattle.script.specs.Answers.{by_device, levels_from, line_after}
 use Rattle.script.specs.History.{answers_to}
 use Rattle.fates.proofs.ScriptRun.{run-kept}
 use Rattle.account.specs.Account.{Account, account_next, opened}
@@ -18,12 +20,14 @@ use Rattle.account.proofs.Agrees.{Agrees, agrees-opened, agrees-next}
 use Rattle.account.proofs.Views.{levels-shown}
 use Rattle.account.proofs.Account.{number-told, byte-told}
 
-line-is : (c : Chip) (a : Account) (e : Event) → Agrees c a → line_text (shown_after (by_8255a (stepped c e))) ≡ line_by a e
+line-is : (c : Chip) (a : Account) (e : Event) → Agrees c a → line_after (by_device device pins_of) (given_in device c e) ≡ line_by a e
+unfolding step_of levels_from
 line-is c a e k =
     let levels = levels-shown (stepped c e).chip (account_next a e) (agrees-next c a e k) in
     cc (number-told c a k e, byte-told c a k e, levels 0, levels 1, levels 2)
 
-lines_are : (es : List Event) (c : Chip) (a : Account) → Agrees c a → answers_to (as_8255a c) es ≡ lines_by a es
+lines_are : (es : List Event) (c : Chip) (a : Account) → Agrees c a → answers_to device pins_of c es ≡ lines_by a es
+unfolding step_of
 lines_are [] c a k = refl
 lines_are (e ∷ es) c a k = cc (line-is c a e k, lines_are es (stepped c e).chip (account_next a e) (agrees-next c a e k))
 

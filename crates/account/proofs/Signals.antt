@@ -1,5 +1,5 @@
 -- The summary's signals are the chip's roles, and each stands at its own pins.
--- Rests on Words and Columns, on roles' PinByMasks and SameWords, and on bits' Tested.
+-- Rests on Words, Columns, bits' Tested, and control's PinByMasks and RoleWords.
 use mathlib.Core.Path.{◌≡◌, ◌∙◌, refl, sym, subst}
 use mathlib.Core.Bool.{Bool, true, false, cond}
 use Prim.Native.Nat.{ℕ, ◌%◌, ◌<◌}
@@ -10,10 +10,9 @@ use Rattle.bits.proofs.Tested.{all, each, numbers-of-two}
 use Rattle.control.specs.declared.Group.{Group}
 use Rattle.control.specs.declared.Group.TheVariants.{A, B}
 use Rattle.control.specs.Mode.{mode_of, input_of, upper_input, lower_input}
-use Rattle.roles.specs.Role.{Role, number, role_of, uses_of, free_role}
-use Rattle.roles.specs.Role
-use Rattle.roles.proofs.PinByMasks.{number-one}
-use Rattle.roles.proofs.SameWords.{role-as-byte}
+use Rattle.control.specs.Role.{Role, number, role_of, uses_of, free_role}
+use Rattle.control.proofs.PinByMasks.{number-one}
+use Rattle.control.proofs.RoleWords.{role-as-byte}
 use Rattle.channel.specs.declared.Side.TheVariants.{Input, Output}
 use Rattle.chip.specs.Handshakes.{group_at}
 use Rattle.fates.specs.Effects.{strobe_pin}

@@ -3,18 +3,19 @@
 -- Rests on Script and on text's Quoted.
 use mathlib.Core.Path.{◌≡◌, ◌∙◌, refl}
 use Rattle.bits.specs.Bit.{bit_of}
-use Rattle.events.specs.Kinds.{is_kind, operands_of}
+use Rattle.bus.specs.Kinds.{is_kind, operands_of}
 use Rattle.chip.specs.declared.Edition.{Edition}
 use Rattle.chip.specs.declared.Edition.TheVariants.{Older, Newer}
-use Rattle.chip.specs.State.{all_high}
+use Rattle.chip.specs.State.{all_high, power_up_as}
+use Rattle.chip.specs.Pins.{pins_of}
+use Rattle.chip.specs.Step.{device}
 use Rattle.text.specs.Digits.{digit_value, digit_code, pair_value}
 use Rattle.text.specs.Lines.{lines_of}
 use Rattle.text.specs.Frames.{leading_byte, is_frame, frame_of, frame_in}
 use Rattle.text.specs.History.{history_of}
 use Rattle.text.specs.Quoted.{answered, listed}
 use Rattle.text.proofs.Quoted.{answered-alike}
-use Rattle.script.specs.Answers.{line_text, at_start, answers_of}
-use Rattle.fates.specs.ScriptRun.{device_for}
+use Rattle.script.specs.Answers.{by_device, line_text, answers_of}
 use Rattle.account.specs.Account.{opened}
 use Rattle.account.specs.Script.{lines_by}
 use Rattle.account.specs.Texts.{texts}
@@ -25,6 +26,6 @@ unfolding bit_of digit_value digit_code pair_value is_kind operands_of leading_b
 as-listed Older = refl
 as-listed Newer = refl
 
-pub texts-answered : (ed : Edition) → answered (answers_of (at_start (device_for ed))) (texts ed) ≡ listed (texts ed)
+pub texts-answered : (ed : Edition) → answered (answers_of (by_device device pins_of) (power_up_as ed all_high)) (texts ed) ≡ listed (texts ed)
 texts-answered ed =
-    answered-alike (answers_of (at_start (device_for ed))) (λ text. lines_by (opened ed all_high) (history_of text)) (answered-by ed) (texts ed) ∙ as-listed ed
+    answered-alike (answers_of (by_device device pins_of) (power_up_as ed all_high)) (λ text. lines_by (opened ed all_high) (history_of text)) (answered-by ed) (texts ed) ∙ as-listed ed

@@ -11,16 +11,16 @@ use Rattle.bits.specs.Sum.{byte_by}
 use Rattle.bits.proofs.Sum.{byte-same}
 use Rattle.control.specs.declared.Group.{Group}
 use Rattle.control.specs.declared.Group.TheVariants.{A, B}
-use Rattle.roles.specs.Role.{role_of}
-use Rattle.roles.specs.Role
+use Rattle.control.specs.Role.{role_of}
+use Rattle.control.specs.Role
 use Rattle.channel.specs.declared.Side.{Side}
 use Rattle.channel.specs.declared.Side.TheVariants.{Input, Output}
 use Rattle.channel.specs.Channel.{flag_of}
 use Rattle.chip.specs.declared.Chip.{Chip}
 use Rattle.chip.specs.State.{port_of}
 use Rattle.chip.specs.Handshakes.{group_at, enable_of}
-use Rattle.ports.specs.Reads.{read_port, read_as, read_lines, read_control, read_of}
-use Rattle.ports.specs.Pins.{drives_port, pins_of_port, is_driven, level_as, pins_of_lines, pins_of}
+use Rattle.chip.specs.Reads.{read_port, read_as, read_lines, read_control, read_of}
+use Rattle.chip.specs.Pins.{drives_port, pins_of_port, is_driven, level_as, pins_of_lines, pins_of}
 use Rattle.fates.specs.Effects.{strobe_pin}
 use Rattle.account.specs.Summary.{Column, plain_in, plain_out, strobed_in, strobed_out, both_ways, column_of, takes, keeps, Signal, io, INTR, IBF, OBF, STB, ACK, signal_at, is_in, driven}
 use Rattle.account.specs.Account.{Account}

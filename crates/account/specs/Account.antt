@@ -2,7 +2,7 @@
 -- each rises and falls with an event, and else stays ("Writes and bit set/reset", "Handshake", "Forcing the flags").
 use Rattle.std.specs.Prelude.{Bool, true, false, cond, not, ◌&&◌, ◌||◌, ℕ, eqb}
 use Rattle.bits.specs.Bit.{bit_of}
-use Rattle.events.specs.Event.{Event}
+use Rattle.bus.specs.Event.{Event}
 use Rattle.control.specs.declared.Group.{Group}
 use Rattle.channel.specs.declared.Side.{Side}
 use Rattle.channel.specs.declared.Side.TheVariants.{Input, Output}

@@ -1,6 +1,6 @@
 -- What an event comes to, and its number ("Events and numbers"): the end of a cycle is what the cycle was, and a refused event is nothing.
 use Rattle.std.specs.Prelude.{cond, [], ◌∷◌, ℕ, get_or}
-use Rattle.events.specs.Event.{Event}
+use Rattle.bus.specs.Event.{Event}
 use Rattle.bus.specs.declared.Phase.{Phase}
 use Rattle.bus.specs.declared.Phase.TheVariants.{Idle, Reading, Writing}
 use Rattle.chip.specs.declared.Edition.{Edition}

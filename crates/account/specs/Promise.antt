@@ -1,9 +1,9 @@
 -- Demand 2: what is promised of the chip's numbers, bytes, pins, reads and interrupts, by the account of a history.
 use Rattle.std.specs.Prelude.{◌≡◌, Bool, false, cond, not, ◌&&◌, List, [], ◌∷◌, ℕ, ◌+◌, ◌<◌, ◌≤◌}
 use Rattle.bits.specs.Bit.{bit_of}
-use Rattle.events.specs.Event.{Event}
+use Rattle.bus.specs.Event.{Event}
 use Rattle.control.specs.declared.Group.{Group}
-use Rattle.lookup.specs.Lookup.{lookup_of}
+use Rattle.control.specs.Lookup.{lookup_of}
 use Rattle.channel.specs.declared.Side.{Side}
 use Rattle.channel.specs.declared.Side.TheVariants.{Input, Output}
 use Rattle.channel.specs.Channel.{is_waiting, is_empty}
@@ -11,11 +11,11 @@ use Rattle.chip.specs.declared.Chip.{Chip}
 use Rattle.chip.specs.declared.Core.{Core}
 use Rattle.chip.specs.State.{channel_of}
 use Rattle.chip.specs.Handshakes.{enable_of}
-use Rattle.status.specs.Status.{intr_of}
-use Rattle.status.specs.Reasons.{explained_of, numbers_of}
-use Rattle.ports.specs.Reads.{read_of}
-use Rattle.ports.specs.Pins.{pins_of}
-use Rattle.step.specs.Step.{stepped}
+use Rattle.chip.specs.Status.{intr_of}
+use Rattle.chip.specs.Reasons.{explained_of, numbers_of}
+use Rattle.chip.specs.Reads.{read_of}
+use Rattle.chip.specs.Pins.{pins_of}
+use Rattle.chip.specs.Step.{stepped}
 use Rattle.laws.specs.Forcing.{is_fetching}
 use Rattle.fates.specs.Kinds.{kind_of}
 use Rattle.fates.specs.Surroundings.{Surroundings}

@@ -2,10 +2,10 @@
 use Rattle.std.specs.Prelude.{◌≡◌, true, List, [], ◌∷◌, ◌++◌, ◌⊎◌, ℕ}
 use Rattle.bits.specs.Bit.{bit_of}
 use Rattle.bits.specs.Sum.{byte_by}
-use Rattle.events.specs.Event.{Event, event}
+use Rattle.bus.specs.Event.{Event, event}
 use Rattle.bus.specs.declared.Phase.TheVariants.{Writing}
 use Rattle.chip.specs.declared.Chip.{Chip}
-use Rattle.step.specs.Step.{stepped}
+use Rattle.chip.specs.Step.{stepped}
 use Rattle.fates.specs.Kinds.{reset, cycle_ended, kind_of}
 use Rattle.fates.specs.Surroundings.{Surroundings, surroundings_next, surroundings_over}
 use Rattle.fates.specs.Promise.{run}

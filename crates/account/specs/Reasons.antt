@@ -4,7 +4,7 @@ use Rattle.control.specs.declared.Group.{Group}
 use Rattle.control.specs.declared.Group.TheVariants.{A, B}
 use Rattle.channel.specs.declared.Side.{Side}
 use Rattle.channel.specs.declared.Side.TheVariants.{Input, Output}
-use Rattle.status.specs.declared.reasons.Numbers.{Numbers}
+use Rattle.chip.specs.Reasons.{Numbers}
 use Rattle.fates.specs.Effects.{strobe_pin}
 use Rattle.account.specs.Summary.{Column, plain_in, plain_out, strobed_in, strobed_out, both_ways, column_of}
 use Rattle.account.specs.Account.{Account, flag, line, served}

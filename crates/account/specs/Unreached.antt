@@ -1,15 +1,15 @@
 -- States that no history reaches: what is seen of two chips is the same, over every history ("Events and numbers").
 use Rattle.std.specs.Prelude.{◌≡◌, List, ℕ}
-use Rattle.events.specs.Event.{Event}
+use Rattle.bus.specs.Event.{Event}
 use Rattle.control.specs.declared.Group.{Group}
 use Rattle.channel.specs.declared.Fill.{Fill}
 use Rattle.chip.specs.declared.Chip.{Chip}
 use Rattle.chip.specs.State.{port_of, with_output, with_port}
-use Rattle.status.specs.Status.{intr_of}
-use Rattle.status.specs.Reasons.{explained_of, numbers_of}
-use Rattle.ports.specs.Reads.{read_of}
-use Rattle.ports.specs.Pins.{pins_of}
-use Rattle.step.specs.Step.{stepped}
+use Rattle.chip.specs.Status.{intr_of}
+use Rattle.chip.specs.Reasons.{explained_of, numbers_of}
+use Rattle.chip.specs.Reads.{read_of}
+use Rattle.chip.specs.Pins.{pins_of}
+use Rattle.chip.specs.Step.{stepped}
 use Rattle.fates.specs.Promise.{run}
 
 -- A chip with an output in another condition.

@@ -2,7 +2,7 @@
 use Rattle.std.specs.Prelude.{Bool, true, false, cond, not, ◌||◌, [], ◌∷◌, ℕ, get_or}
 use Rattle.bits.specs.Bit.{bit_of}
 use Rattle.bits.specs.Sum.{byte_by}
-use Rattle.events.specs.Event.{Event}
+use Rattle.bus.specs.Event.{Event}
 use Rattle.control.specs.declared.Group.{Group}
 use Rattle.control.specs.declared.Group.TheVariants.{A, B}
 use Rattle.channel.specs.declared.Side.TheVariants.{Input, Output}

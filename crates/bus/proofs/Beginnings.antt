@@ -4,8 +4,8 @@
 use mathlib.Core.Path.{◌≡◌, ◌∙◌, refl, ap, sym}
 use Prim.Native.Nat.{ℕ}
 use borrow.Author.Tests.{ne_eqb}
-use Rattle.events.specs.Kinds.{is_kind}
-use Rattle.events.specs.Kinds as kinds
+use Rattle.bus.specs.Kinds.{is_kind}
+use Rattle.bus.specs.Kinds as kinds
 use Rattle.bus.specs.declared.Phase.TheVariants.{Writing}
 use Rattle.bus.specs.Refusals.{number_of}
 use Rattle.bus.specs.Device.{Device, Given, step_in}

@@ -4,8 +4,8 @@ use mathlib.Core.Path.{◌≡◌, refl, ap}
 use mathlib.Core.Bool.{cond}
 use Prim.Native.Nat.{ℕ}
 use lib.Dec.{eqb}
-use Rattle.events.specs.Kinds.{is_kind}
-use Rattle.events.specs.Kinds as kinds
+use Rattle.bus.specs.Kinds.{is_kind}
+use Rattle.bus.specs.Kinds as kinds
 use Rattle.bus.specs.declared.Phase.{Phase}
 use Rattle.bus.specs.declared.Phase.TheVariants.{Idle, Reading, Writing}
 use Rattle.bus.specs.Refusals.{number_of}

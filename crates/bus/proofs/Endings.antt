@@ -5,8 +5,8 @@ use mathlib.Core.Path.{◌≡◌, refl}
 use Prim.Native.Nat.{ℕ}
 use native.Mathlib.Omega.{arith}
 use borrow.Author.Tests.{lt-ltb}
-use Rattle.events.specs.Kinds.{is_kind}
-use Rattle.events.specs.Kinds as kinds
+use Rattle.bus.specs.Kinds.{is_kind}
+use Rattle.bus.specs.Kinds as kinds
 use Rattle.bus.specs.declared.Phase.{Phase}
 use Rattle.bus.specs.declared.Phase.TheVariants.{Idle, Reading, Writing}
 use Rattle.bus.specs.Refusals.{number_of}

@@ -1,3 +1,4 @@
+pub mod ByKind
 pub mod Outcomes
 pub mod Numbering
 pub mod ByPhase
@@ -7,3 +8,4 @@ pub mod Endings
 pub mod Phases
 pub mod Begun
 pub mod Facts
+pub mod Determined

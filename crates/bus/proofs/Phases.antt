@@ -6,9 +6,9 @@ use mathlib.Core.List.{List, [], ◌∷◌}
 use Prim.Native.Nat.{ℕ}
 use lib.Dec.{eqb, ltb}
 use borrow.Author.Tests.{ne_eqb}
-use Rattle.events.specs.Kinds.{is_kind}
-use Rattle.events.specs.Event.{Event}
-use Rattle.events.proofs.ByKind.{by_kind, no-kind-differs}
+use Rattle.bus.specs.Kinds.{is_kind}
+use Rattle.bus.specs.Event.{Event}
+use Rattle.bus.proofs.ByKind.{by_kind, no-kind-differs}
 use Rattle.bus.specs.declared.Phase.{Phase}
 use Rattle.bus.specs.declared.Phase.TheVariants.{Idle, Reading, Writing}
 use Rattle.bus.specs.declared.Limits.{Limits}

@@ -1,7 +1,7 @@
 -- The cycle that runs after a history, and the event that began it ("State").
 use Rattle.std.specs.Prelude.{◌≡◌, cond, List, [], ◌∷◌, ◌++◌, ◌⊎◌, eqb}
-use Rattle.events.specs.Kinds as kinds
-use Rattle.events.specs.Event.{Event}
+use Rattle.bus.specs.Kinds as kinds
+use Rattle.bus.specs.Event.{Event}
 use Rattle.bus.specs.declared.Phase.{Phase}
 use Rattle.bus.specs.declared.Phase.TheVariants.{Idle, Reading, Writing}
 use Rattle.bus.specs.Device.{Device, Given, step_in, run_in}

@@ -1,8 +1,8 @@
 -- What the facts about cycles say of any device: places, beginnings and ends, what comes in any phase, operands that a kind lacks, and the phase
 -- by the events alone ("Events and numbers", "State").
 use Rattle.std.specs.Prelude.{◌≡◌, Bool, cond, not, ◌&&◌, ◌||◌, List, [], ◌∷◌, ℕ, ◌<◌, ◌≤◌, eqb, ltb}
-use Rattle.events.specs.Kinds as kinds
-use Rattle.events.specs.Event.{Event}
+use Rattle.bus.specs.Kinds as kinds
+use Rattle.bus.specs.Event.{Event}
 use Rattle.bus.specs.declared.Phase.{Phase}
 use Rattle.bus.specs.declared.Phase.TheVariants.{Idle, Reading, Writing}
 use Rattle.bus.specs.declared.Limits.{Limits}

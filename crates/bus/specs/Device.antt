@@ -1,7 +1,7 @@
 -- A device on the bus, and its step: what every device shares ("Events and numbers").
 use Rattle.std.specs.Prelude.{◌≡◌, cond, List, [], ◌∷◌, ℕ, eqb}
-use Rattle.events.specs.Kinds as kinds
-use Rattle.events.specs.Event.{Event}
+use Rattle.bus.specs.Kinds as kinds
+use Rattle.bus.specs.Event.{Event}
 use Rattle.bus.specs.declared.Phase.{Phase}
 use Rattle.bus.specs.declared.Phase.TheVariants.{Idle, Reading, Writing}
 use Rattle.bus.specs.declared.Limits.{Limits}

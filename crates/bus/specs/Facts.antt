@@ -1,6 +1,6 @@
 -- The facts about cycles, all together: what each device on the bus has by one law ("Events and numbers", "State").
 use Rattle.std.specs.Prelude.{◌≡◌, List, ℕ}
-use Rattle.events.specs.Event.{Event}
+use Rattle.bus.specs.Event.{Event}
 use Rattle.bus.specs.declared.Phase.TheVariants.{Idle}
 use Rattle.bus.specs.declared.Limits.{Limits}
 use Rattle.bus.specs.Refusals.{number_of}

@@ -1,5 +1,9 @@
+pub mod Kinds
+pub mod Event
+pub mod Histories
 pub mod Refusals
 pub mod Device
+pub mod Answers
 pub mod Numbered
 pub mod Cycles
 pub mod Begun

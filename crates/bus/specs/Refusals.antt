@@ -1,7 +1,7 @@
 -- The number of an event: the refusals, in the order of their table, over the limits of a device ("Events and numbers").
 use Rattle.std.specs.Prelude.{Bool, true, false, cond, not, ◌&&◌, ◌||◌, List, [], ◌∷◌, ℕ, eqb, ltb}
-use Rattle.events.specs.Kinds as kinds
-use Rattle.events.specs.Kinds.{no_kind, begins}
+use Rattle.bus.specs.Kinds as kinds
+use Rattle.bus.specs.Kinds.{no_kind, begins}
 use Rattle.bus.specs.declared.Phase.{Phase}
 use Rattle.bus.specs.declared.Phase.TheVariants.{Idle, Reading, Writing}
 use Rattle.bus.specs.declared.Limits.{Limits}

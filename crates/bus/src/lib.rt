@@ -1,68 +1,31 @@
-// The bus that a device shares with others: what runs on it, how far a device's addresses reach, and the number of an event.
+//! The bus that a device shares with others: the events on it, what runs on it, which events are refused, and what a device is.
 #![tactic(auto)]
 
-ghost use Rattle.std.specs.Prelude.{◌≡◌};
-ghost use Rattle.bus.specs.Refusals.{is_busy, number_of};
+pub mod devices;
+pub mod events;
+pub mod kinds;
+pub mod refusals;
 
-use events::{BEGIN_READ, BEGIN_WRITE, END_CYCLE, OUTSIDE_LEVELS, RESET};
-
-// The numbers of an event: 0 where it is accepted, and otherwise why it is refused.
-pub const ACCEPTED: u8 = 0;
-
-pub const NO_SUCH_KIND: u8 = 1;
-
-pub const OUT_OF_RANGE: u8 = 2;
-
-pub const NOT_READABLE: u8 = 3;
-
-pub const CYCLE_RUNS: u8 = 4;
-
-pub const NO_CYCLE_RUNS: u8 = 5;
-
-// What runs on the bus: nothing, a read at an address, or a write of a byte to one.
-#[derive(Clone, Copy)]
+/// What runs on the bus: nothing, a read at an address, or a write of a byte to one.
+#[derive(Clone, Copy, Debug, PartialEq, Eq)]
 pub enum Phase {
     Idle,
     Reading(u8),
     Writing(u8, u8),
 }
 
-// The limits of a device: how many addresses there are, from 0 on, how many of them, from 0 on, can be read, and how many ports have
-// levels outside.
-#[derive(Clone, Copy)]
+/// The limits of a device: how many addresses there are, from 0 on, how many of them, from 0 on, can be read, and how many ports have
+/// levels outside.
+#[derive(Clone, Copy, Debug, PartialEq, Eq)]
 pub struct Limits {
     pub addresses: u8,
     pub readable: u8,
     pub ports: u8,
 }
 
-fn busy(phase: Phase) -> bool
-    ensures { result ≡ is_busy phase }
-{
-    match phase {
-        Phase::Idle => false,
-        Phase::Reading(_) => true,
-        Phase::Writing(_, _) => true,
-    }
-}
-
-// The number of an event, kind by kind: each kind has its own refusals, in their order.
-pub fn number(limits: Limits, phase: Phase, kind: u8, first: u8) -> u8
-    ensures { result ≡ number_of limits phase kind first }
-{
-    let busy = busy(phase);
-    let taken = bits::choose(busy, CYCLE_RUNS, ACCEPTED);
-    let nowhere = !(first < limits.addresses);
-    match kind {
-        RESET => ACCEPTED,
-        BEGIN_READ => bits::choose(
-            nowhere,
-            OUT_OF_RANGE,
-            bits::choose(!(first < limits.readable), NOT_READABLE, taken),
-        ),
-        END_CYCLE => bits::choose(busy, ACCEPTED, NO_CYCLE_RUNS),
-        BEGIN_WRITE => bits::choose(nowhere, OUT_OF_RANGE, taken),
-        OUTSIDE_LEVELS => bits::choose(!(first < limits.ports), OUT_OF_RANGE, ACCEPTED),
-        _ => NO_SUCH_KIND,
-    }
+/// The levels of a port's eight pins, and a one for each pin that the device drives. By default no pin is high, and none is driven.
+#[derive(Clone, Copy, Debug, PartialEq, Eq, Default)]
+pub struct Pins {
+    pub levels: u8,
+    pub driven: u8,
 }

@@ -7,9 +7,9 @@ use Prim.Native.Nat.{ℕ}
 use lib.Dec.{eqb}
 use borrow.Author.Tests.{eqb-false}
 use Rattle.chip.specs.declared.Chip.{Chip}
-use Rattle.step.specs.declared.Stepped.{Stepped}
-use Rattle.step.specs.Step.{step_of}
-use Rattle.step.proofs.Outcome.{step-refuses, step-number}
+use Rattle.chip.specs.Step.{Stepped}
+use Rattle.chip.specs.Step.{step_of}
+use Rattle.chip.proofs.Outcome.{step-refuses, step-number}
 use Rattle.image.specs.Layout.{image_of}
 use Rattle.image.specs.Loaded.{state_of}
 use Rattle.image.specs.Good.{is_image, Bytes}

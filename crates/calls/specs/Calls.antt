@@ -7,12 +7,11 @@ use Rattle.channel.specs.declared.Side.{Side}
 use Rattle.channel.specs.declared.Side.TheVariants.{Input, Output}
 use Rattle.channel.specs.declared.Tally.{Tally}
 use Rattle.chip.specs.State.{levels_by, power_up_as, power_up_with, power_up, tally_of}
-use Rattle.status.specs.declared.reasons.Numbers.{Numbers}
-use Rattle.status.specs.Reasons.{explained_of, numbers_of}
-use Rattle.ports.specs.declared.Pins.{Pins}
-use Rattle.ports.specs.Pins.{pins_of}
-use Rattle.step.specs.declared.Stepped.{Stepped}
-use Rattle.step.specs.Step.{step_of}
+use Rattle.chip.specs.Reasons.{Numbers, explained_of, numbers_of}
+use Rattle.bus.specs.declared.Pins.{Pins}
+use Rattle.chip.specs.Pins.{pins_of}
+use Rattle.chip.specs.Step.{Stepped}
+use Rattle.chip.specs.Step.{step_of}
 use Rattle.image.specs.Places as places
 use Rattle.image.specs.Layout.{image_of}
 use Rattle.image.specs.Loaded.{edition_as, state_of}

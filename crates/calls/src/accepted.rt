@@ -1,41 +1,35 @@
-// An accepted event in the bytes of an image. The kind is chosen before the state is loaded: so the compiler sees, kind by kind, which
-// bytes the event can change, and leaves most of the others alone.
+//! An accepted event in the bytes of an image. The kind is chosen before the state is loaded: so the compiler sees, kind by kind, which
+//! bytes the event can change, and leaves most of the others alone.
 #![tactic(auto, using(image::proofs::Parts::told_long, image::proofs::Parts::core_saved, image::proofs::Parts::bus_saved, image::proofs::Parts::both_saved))]
 
 ghost use Rattle.std.specs.Prelude.{◌≡◌};
-ghost use Rattle.ports.specs.Reads.{read_of};
+ghost use Rattle.chip.specs.Reads.{read_of};
+ghost use Rattle.bus.specs.Answers.{raw};
 ghost use Rattle.bus.specs.Device.{read_begun_in, write_begun_in, levels_put_in, after_in, byte_in};
 ghost use Rattle.chip.specs.Addresses.{port_a, port_b};
-ghost use Rattle.step.specs.Step.{device};
+ghost use Rattle.chip.specs.Step.{device};
 ghost use Rattle.image.specs.Layout.{image_of};
 ghost use Rattle.image.specs.Loaded.{state_of};
 ghost use Rattle.image.specs.Good.{Told};
 
 use super::{ended, load};
 use bus::Phase;
+use bus::devices::Device;
+use bus::events::Event;
+use chip::{PORT_A, PORT_B};
 
-// A read of port A, and one of port B. They differ in a constant: of one function with the port as its parameter the compiler makes a call, and
-// a read takes twice the instructions.
-fn read_a(image: &mut [u8]) -> u8
+// A read of a port that may have a byte to hand over.
+fn read_at<const PORT: u8>(image: &mut [u8]) -> u8
     requires { Told image.old }
-    ensures value { result ≡ read_of (state_of image.old) port_a }
-    ensures image_after { image.new ≡ image_of (read_begun_in device (state_of image.old) port_a) }
+    ensures value { result ≡ read_of (state_of image.old) PORT }
+    ensures image_after { image.new ≡ image_of (read_begun_in device (state_of image.old) PORT) }
 {
-    let chip = load::state(image);
-    image::save::core(image, reads::begin(chip.core, chip::PORT_A));
-    image::save::bus(image, Phase::Reading(chip::PORT_A));
-    ports::read::value(chip, chip::PORT_A)
-}
-
-fn read_b(image: &mut [u8]) -> u8
-    requires { Told image.old }
-    ensures value { result ≡ read_of (state_of image.old) port_b }
-    ensures image_after { image.new ≡ image_of (read_begun_in device (state_of image.old) port_b) }
-{
-    let chip = load::state(image);
-    image::save::core(image, reads::begin(chip.core, chip::PORT_B));
-    image::save::bus(image, Phase::Reading(chip::PORT_B));
-    ports::read::value(chip, chip::PORT_B)
+    let mut chip = load::state(image);
+    let byte = chip.answer(PORT);
+    chip.core.begin_read(PORT);
+    image::save::core(image, &chip.core);
+    image::save::bus(image, Phase::Reading(PORT));
+    byte
 }
 
 // Elsewhere a read changes the bus alone.
@@ -46,7 +40,7 @@ fn read_other(image: &mut [u8], address: u8) -> u8
 {
     let chip = load::state(image);
     image::save::bus(image, Phase::Reading(address));
-    ports::read::value(chip, address)
+    chip.answer(address)
 }
 
 fn begin_read(image: &mut [u8], address: u8) -> u8
@@ -55,8 +49,8 @@ fn begin_read(image: &mut [u8], address: u8) -> u8
     ensures image_after { image.new ≡ image_of (read_begun_in device (state_of image.old) address) }
 {
     match address {
-        chip::PORT_A => read_a(image),
-        chip::PORT_B => read_b(image),
+        PORT_A => read_at::<PORT_A>(image),
+        PORT_B => read_at::<PORT_B>(image),
         _ => read_other(image, address),
     }
 }
@@ -68,37 +62,27 @@ fn begin_write(image: &mut [u8], address: u8, byte: u8)
     image::save::bus(image, Phase::Writing(address, byte));
 }
 
-fn levels(image: &mut [u8], port: u8, levels: u8)
+fn put_levels(image: &mut [u8], port: u8, levels: u8)
     requires { Told image.old }
     ensures { image.new ≡ image_of (levels_put_in device (state_of image.old) port levels) }
 {
-    let chip = load::state(image);
-    image::save::core(image, levels::set(chip.core, port, levels));
+    let mut core = load::state(image).core;
+    core.put_levels(port, levels);
+    image::save::core(image, &core);
 }
 
 // The byte of the event is given back.
-pub(super) fn accept(image: &mut [u8], kind: u8, first: u8, second: u8) -> u8
+pub(super) fn accept(image: &mut [u8], event: Event) -> u8
     requires { Told image.old }
-    ensures value { result ≡ byte_in device (state_of image.old) kind first }
-    ensures image_after { image.new ≡ image_of (after_in device (state_of image.old) kind first second) }
+    ensures value { result ≡ byte_in device (state_of image.old) (raw event).kind (raw event).first }
+    ensures image_after { image.new ≡ image_of (after_in device (state_of image.old) (raw event).kind (raw event).first (raw event).second) }
 {
-    match kind {
-        events::RESET => {
-            ended::renew(image, chip::POWER_UP_WORD);
-            0
-        }
-        events::BEGIN_READ => begin_read(image, first),
-        events::END_CYCLE => {
-            ended::end_cycle(image);
-            0
-        }
-        events::BEGIN_WRITE => {
-            begin_write(image, first, second);
-            0
-        }
-        _ => {
-            levels(image, first, second);
-            0
-        }
+    match event {
+        Event::Reset => ended::renew(image, chip::POWER_UP_WORD),
+        Event::BeginRead(address) => return begin_read(image, address),
+        Event::EndCycle => ended::end_cycle(image),
+        Event::BeginWrite(address, byte) => begin_write(image, address, byte),
+        Event::OutsideLevels(port, levels) => put_levels(image, port, levels),
     }
+    0
 }

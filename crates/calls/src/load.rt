@@ -1,6 +1,6 @@
-// The state that an image tells, for a caller that has seen that it is one. The length is handed on as a constant: so the compiler sees
-// that the loading need not ask for it. That the loading is made a part of each call is asked for, here and in the crate image: as a function by
-// itself it costs more than a hundred instructions a call.
+//! The state that an image tells, for a caller that has seen that it is one. The length is handed on as a constant: so the compiler sees
+//! that the loading need not ask for it. That the loading is made a part of each call is asked for, here and in the crate image: as a function
+//! by itself it costs more than a hundred instructions a call.
 ghost use Rattle.std.specs.Prelude.{◌≡◌, length};
 ghost use Rattle.image.specs.Places as places;
 ghost use Rattle.image.specs.Loaded.{state_of};

@@ -1,5 +1,7 @@
 // The letters of the pins, the same for every device: A to D name a port, of which D is none, and for the 8355 C neither. A capital letter is the
 // levels of its pins, a small one those that are driven.
+use bus::Pins;
+use bus::devices::Device;
 use std::io;
 
 pub(super) fn port(name: u8) -> u8 {
@@ -11,11 +13,16 @@ pub(super) fn port(name: u8) -> u8 {
     }
 }
 
-pub(super) fn show(rt: &impl Print, name: u8, levels: u8, driven: u8) -> io::Result<()> {
+pub(super) fn show(rt: &impl Print, name: u8, pins: Pins) -> io::Result<()> {
     let shown = if name.is_ascii_lowercase() {
-        driven
+        pins.driven
     } else {
-        levels
+        pins.levels
     };
     print!(rt; "{shown:02X}")
+}
+
+// What a letter names of a device.
+pub(super) fn pins(rt: &impl Print, device: &impl Device, name: u8) -> io::Result<()> {
+    show(rt, name, device.pins(port(name)))
 }

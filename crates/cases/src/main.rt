@@ -2,6 +2,7 @@
 // which signs.rt explains, run events and show what the device then is.
 #![tactic(auto)]
 
+mod answers;
 mod devices;
 mod letters;
 mod phases;

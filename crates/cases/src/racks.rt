@@ -1,57 +1,64 @@
 // The rack that the cases are at, the place that is looked at, and what a sign does to them.
+use super::answers::put;
 use super::{letters, show};
 use channel::Side;
+use chip::Chip;
 use control::Group;
-use rack::event::Stepped;
-use rack::{Built, Rack};
+use rack::Rack;
 use std::alloc::{AllocError, Global};
 use std::io;
 
-// A rack with the answer to its last event, or with the number of its building; the place that is looked at; and the bases of the next
-// rack so far.
+// A rack with the number and the byte of its last event, or with the number of its building; the place that is looked at; and the bases of
+// the next rack so far.
 #[derive(Drop)]
 pub(super) struct Held {
-    last: Stepped,
+    rack: Rack,
+    number: u8,
+    byte: u8,
     place: u8,
     bases: Vec<u16>,
-}
-
-fn put(built: Built) -> Stepped {
-    Stepped {
-        rack: built.rack,
-        number: built.number,
-        byte: 0,
-    }
-}
-
-fn event(rack: Rack, digits: u64) -> Stepped {
-    rack::event::step(
-        rack,
-        (digits / 0x100000000 % 256) as u8,
-        (digits / 0x10000 % 0x10000) as u16,
-        (digits / 256 % 256) as u8,
-        (digits % 256) as u8,
-    )
 }
 
 impl Held {
     // A rack of none.
     pub(super) fn new(alloc: Global) -> Self {
         Held {
-            last: put(rack::build(&[])),
+            rack: Rack::default(),
+            number: 0,
+            byte: 0,
             place: 0,
             bases: Vec::new(alloc),
         }
+    }
+
+    // Where the bases make no rack, it is one of none.
+    fn build(&mut self) {
+        self.byte = 0;
+        (self.rack, self.number) = match Rack::new(&self.bases) {
+            Ok(rack) => (rack, 0),
+            Err(refusal) => (Rack::default(), refusal.number()),
+        };
+        self.bases.clear();
+    }
+
+    fn event(&mut self, digits: u64) {
+        let answer = self.rack.step_numbers(
+            (digits / 0x100000000 % 256) as u8,
+            (digits / 0x10000 % 0x10000) as u16,
+            (digits / 256 % 256) as u8,
+            (digits % 256) as u8,
+        );
+        (self.number, self.byte) = match answer {
+            Ok(byte) => (0, byte),
+            Err(refusal) => (refusal.number(), 0),
+        };
     }
 
     // A base ends with a comma, and the bases with the bracket.
     fn base(&mut self, digits: u64, code: u8) -> Result<(), AllocError> {
         match code {
             b',' => self.bases.push((digits % 0x10000) as u16)?,
-            b']' => {
-                self.last = put(rack::build(&self.bases));
-                self.bases.clear();
-            }
+            b']' => self.build(),
             _ => {}
         }
         Ok(())
@@ -67,62 +74,54 @@ impl Held {
     ) -> io::Result<()> {
         match sign {
             b'[' => self.base(digits, code)?,
-            b'{' if code == b'}' => self.last = event(self.last.rack, digits),
+            b'{' if code == b'}' => self.event(digits),
             b'@' => self.place = code % 16,
-            b'$' => field(rt, self.last, self.place, code)?,
+            b'$' => self.field(rt, code)?,
             _ => {}
         }
         Ok(())
     }
+
+    // The number and the byte are the rack's; the rest is of the card, if there is one.
+    fn field(&self, rt: &impl Print, name: u8) -> io::Result<()> {
+        match (name, self.rack.card(self.place)) {
+            (b'n', _) => print!(rt; "{}", self.number),
+            (b'y', _) => print!(rt; "{:02X}", self.byte),
+            (_, Some(card)) => of_card(rt, &self.rack, self.place, card, name),
+            (_, None) => print!(rt; "no card"),
+        }
+    }
 }
 
-fn pins(rt: &impl Print, rack: Rack, place: u8, name: u8) -> io::Result<()> {
-    let shown = rack::views::pins(rack, place, letters::port(name));
-    letters::show(rt, name, shown.pins.levels, shown.pins.driven)
+fn pins(rt: &impl Print, rack: &Rack, place: u8, name: u8) -> io::Result<()> {
+    let shown = rack.pins(place, letters::port(name)).unwrap_or_default();
+    letters::show(rt, name, shown)
 }
 
-fn channel(rt: &impl Print, rack: Rack, place: u8, group: Group, side: Side) -> io::Result<()> {
-    let card = rack::views::card_at(rack, place);
-    let counted = rack::views::tally(rack, place, group, side);
-    show::channel(rt, card.chip, group, side, counted.tally)
+fn channel(rt: &impl Print, rack: &Rack, at: u8, group: Group, side: Side) -> io::Result<()> {
+    let card = rack.card(at).unwrap_or_default();
+    let tally = rack.tally(at, group, side).unwrap_or_default();
+    show::channel(rt, card.core.channel(group, side), tally)
 }
 
-fn said(rt: &impl Print, rack: Rack, place: u8, group: u8) -> io::Result<()> {
-    show::said(rt, rack::views::explain(rack, place, group).explained)
+fn said(rt: &impl Print, rack: &Rack, place: u8, group: Group) -> io::Result<()> {
+    match rack.explain(place, group) {
+        Some(explained) => show::explained(rt, explained),
+        None => Ok(()),
+    }
 }
 
-// What a letter shows of the card taken out.
-fn as_chip(rt: &impl Print, rack: Rack, place: u8, name: u8) -> io::Result<()> {
-    let card = step::Stepped {
-        chip: rack::views::card_at(rack, place).chip,
-        number: 0,
-        byte: 0,
-    };
-    show::field(rt, card, name)
-}
-
-// What a letter names of the card at the place.
-fn of_card(rt: &impl Print, rack: Rack, place: u8, name: u8) -> io::Result<()> {
+// What a letter names of the card at the place: its pins, its channels and what is said of its INTR are asked of the rack, and the rest of the
+// card taken out.
+fn of_card(rt: &impl Print, rack: &Rack, place: u8, card: Chip, name: u8) -> io::Result<()> {
     match name {
         b'0' => channel(rt, rack, place, Group::A, Side::Input),
         b'1' => channel(rt, rack, place, Group::A, Side::Output),
         b'2' => channel(rt, rack, place, Group::B, Side::Input),
         b'3' => channel(rt, rack, place, Group::B, Side::Output),
-        b'i' => said(rt, rack, place, 0),
-        b'j' => said(rt, rack, place, 1),
+        b'i' => said(rt, rack, place, Group::A),
+        b'j' => said(rt, rack, place, Group::B),
         b'A'..=b'D' | b'a'..=b'd' => pins(rt, rack, place, name),
-        _ => as_chip(rt, rack, place, name),
-    }
-}
-
-// The number and the byte are the rack's; the rest is of the card, if there is one.
-fn field(rt: &impl Print, last: Stepped, place: u8, name: u8) -> io::Result<()> {
-    match name {
-        b'n' => print!(rt; "{}", last.number),
-        b'y' => print!(rt; "{:02X}", last.byte),
-        _ if rack::views::card_at(last.rack, place).number == 0 => of_card(
-            rt, last.rack, place, name,
-        ),
-        _ => print!(rt; "no card"),
+        _ => show::field(rt, &put(card), name),
     }
 }

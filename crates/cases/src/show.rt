@@ -1,11 +1,12 @@
 // What a letter names of the chip, of either edition, and of its last answer.
+use super::answers::Answered;
 use super::letters;
-use channel::{Fill, Side, Tally};
-use chip::{Chip, Edition};
+use bus::devices::Device;
+use channel::{Channel, Fill, Side, Tally};
+use chip::reasons::{Explained, Reason};
+use chip::{Chip, Edition, PORT_C};
 use control::Group;
-use status::reasons::{Explained, Reason};
 use std::io;
-use step::Stepped;
 
 // Whether a byte waits in the channel.
 fn fill(fill: Fill) -> &'static str {
@@ -17,14 +18,7 @@ fn fill(fill: Fill) -> &'static str {
 }
 
 // That, and its tallies.
-pub(super) fn channel(
-    rt: &impl Print,
-    chip: Chip,
-    group: Group,
-    side: Side,
-    tally: Tally,
-) -> io::Result<()> {
-    let channel = chip::channels::find(chip.core, group, side);
+pub(super) fn channel(rt: &impl Print, channel: Channel, tally: Tally) -> io::Result<()> {
     print!(rt;
         "{}, offered {}, handed over {}, overwritten {}, swallowed {}, cleared {}, planted {}, struck {}",
         fill(channel.fill),
@@ -38,19 +32,8 @@ pub(super) fn channel(
     )
 }
 
-fn own_channel(rt: &impl Print, chip: Chip, group: Group, side: Side) -> io::Result<()> {
-    channel(
-        rt,
-        chip,
-        group,
-        side,
-        chip::channels::tally(chip, group, side),
-    )
-}
-
-fn pins(rt: &impl Print, chip: Chip, name: u8) -> io::Result<()> {
-    let pins = ports::view::pins(chip, letters::port(name));
-    letters::show(rt, name, pins.levels, pins.driven)
+fn own_channel(rt: &impl Print, chip: &Chip, group: Group, side: Side) -> io::Result<()> {
+    channel(rt, chip.core.channel(group, side), chip.tally(group, side))
 }
 
 fn half(reason: Reason) -> &'static str {
@@ -64,15 +47,22 @@ fn half(reason: Reason) -> &'static str {
 }
 
 // What is said of a group's INTR.
-pub(super) fn said(rt: &impl Print, explained: Explained) -> io::Result<()> {
+pub(super) fn explained(rt: &impl Print, explained: Explained) -> io::Result<()> {
     match explained {
-        Explained::NoGroup => print!(rt; "no such group"),
         Explained::ModeZero => print!(rt; "mode 0"),
         Explained::InputHalf(input) => print!(rt; "input {}", half(input)),
         Explained::OutputHalf(output) => print!(rt; "output {}", half(output)),
         Explained::BothHalves(input, output) => {
             print!(rt; "input {}, output {}", half(input), half(output))
         }
+    }
+}
+
+// The same of a group by its number.
+fn said(rt: &impl Print, chip: &Chip, group: u8) -> io::Result<()> {
+    match chip.explain_numbered(group) {
+        Some(said) => explained(rt, said),
+        None => print!(rt; "no such group"),
     }
 }
 
@@ -83,22 +73,22 @@ fn edition(edition: Edition) -> &'static str {
     }
 }
 
-pub(super) fn field(rt: &impl Print, last: Stepped, name: u8) -> io::Result<()> {
-    let chip = last.chip;
+pub(super) fn field(rt: &impl Print, last: &Answered<Chip>, name: u8) -> io::Result<()> {
+    let chip = &last.device;
     match name {
         b'0' => own_channel(rt, chip, Group::A, Side::Input),
         b'1' => own_channel(rt, chip, Group::A, Side::Output),
         b'2' => own_channel(rt, chip, Group::B, Side::Input),
         b'3' => own_channel(rt, chip, Group::B, Side::Output),
-        b'n' => print!(rt; "{:02X}", last.number),
-        b'y' => print!(rt; "{:02X}", last.byte),
-        b'r' => print!(rt; "{:02X}", ports::read::value(chip, 2)),
+        b'n' => print!(rt; "{:02X}", last.number()),
+        b'y' => print!(rt; "{:02X}", last.byte()),
+        b'r' => print!(rt; "{:02X}", chip.answer(PORT_C)),
         b'v' => print!(rt; "{}", edition(chip.edition)),
         b'w' => print!(rt; "{:02X}", chip.core.word),
-        b'i' => said(rt, status::reasons::explain(chip, 0)),
-        b'j' => said(rt, status::reasons::explain(chip, 1)),
-        b'k' => said(rt, status::reasons::explain(chip, 2)),
-        b'A'..=b'D' | b'a'..=b'd' => pins(rt, chip, name),
+        b'i' => said(rt, chip, 0),
+        b'j' => said(rt, chip, 1),
+        b'k' => said(rt, chip, 2),
+        b'A'..=b'D' | b'a'..=b'd' => letters::pins(rt, chip, name),
         _ => print!(rt; "-"),
     }
 }

@@ -72,15 +72,15 @@ fn copy(rt: &impl Print, code: u8) -> io::Result<()> {
 }
 
 // Follows a byte that is plain, or of a sign for devices.
-fn act(rt: &impl Print, last: Last, sign: u8, digits: u64, code: u8) -> io::Result<Last> {
+fn act(rt: &impl Print, last: &mut Last, sign: u8, digits: u64, code: u8) -> io::Result<()> {
     match sign {
-        b'<' if code == b'>' => return Ok(devices::event(last, digits)),
-        b'!' => return Ok(devices::other(last, code)),
+        b'<' if code == b'>' => devices::event(last, digits),
+        b'!' => *last = devices::other(last, code),
         b'%' => devices::field(rt, last, code)?,
         b'<' | b'[' | b'{' | b'@' | b'$' => {}
         _ => copy(rt, code)?,
     }
-    Ok(last)
+    Ok(())
 }
 
 pub(super) fn follow(rt: &(impl Print + AllocGlobal), text: &[u8]) -> io::Result<()> {
@@ -89,7 +89,7 @@ pub(super) fn follow(rt: &(impl Print + AllocGlobal), text: &[u8]) -> io::Result
     let mut sign = b' ';
     let mut digits = 0;
     for code in text {
-        last = act(rt, last, sign, digits, *code)?;
+        act(rt, &mut last, sign, digits, *code)?;
         held.act(rt, sign, digits, *code)?;
         digits = digits_after(sign, digits, *code);
         sign = open_after(sign, *code);

@@ -1,46 +1,36 @@
 // The chip, of either edition, in a state that no single event gives it: at power-up, after very many strobes, or by hand, where no history leads
 // there.
+use super::answers::{Answered, put};
 use super::phases;
+use bus::devices::step;
+use bus::events::Event;
+use bus::refusals::Refusal;
 use channel::Fill;
-use chip::{Chip, Core, Edition, Levels};
-use step::Stepped;
-
-fn put(chip: Chip) -> Stepped {
-    Stepped {
-        chip,
-        number: 0,
-        byte: 0,
-    }
-}
+use chip::{Chip, Core, Edition, Levels, PORT_C};
 
 // The cases are those of lines that idle high.
-pub(super) fn at_power_up(edition: Edition) -> Stepped {
-    let levels = Levels {
-        a: 0xff,
-        b: 0xff,
-        c: 0xff,
-    };
-    put(chip::power_up_as(edition, levels))
+pub(super) fn at_power_up(edition: Edition) -> Answered<Chip> {
+    put(Chip::new(edition, Levels::HIGH))
 }
 
 // The STB of port A falls and rises.
-fn strobe(chip: Chip) -> Chip {
-    let fallen = step::step(chip, 5, 2, 0xef);
-    let risen = step::step(fallen.chip, 5, 2, 0xff);
-    risen.chip
+fn strobe(chip: &mut Chip) -> Result<(), Refusal> {
+    step(chip, Event::OutsideLevels(PORT_C, 0xef))?;
+    step(chip, Event::OutsideLevels(PORT_C, 0xff))?;
+    Ok(())
 }
 
 // One strobe short of as many as a tally can tell apart.
-fn strobes(mut chip: Chip) -> Chip {
+fn strobes(chip: &mut Chip) -> Result<(), Refusal> {
     for _ in 0..65535 {
-        chip = strobe(chip);
+        strobe(chip)?;
     }
-    chip
+    Ok(())
 }
 
 // The mode word B0 without its bit 7; the output of A fetching; the input of A fetching, whatever the bus does; bytes waiting in both
 // channels of A.
-fn core_by_hand(mut core: Core, name: u8) -> Core {
+fn core_by_hand(core: &mut Core, name: u8) {
     match name {
         b'W' => core.word = 0x30,
         b'F' => core.a.output.fill = Fill::Fetching,
@@ -51,20 +41,20 @@ fn core_by_hand(mut core: Core, name: u8) -> Core {
         }
         _ => {}
     }
-    core
 }
 
-fn by_hand(chip: Chip, name: u8) -> Chip {
-    Chip {
-        phase: phases::by_hand(chip.phase, name),
-        edition: chip.edition,
-        core: core_by_hand(chip.core, name),
-    }
+fn by_hand(chip: &mut Chip, name: u8) {
+    chip.phase = phases::by_hand(chip.phase, name);
+    core_by_hand(&mut chip.core, name);
 }
 
-pub(super) fn other(chip: Chip, name: u8) -> Stepped {
+pub(super) fn other(mut chip: Chip, name: u8) -> Answered<Chip> {
     match name {
-        b'S' => put(strobes(chip)),
-        _ => put(by_hand(chip, name)),
+        // No level on a port that there is is refused.
+        b'S' => {
+            let _ = strobes(&mut chip);
+        }
+        _ => by_hand(&mut chip, name),
     }
+    put(chip)
 }

@@ -1,18 +1,10 @@
 // The 8355 in a state that no single event gives it: at power-up, or put together by hand.
+use super::answers::{Answered, put};
 use super::phases;
-use i8355::step::Stepped;
 use i8355::{Chip8355, Port, Ports};
 
-fn put(chip: Chip8355) -> Stepped {
-    Stepped {
-        chip,
-        number: 0,
-        byte: 0,
-    }
-}
-
-pub(super) fn at_power_up() -> Stepped {
-    put(i8355::power_up())
+pub(super) fn at_power_up() -> Answered<Chip8355> {
+    put(Chip8355::new())
 }
 
 // Registers and levels that all differ, so that none can stand for another. They come in the middle of a cycle too.
@@ -34,7 +26,7 @@ fn registers_by_hand(ports: Ports, name: u8) -> Ports {
     }
 }
 
-pub(super) fn other(chip: Chip8355, name: u8) -> Stepped {
+pub(super) fn other(chip: Chip8355, name: u8) -> Answered<Chip8355> {
     put(Chip8355 {
         phase: phases::by_hand(chip.phase, name),
         ports: registers_by_hand(chip.ports, name),

@@ -1,29 +1,29 @@
-// One strobed channel: whether a byte waits in it, its latch, and what became of the bytes offered to it or planted in it. The four
-// channels of a chip are all of this kind.
+//! One strobed channel: whether a byte waits in it, its latch, and what became of the bytes offered to it or planted in it. The four
+//! channels of a chip are all of this kind.
 #![tactic(auto)]
 
-ghost use Rattle.std.specs.Prelude.{◌≡◌, if◌then◌else◌};
+ghost use Rattle.std.specs.Prelude.{◌≡◌};
 ghost use Rattle.channel.specs.Channel.{is_waiting, is_empty, flag_of, has_room, next};
 ghost use Rattle.channel.specs.Moves.{after_offer, after_follow, after_hand_over, after_end_read, after_clear, tells_of_a_byte, after_plant, after_strike, after_force};
 
-// Which way a channel's bytes go: an input takes them in by STB, an output gives them out by ACK.
-#[derive(Clone, Copy)]
+/// Which way a channel's bytes go: an input takes them in by STB, an output gives them out by ACK.
+#[derive(Clone, Copy, Debug, PartialEq, Eq)]
 pub enum Side {
     Input,
     Output,
 }
 
-// Whether a byte waits. A channel is fetching while the read that was handed its byte still runs.
-#[derive(Clone, Copy)]
+/// Whether a byte waits. A channel is fetching while the read that was handed its byte still runs.
+#[derive(Clone, Copy, Debug, PartialEq, Eq, Default)]
 pub enum Fill {
+    #[default]
     Empty,
     Waiting,
     Fetching,
 }
 
-// How many bytes were offered, how many met each fate, and how many were planted, modulo 65,536. The one that a reset changes is the last: so a
-// rack is copied in fewer pieces.
-#[derive(Clone, Copy)]
+/// How many bytes were offered, how many met each fate, and how many were planted, modulo 65,536.
+#[derive(Clone, Copy, Debug, PartialEq, Eq, Default)]
 pub struct Tally {
     pub offered: u16,
     pub handed: u16,
@@ -34,196 +34,147 @@ pub struct Tally {
     pub cleared: u16,
 }
 
-#[derive(Clone, Copy)]
+/// A channel. By default it is as at power-up: empty, its latch 00, nothing counted.
+#[derive(Clone, Copy, Debug, PartialEq, Eq, Default)]
 pub struct Channel {
     pub fill: Fill,
     pub latch: u8,
     pub tally: Tally,
 }
 
-fn waiting(fill: Fill) -> bool
-    ensures { result ≡ is_waiting fill }
-{
-    match fill {
-        Fill::Empty => false,
-        Fill::Waiting => true,
-        Fill::Fetching => false,
+impl Fill {
+    fn is_waiting(self) -> bool
+        ensures { result ≡ is_waiting self }
+    {
+        matches!(self, Fill::Waiting)
+    }
+
+    fn is_empty(self) -> bool
+        ensures { result ≡ is_empty self }
+    {
+        matches!(self, Fill::Empty)
+    }
+
+    /// The buffer flag of a channel of that side: IBF of an input, OBF of an output.
+    #[tactic(auto, unfolding(crate::specs::Channel::flag_of))]
+    pub fn flag(self, side: Side) -> bool
+        ensures { result ≡ flag_of side self }
+    {
+        match side {
+            Side::Input => !self.is_empty(),
+            Side::Output => !self.is_waiting(),
+        }
+    }
+
+    // Whether a byte can be planted: the flag tells of none.
+    #[tactic(auto, unfolding(crate::specs::Channel::flag_of, crate::specs::Channel::has_room))]
+    fn has_room(self, side: Side) -> bool
+        ensures { result ≡ has_room side self }
+    {
+        !side.tells_of_a_byte(self.flag(side))
     }
 }
 
-fn empty(fill: Fill) -> bool
-    ensures { result ≡ is_empty fill }
-{
-    match fill {
-        Fill::Empty => true,
-        Fill::Waiting => false,
-        Fill::Fetching => false,
+impl Side {
+    // Whether the flag of a channel of this side, at that level, tells of a byte.
+    fn tells_of_a_byte(self, level: bool) -> bool
+        ensures { result ≡ tells_of_a_byte self level }
+    {
+        match self {
+            Side::Input => level,
+            Side::Output => !level,
+        }
     }
 }
 
-// The channel's buffer flag: IBF of an input, OBF of an output.
-#[tactic(auto, unfolding(crate::specs::Channel::flag_of))]
-pub fn flag(side: Side, fill: Fill) -> bool
-    ensures { result ≡ flag_of side fill }
-{
-    match side {
-        Side::Input => !empty(fill),
-        Side::Output => !waiting(fill),
-    }
-}
-
-fn next_if(on: bool, count: u16) -> u16
-    ensures { result ≡ next on count }
+// A tally goes on where the condition holds; after 65,535 it begins again at 0.
+fn count(tally: &mut u16, on: bool)
+    ensures { tally.new ≡ next on tally.old }
 {
     if on {
-        std::num::wrapping_add_u16(count, 1)
-    } else {
-        count
+        *tally = tally.wrapping_add(1);
     }
 }
 
-// A byte is offered, and one that waits is overwritten.
-#[tactic(auto, unfolding(crate::specs::Moves::after_offer))]
-pub fn offer(channel: Channel, byte: u8) -> Channel
-    ensures { result ≡ after_offer channel byte }
-{
-    let fill = channel.fill;
-    let mut tally = channel.tally;
-    tally.offered = next_if(true, tally.offered);
-    tally.overwritten = next_if(waiting(fill), tally.overwritten);
-    Channel {
-        fill: Fill::Waiting,
-        latch: byte,
-        tally,
+impl Channel {
+    /// A byte is offered, and one that waits is overwritten.
+    #[tactic(auto, unfolding(crate::specs::Moves::after_offer))]
+    pub fn offer(&mut self, byte: u8)
+        ensures { self.new ≡ after_offer self.old byte }
+    {
+        count(&mut self.tally.offered, true);
+        count(&mut self.tally.overwritten, self.fill.is_waiting());
+        self.fill = Fill::Waiting;
+        self.latch = byte;
     }
-}
 
-// Where levels go through, they stand in the latch. The condition and the tallies stay, whatever they are.
-#[tactic(auto, unfolding(crate::specs::Moves::after_follow))]
-pub fn follow(mut channel: Channel, through: bool, levels: u8) -> Channel
-    ensures { result ≡ (if through then after_follow channel levels else channel) }
-{
-    if through {
-        channel.latch = levels;
+    /// Levels go through, and stand in the latch. The condition and the tallies stay, whatever they are.
+    #[tactic(auto, unfolding(crate::specs::Moves::after_follow))]
+    pub fn follow(&mut self, levels: u8)
+        ensures { self.new ≡ after_follow self.old levels }
+    {
+        self.latch = levels;
     }
-    channel
-}
 
-// A byte that waits is handed over, and the channel is left as named: fetching by a read that begins, empty by ACK.
-#[tactic(auto, unfolding(crate::specs::Moves::after_hand_over))]
-pub fn hand_over(channel: Channel, left: Fill) -> Channel
-    ensures { result ≡ after_hand_over channel left }
-{
-    let fill = channel.fill;
-    let mut tally = channel.tally;
-    if waiting(fill) {
-        tally.handed = next_if(true, tally.handed);
-        return Channel {
-            fill: left,
-            latch: channel.latch,
-            tally,
-        };
+    /// A byte that waits is handed over, and the channel is left as named: fetching by a read that begins, empty by ACK.
+    #[tactic(auto, unfolding(crate::specs::Moves::after_hand_over))]
+    pub fn hand_over(&mut self, left: Fill)
+        ensures { self.new ≡ after_hand_over self.old left }
+    {
+        if self.fill.is_waiting() {
+            count(&mut self.tally.handed, true);
+            self.fill = left;
+        }
     }
-    channel
-}
 
-fn either(on: bool, yes: Fill, no: Fill) -> Fill
-    ensures { result ≡ (if on then yes else no) }
-{
-    if on { yes } else { no }
-}
-
-// The end of a read, where the channel takes part in it: the channel is empty, and a byte that waits is swallowed. The condition is
-// asked field by field, since a branch that gives back one of two channels makes the compiler copy both.
-#[tactic(auto, unfolding(crate::specs::Moves::after_end_read))]
-pub fn end_read(channel: Channel, on: bool) -> Channel
-    ensures { result ≡ (if on then after_end_read channel else channel) }
-{
-    let fill = channel.fill;
-    let mut tally = channel.tally;
-    tally.swallowed = next_if(on & waiting(fill), tally.swallowed);
-    Channel {
-        fill: either(on, Fill::Empty, fill),
-        latch: channel.latch,
-        tally,
+    /// A read that this channel takes part in ends: the channel is empty, and a byte that waits is swallowed.
+    #[tactic(auto, unfolding(crate::specs::Moves::after_end_read))]
+    pub fn end_read(&mut self)
+        ensures { self.new ≡ after_end_read self.old }
+    {
+        count(&mut self.tally.swallowed, self.fill.is_waiting());
+        self.fill = Fill::Empty;
     }
-}
 
-// A mode word or a reset: latch and channel are empty, and a byte that waits is cleared.
-#[tactic(auto, unfolding(crate::specs::Moves::after_clear))]
-pub fn clear(channel: Channel) -> Channel
-    ensures { result ≡ after_clear channel }
-{
-    let fill = channel.fill;
-    let mut tally = channel.tally;
-    tally.cleared = next_if(waiting(fill), tally.cleared);
-    Channel {
-        fill: Fill::Empty,
-        latch: 0,
-        tally,
+    /// A mode word or a reset: latch and channel are empty, and a byte that waits is cleared.
+    #[tactic(auto, unfolding(crate::specs::Moves::after_clear))]
+    pub fn clear(&mut self)
+        ensures { self.new ≡ after_clear self.old }
+    {
+        count(&mut self.tally.cleared, self.fill.is_waiting());
+        self.fill = Fill::Empty;
+        self.latch = 0;
     }
-}
 
-// Whether the flag, at that level, tells of a byte.
-fn tells(side: Side, level: bool) -> bool
-    ensures { result ≡ tells_of_a_byte side level }
-{
-    match side {
-        Side::Input => level,
-        Side::Output => !level,
+    #[tactic(auto, unfolding(crate::specs::Moves::after_plant))]
+    fn plant(&mut self, side: Side)
+        ensures { self.new ≡ after_plant side self.old }
+    {
+        if self.fill.has_room(side) {
+            count(&mut self.tally.planted, true);
+            self.fill = Fill::Waiting;
+        }
     }
-}
 
-// Whether a byte can be planted: the flag tells of none.
-#[tactic(auto, unfolding(crate::specs::Channel::flag_of, crate::specs::Channel::has_room))]
-fn room(side: Side, fill: Fill) -> bool
-    ensures { result ≡ has_room side fill }
-{
-    !tells(side, flag(side, fill))
-}
-
-#[tactic(auto, unfolding(crate::specs::Moves::after_plant))]
-fn plant(channel: Channel, side: Side) -> Channel
-    ensures { result ≡ after_plant side channel }
-{
-    let fill = channel.fill;
-    let mut tally = channel.tally;
-    if room(side, fill) {
-        tally.planted = next_if(true, tally.planted);
-        return Channel {
-            fill: Fill::Waiting,
-            latch: channel.latch,
-            tally,
-        };
+    #[tactic(auto, unfolding(crate::specs::Moves::after_strike))]
+    fn strike(&mut self)
+        ensures { self.new ≡ after_strike self.old }
+    {
+        if self.fill.is_waiting() {
+            count(&mut self.tally.struck, true);
+            self.fill = Fill::Empty;
+        }
     }
-    channel
-}
 
-#[tactic(auto, unfolding(crate::specs::Moves::after_strike))]
-fn strike(channel: Channel) -> Channel
-    ensures { result ≡ after_strike channel }
-{
-    let fill = channel.fill;
-    let mut tally = channel.tally;
-    if waiting(fill) {
-        tally.struck = next_if(true, tally.struck);
-        return Channel {
-            fill: Fill::Empty,
-            latch: channel.latch,
-            tally,
-        };
-    }
-    channel
-}
-
-// The channel's flag is forced to a level: a byte is planted where there is room for one, or struck where one waits.
-#[tactic(auto, unfolding(crate::specs::Moves::after_force))]
-pub fn force(channel: Channel, side: Side, level: bool) -> Channel
-    ensures { result ≡ after_force side level channel }
-{
-    if tells(side, level) {
-        plant(channel, side)
-    } else {
-        strike(channel)
+    /// The channel's flag is forced to a level: a byte is planted where there is room for one, or struck where one waits.
+    #[tactic(auto, unfolding(crate::specs::Moves::after_force))]
+    pub fn force(&mut self, side: Side, level: bool)
+        ensures { self.new ≡ after_force side level self.old }
+    {
+        if side.tells_of_a_byte(level) {
+            self.plant(side)
+        } else {
+            self.strike()
+        }
     }
 }

@@ -2,3 +2,16 @@ pub mod OnPort
 pub mod OneChannel
 pub mod StrobedWords
 pub mod Surrounded
+pub mod Flags
+pub mod PinByMasks
+pub mod SettingsAfter
+pub mod ReadsAfter
+pub mod ByMasks
+pub mod WritesAfter
+pub mod LevelsAfter
+pub mod ByReason
+pub mod ByMode
+pub mod LinesByMasks
+pub mod Strobed
+pub mod Ends
+pub mod Outcome

@@ -1,3 +1,13 @@
 pub mod Addresses
 pub mod State
 pub mod Handshakes
+pub mod ModeWord
+pub mod ControlWord
+pub mod Read
+pub mod Write
+pub mod Levels
+pub mod Status
+pub mod Reasons
+pub mod Reads
+pub mod Pins
+pub mod Step

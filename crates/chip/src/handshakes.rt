@@ -1,11 +1,12 @@
-// What differs between the four channels: when the mode word strobes them, the pin of their line, their enable, their own cycle.
+//! What differs between the four channels: when the mode word strobes them, the pin of their line, their enable, their own cycle.
 ghost use Rattle.std.specs.Prelude.{◌≡◌};
 ghost use Rattle.chip.specs.Handshakes.{own_address, strobed, line_pin, enable_of, reading, writing, running};
+ghost use Rattle.chip.specs.Status.{flag_at};
 
-use super::{Enables, PORT_A, PORT_B};
+use super::{Core, Enables, PORT_A, PORT_B};
 use bus::Phase;
 use channel::Side;
-use control::Group;
+use control::{Group, mode};
 
 // The pins of port C that the chip listens to in a handshake: STB and ACK of group A, and the one of group B, which is either.
 pub const STB_A: u8 = 4;
@@ -31,39 +32,14 @@ fn own_address(address: u8, group: Group) -> bool
     }
 }
 
-// Whether the mode word strobes the channel.
-pub fn strobed(word: u8, group: Group, side: Side) -> bool
-    ensures { result ≡ strobed word group side }
-{
-    match side {
-        Side::Input => control::mode::strobed_input(word, group),
-        Side::Output => control::mode::strobed_output(word, group),
-    }
-}
-
 // The pin of the channel's STB or ACK.
-pub fn line_pin(group: Group, side: Side) -> u8
+pub(super) fn line_pin(group: Group, side: Side) -> u8
     ensures { result ≡ line_pin group side }
 {
-    match group {
-        Group::A => match side {
-            Side::Input => STB_A,
-            Side::Output => ACK_A,
-        },
-        Group::B => LINE_B,
-    }
-}
-
-// Whether the channel's interrupt is enabled.
-pub fn enable(inte: Enables, group: Group, side: Side) -> bool
-    ensures { result ≡ enable_of inte group side }
-{
-    match group {
-        Group::A => match side {
-            Side::Input => inte.input,
-            Side::Output => inte.output,
-        },
-        Group::B => inte.b,
+    match (group, side) {
+        (Group::A, Side::Input) => STB_A,
+        (Group::A, Side::Output) => ACK_A,
+        (Group::B, _) => LINE_B,
     }
 }
 
@@ -72,9 +48,8 @@ fn reading(phase: Phase, group: Group) -> bool
     ensures { result ≡ reading phase group }
 {
     match phase {
-        Phase::Idle => false,
         Phase::Reading(port) => own_address(port, group),
-        Phase::Writing(_, _) => false,
+        Phase::Idle | Phase::Writing(_, _) => false,
     }
 }
 
@@ -83,18 +58,49 @@ fn writing(phase: Phase, group: Group) -> bool
     ensures { result ≡ writing phase group }
 {
     match phase {
-        Phase::Idle => false,
-        Phase::Reading(_) => false,
         Phase::Writing(address, _) => own_address(address, group),
+        Phase::Idle | Phase::Reading(_) => false,
     }
 }
 
 // Whether the channel's own cycle runs: a read for an input, a write for an output.
-pub fn running(phase: Phase, group: Group, side: Side) -> bool
+pub(super) fn running(phase: Phase, group: Group, side: Side) -> bool
     ensures { result ≡ running phase group side }
 {
     match side {
         Side::Input => reading(phase, group),
         Side::Output => writing(phase, group),
+    }
+}
+
+impl Enables {
+    // Whether the channel's interrupt is enabled.
+    pub(super) fn enables(&self, group: Group, side: Side) -> bool
+        ensures { result ≡ enable_of self.now group side }
+    {
+        match (group, side) {
+            (Group::A, Side::Input) => self.input,
+            (Group::A, Side::Output) => self.output,
+            (Group::B, _) => self.b,
+        }
+    }
+}
+
+impl Core {
+    // Whether the mode word strobes the channel.
+    pub(super) fn strobes(&self, group: Group, side: Side) -> bool
+        ensures { result ≡ strobed self.now.word group side }
+    {
+        match side {
+            Side::Input => mode::strobed_input(self.word, group),
+            Side::Output => mode::strobed_output(self.word, group),
+        }
+    }
+
+    // IBF or OBF of the channel.
+    pub(super) fn flag(&self, group: Group, side: Side) -> bool
+        ensures { result ≡ flag_at self.now group side }
+    {
+        self.channel(group, side).fill.flag(side)
     }
 }

@@ -1,40 +1,48 @@
-// The state of one 8255A or 82C55A, and what it is at power-up.
+//! One 8255A or 82C55A: its state, what it is at power-up, and what each event on the bus makes of it.
 #![tactic(auto)]
 
 ghost use Rattle.std.specs.Prelude.{◌≡◌};
-ghost use Rattle.chip.specs.State.{fresh_port, power_up_as, power_up_with, power_up};
+ghost use Rattle.chip.specs.State.{fresh_port, power_up_as, power_up, port_of, side_of, channel_of, tally_of};
 
-pub mod channels;
+mod device;
 pub mod handshakes;
+mod outside;
+mod pins;
+mod reads;
+pub mod reasons;
+mod settings;
+mod status;
+mod writes;
 
 use bus::Phase;
-use channel::{Channel, Fill, Tally};
+use channel::{Channel, Side, Tally};
+use control::Group;
 
-// Port A or B: its two channels, and the levels put on its pins from outside.
-#[derive(Clone, Copy)]
+/// Port A or B: its two channels, and the levels put on its pins from outside.
+#[derive(Clone, Copy, Debug, PartialEq, Eq)]
 pub struct Port {
     pub input: Channel,
     pub output: Channel,
     pub outside: u8,
 }
 
-// Port C: its output latch, and the levels put on its lines from outside.
-#[derive(Clone, Copy)]
+/// Port C: its output latch, and the levels put on its lines from outside.
+#[derive(Clone, Copy, Debug, PartialEq, Eq)]
 pub struct PortC {
     pub latch: u8,
     pub outside: u8,
 }
 
-// The interrupt enables: INTE in A, INTE out A, and INTE B, which group B's two channels share.
-#[derive(Clone, Copy)]
+/// The interrupt enables: INTE in A, INTE out A, and INTE B, which group B's two channels share. By default none is on.
+#[derive(Clone, Copy, Debug, PartialEq, Eq, Default)]
 pub struct Enables {
     pub input: bool,
     pub output: bool,
     pub b: bool,
 }
 
-// All of the chip but the bus and the edition: the last mode word, the ports and the enables.
-#[derive(Clone, Copy)]
+/// All of the chip but the bus and the edition: the last mode word, the ports and the enables.
+#[derive(Clone, Copy, Debug, PartialEq, Eq)]
 pub struct Core {
     pub word: u8,
     pub a: Port,
@@ -43,26 +51,36 @@ pub struct Core {
     pub inte: Enables,
 }
 
-// Which part the chip is: the 8255A, or the later 82C55A, whose control word can be read back. No event changes it.
-#[derive(Clone, Copy)]
+/// Which part the chip is: the 8255A, or the later 82C55A, whose control word can be read back. No event changes it.
+#[derive(Clone, Copy, Debug, PartialEq, Eq)]
 pub enum Edition {
     Older,
     Newer,
 }
 
-#[derive(Clone, Copy)]
+/// A chip: what runs on the bus, its edition, and the rest.
+#[derive(Clone, Copy, Debug, PartialEq, Eq)]
 pub struct Chip {
     pub phase: Phase,
     pub edition: Edition,
     pub core: Core,
 }
 
-// The levels that the outside puts on the pins of the three ports.
-#[derive(Clone, Copy)]
+/// The levels that the outside puts on the pins of the three ports. By default every line is low, as the backplane pulls idle lines down.
+#[derive(Clone, Copy, Debug, PartialEq, Eq, Default)]
 pub struct Levels {
     pub a: u8,
     pub b: u8,
     pub c: u8,
+}
+
+impl Levels {
+    /// Every line high.
+    pub const HIGH: Levels = Levels {
+        a: 0xff,
+        b: 0xff,
+        c: 0xff,
+    };
 }
 
 // The ports A, B and C and control by their addresses on the bus. Outside levels name a port by the same number.
@@ -74,68 +92,82 @@ pub const PORT_C: u8 = 2;
 
 pub const CONTROL: u8 = 3;
 
-// The mode word at power-up and after a reset: all ports are inputs in mode 0.
+/// The mode word at power-up and after a reset: all ports are inputs in mode 0.
 pub const POWER_UP_WORD: u8 = 0x9b;
 
-fn fresh_port(outside: u8) -> Port
-    ensures { result ≡ fresh_port outside }
-{
-    let tally = Tally {
-        offered: 0,
-        handed: 0,
-        overwritten: 0,
-        swallowed: 0,
-        cleared: 0,
-        planted: 0,
-        struck: 0,
-    };
-    let channel = Channel {
-        fill: Fill::Empty,
-        latch: 0,
-        tally,
-    };
-    Port {
-        input: channel,
-        output: channel,
-        outside,
+impl Port {
+    fn new(outside: u8) -> Self
+        ensures { result ≡ fresh_port outside }
+    {
+        Port {
+            input: Channel::default(),
+            output: Channel::default(),
+            outside,
+        }
+    }
+
+    fn channel(&self, side: Side) -> Channel
+        ensures { result ≡ side_of self.now side }
+    {
+        match side {
+            Side::Input => self.input,
+            Side::Output => self.output,
+        }
     }
 }
 
-// The chip at power-up, of the edition and under the levels that the caller names.
-pub fn power_up_as(edition: Edition, levels: Levels) -> Chip
-    ensures { result ≡ power_up_as edition levels }
-{
-    let core = Core {
-        word: POWER_UP_WORD,
-        a: fresh_port(levels.a),
-        b: fresh_port(levels.b),
-        c: PortC {
-            latch: 0,
-            outside: levels.c,
-        },
-        inte: Enables {
-            input: false,
-            output: false,
-            b: false,
-        },
-    };
-    Chip {
-        phase: Phase::Idle,
-        edition,
-        core,
+impl Core {
+    fn port(&self, group: Group) -> &Port
+        ensures { result.now ≡ port_of self.now group }
+    {
+        match group {
+            Group::A => &self.a,
+            Group::B => &self.b,
+        }
+    }
+
+    /// The channel of that group and side.
+    pub fn channel(&self, group: Group, side: Side) -> Channel
+        ensures { result ≡ channel_of self.now group side }
+    {
+        self.port(group).channel(side)
     }
 }
 
-// The chip at power-up where levels are named, and no edition: it is the older.
-pub fn power_up_with_levels(levels: Levels) -> Chip
-    ensures { result ≡ power_up_with levels }
-{
-    power_up_as(Edition::Older, levels)
+impl Chip {
+    /// The chip at power-up, of the edition and under the levels that the caller names.
+    pub fn new(edition: Edition, levels: Levels) -> Self
+        ensures { result ≡ power_up_as edition levels }
+    {
+        Chip {
+            phase: Phase::Idle,
+            edition,
+            core: Core {
+                word: POWER_UP_WORD,
+                a: Port::new(levels.a),
+                b: Port::new(levels.b),
+                c: PortC {
+                    latch: 0,
+                    outside: levels.c,
+                },
+                inte: Enables::default(),
+            },
+        }
+    }
+
+    /// What became of the bytes offered to a channel, or planted in it.
+    pub fn tally(&self, group: Group, side: Side) -> Tally
+        ensures { result ≡ tally_of self.now group side }
+    {
+        self.core.channel(group, side).tally
+    }
 }
 
-// The chip at power-up where nothing is named: the backplane pulls idle lines down.
-pub fn power_up() -> Chip
-    ensures { result ≡ power_up }
-{
-    power_up_with_levels(Levels { a: 0, b: 0, c: 0 })
+impl Default for Chip {
+    /// The chip at power-up where nothing is named: of the older edition, and every line low.
+    fn default() -> Self
+        ensures { result ≡ power_up }
+    {
+        Chip::new(Edition::Older, Levels::default())
+    }
 }

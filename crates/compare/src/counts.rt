@@ -13,6 +13,7 @@ use super::row::Row;
 use super::twins::Tallies;
 use super::views::View;
 use super::{apart, twins};
+use bus::kinds;
 
 pub(super) type Counts = Row<View, 92>;
 
@@ -50,15 +51,15 @@ const LATCH_B: usize = 9;
 const MARKS: usize = 13;
 
 // How far the event moved each tally, which may have passed its end.
-fn fates(counts: &mut Counts, before: Tallies, after: Tallies) {
-    for at in 0..28 {
-        counts.add(FATES + at, after[at].wrapping_sub(before[at]) as u64);
+fn fates(counts: &mut Counts, before: &Tallies, after: &Tallies) {
+    for (at, (after, before)) in after.iter().zip(before).enumerate() {
+        counts.add(FATES + at, after.wrapping_sub(*before) as u64);
     }
 }
 
 // The control word that the event brought into effect, if it did: the end of a write to address 3.
 fn word(counts: &mut Counts, kind: u8, kept: [u8; 18]) {
-    if kind != 2 || kept[0] != twins::WRITING || kept[1] != 3 {
+    if kind != kinds::END_CYCLE || kept[0] != twins::WRITING || kept[1] != 3 {
         return;
     }
     let word = kept[2];
@@ -93,8 +94,8 @@ const OFFERED_B: usize = 2 * twins::PER_CHANNEL;
 
 // The levels that went through to the latches of A and B: the latch changed, and no byte was offered. A mode word's end, which changes it
 // too, is no levels.
-fn followed(counts: &mut Counts, kind: u8, before: View, after: View) {
-    if kind != 5 {
+fn followed(counts: &mut Counts, kind: u8, before: &View, after: &View) {
+    if kind != kinds::OUTSIDE_LEVELS {
         return;
     }
     let changed_a = before.kept[LATCH_A] != after.kept[LATCH_A];
@@ -125,15 +126,15 @@ fn control_read(counts: &mut Counts, number: u8, said: [u8; 9], kept: [u8; 18]) 
 }
 
 // Counts an event of a kind, with its first operand.
-pub(super) fn count(counts: &mut Counts, kind: u8, first: u8, before: View, after: View) {
+pub(super) fn count(counts: &mut Counts, kind: u8, first: u8, before: &View, after: &View) {
     let number = after.shown[0];
     counts.event(kind);
     counts.add(NUMBERS + number as usize, 1);
-    if kind == 1 && first == 3 {
+    if kind == kinds::BEGIN_READ && first == chip::CONTROL {
         control_read(counts, number, before.said, before.kept);
     }
     word(counts, kind, before.kept);
     reasons(counts, after.said);
     followed(counts, kind, before, after);
-    fates(counts, before.tally, after.tally);
+    fates(counts, &before.tally, &after.tally);
 }

@@ -5,6 +5,7 @@
 
 mod apart; // the second model
 mod counts;
+mod course;
 mod draws;
 mod exchanges;
 mod history;
@@ -12,6 +13,7 @@ mod journals; // journals, trimmed
 mod numbers;
 mod ports_8355; // the 8355
 mod print;
+mod proved; // the proved devices
 mod racks; // racks of cards
 mod random;
 mod row;

@@ -2,6 +2,8 @@
 // last that of the differences between the two models, and the first difference.
 ghost use Rattle.std.specs.Prelude.{◌<◌};
 
+use bus::kinds;
+
 // Where a difference is: the history, the place in it and the event as one number; and of the proved model and of the second one all that was
 // compared.
 #[derive(Clone, Copy)]
@@ -24,10 +26,27 @@ pub(super) fn order(kind: u8) -> usize
     ensures { result < 6 }
 {
     match kind {
-        0..=3 => kind as usize,
-        5 => 4,
+        kinds::RESET..=kinds::BEGIN_WRITE => kind as usize,
+        kinds::OUTSIDE_LEVELS => 4,
         _ => 5,
     }
+}
+
+// The counts of so many histories, each of which is run from a seed and gives that of the next. A bound of a closure may name no const parameter,
+// so that the counts are of any type here.
+pub(super) fn of_histories<C, F: Fn(&mut C, u64) -> u64>(
+    mut counts: C,
+    first: u64,
+    histories: usize,
+    history: F,
+) -> C
+    requires { F.IsAlwaysCallable history }
+{
+    let mut seed = first;
+    for _ in 0..histories {
+        seed = history(&mut counts, seed);
+    }
+    counts
 }
 
 impl<V: PartialEq + Copy, const N: usize> Row<V, N> {

@@ -43,7 +43,7 @@ pub(super) const PER_CHANNEL: usize = 7;
 
 pub(super) type Tallies = [u16; 28];
 
-fn mark(channel: Channel) -> u8 {
+fn mark(channel: &Channel) -> u8 {
     match channel.fill {
         Fill::Empty => 0,
         Fill::Waiting => 1,
@@ -51,7 +51,7 @@ fn mark(channel: Channel) -> u8 {
     }
 }
 
-pub(super) fn tallies(chip: Chip) -> Tallies {
+pub(super) fn tallies(chip: &Chip) -> Tallies {
     [
         chip.core.a.input.tally.offered,
         chip.core.a.input.tally.handed,
@@ -96,7 +96,7 @@ fn bit(on: bool, worth: u8) -> u8 {
     if on { worth } else { 0 }
 }
 
-pub(super) fn machine(chip: Chip) -> Machine {
+pub(super) fn machine(chip: &Chip) -> Machine {
     let bus = running(chip.phase);
     Machine {
         part: part(chip.edition),
@@ -118,10 +118,10 @@ pub(super) fn machine(chip: Chip) -> Machine {
             | bit(chip.core.inte.output, 64)
             | bit(chip.core.inte.b, 4),
         fill: [
-            mark(chip.core.a.input),
-            mark(chip.core.a.output),
-            mark(chip.core.b.input),
-            mark(chip.core.b.output),
+            mark(&chip.core.a.input),
+            mark(&chip.core.a.output),
+            mark(&chip.core.b.input),
+            mark(&chip.core.b.output),
         ],
         tally: tallies(chip),
     }

@@ -1,10 +1,11 @@
 // What a model shows, says, keeps and counts after an event, in one form for both models.
 use super::apart::{Answer, Machine};
+use super::proved::Stepped;
 use super::twins::Tallies;
-use super::{apart, twins};
+use super::{apart, proved, twins};
+use bus::devices::Device;
 use chip::Chip;
 use std::fmt;
-use step::Stepped;
 
 // What is shown: 0 the number, 1 the byte, 2 to 4 the levels of A, B and C, 5 to 7 their driven pins, 8 and 9 the levels and the driven pins of
 // a port that there is not, which is named by the mode word. What is said of INTR has three numbers each, the refusal, the input's half and
@@ -31,7 +32,7 @@ impl fmt::Display for View {
     }
 }
 
-fn kept(machine: Machine) -> [u8; 18] {
+fn kept(machine: &Machine) -> [u8; 18] {
     let latch = machine.latch;
     let fill = machine.fill;
     [
@@ -56,29 +57,21 @@ fn kept(machine: Machine) -> [u8; 18] {
     ]
 }
 
-fn said_by_proved(chip: Chip) -> [u8; 9] {
-    let of_a = status::reasons::numbered(status::reasons::explain(chip, 0));
-    let of_b = status::reasons::numbered(status::reasons::explain(chip, 1));
-    let of_none = status::reasons::numbered(status::reasons::explain(chip, chip.core.word | 2));
+fn said_by_proved(chip: &Chip) -> [u8; 9] {
+    let a = proved::explain(chip, 0);
+    let b = proved::explain(chip, 1);
+    let none = proved::explain(chip, chip.core.word | 2);
     [
-        of_a.number,
-        of_a.input,
-        of_a.output,
-        of_b.number,
-        of_b.input,
-        of_b.output,
-        of_none.number,
-        of_none.input,
-        of_none.output,
+        a[0], a[1], a[2], b[0], b[1], b[2], none[0], none[1], none[2],
     ]
 }
 
-pub(super) fn of_proved(last: Stepped) -> View {
-    let chip = last.chip;
-    let a = ports::view::pins(chip, 0);
-    let b = ports::view::pins(chip, 1);
-    let c = ports::view::pins(chip, 2);
-    let none = ports::view::pins(chip, chip.core.word | 3);
+pub(super) fn of_proved(last: &Stepped<Chip>) -> View {
+    let chip = &last.device;
+    let a = chip.pins(0);
+    let b = chip.pins(1);
+    let c = chip.pins(2);
+    let none = chip.pins(chip.core.word | 3);
     View {
         shown: [
             last.number,
@@ -93,12 +86,13 @@ pub(super) fn of_proved(last: Stepped) -> View {
             none.driven,
         ],
         said: said_by_proved(chip),
-        kept: kept(twins::machine(chip)),
+        kept: kept(&twins::machine(chip)),
         tally: twins::tallies(chip),
     }
 }
 
-fn said_by_apart(machine: Machine) -> [u8; 9] {
+fn said_by_apart(machine: &Machine) -> [u8; 9] {
+    let machine = *machine;
     let of_a = apart::explain(machine, 0);
     let of_b = apart::explain(machine, 1);
     let of_none = apart::explain(machine, machine.word | 2);
@@ -115,7 +109,7 @@ fn said_by_apart(machine: Machine) -> [u8; 9] {
     ]
 }
 
-pub(super) fn of_apart(last: Answer) -> View {
+pub(super) fn of_apart(last: &Answer) -> View {
     let machine = last.machine;
     let tally = machine.tally;
     View {
@@ -131,8 +125,8 @@ pub(super) fn of_apart(last: Answer) -> View {
             apart::levels(machine, machine.word | 3),
             apart::driven(machine, machine.word | 3),
         ],
-        said: said_by_apart(machine),
-        kept: kept(machine),
+        said: said_by_apart(&machine),
+        kept: kept(&machine),
         tally,
     }
 }

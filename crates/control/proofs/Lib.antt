@@ -5,3 +5,7 @@ pub mod PinNamed
 pub mod AsByte
 pub mod Strobed
 pub mod ByBits
+pub mod RoleWords
+pub mod PinByMasks
+pub mod InRange
+pub mod Determined

@@ -1,2 +1,5 @@
 pub mod Mode
 pub mod Word
+pub mod Role
+pub mod Pins
+pub mod Lookup

@@ -1,9 +1,21 @@
 -- Mode words taken apart ("Mode words"). Bit 7 counts as set: nothing here looks at it.
-use Rattle.std.specs.Prelude.{Bool, not, ◌&&◌, ◌||◌, [], ◌∷◌, ℕ, ◌/◌, ◌%◌, eqb, get_or}
+use Rattle.std.specs.Prelude.{Bool, not, cond, ◌&&◌, ◌||◌, [], ◌∷◌, ℕ, ◌/◌, ◌%◌, eqb, get_or, Option, Some, None}
 use Rattle.bits.specs.Bit.{bit_of}
 use Rattle.control.specs.declared.Group.{Group}
 use Rattle.control.specs.declared.Group.TheVariants.{A, B}
 use Rattle.control.specs.declared.Directions.{Directions}
+use Rattle.control.specs.declared.mode.Mode.{Mode}
+use Rattle.control.specs.declared.mode.Mode.TheVariants.{Zero, One, Two}
+
+-- The groups by number: 0 is A and 1 is B, and there is no other.
+abbrev pub group_numbered : ℕ → Option Group
+group_numbered k = cond (eqb k 0) (Some A) (cond (eqb k 1) (Some B) None)
+
+-- The modes by number.
+abbrev pub mode_number : Mode → ℕ
+mode_number Zero = 0
+mode_number One = 1
+mode_number Two = 2
 
 -- Group A's mode stands in bits 6 and 5: 00 is mode 0, 01 mode 1, 10 and 11 mode 2. Group B's stands in bit 2.
 unfoldable pub mode_of : ℕ → Group → ℕ

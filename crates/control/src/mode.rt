@@ -1,24 +1,38 @@
-// The modes and directions that a mode word sets up. Bit 7 counts as set, and is not looked at.
+//! The modes and directions that a mode word sets up. Bit 7 counts as set, and is not looked at.
 ghost use Rattle.std.specs.Prelude.{◌≡◌};
-ghost use Rattle.control.specs.Mode.{mode_of, directions_of, strobed_input, strobed_output, output_of};
+ghost use Rattle.control.specs.Mode.{mode_of, mode_number, directions_of, strobed_input, strobed_output, output_of};
 
-use super::{Directions, Group};
+use crate::{Directions, Group};
 
-// The group's mode: 0, 1 or, for group A alone, 2.
-pub fn mode(word: u8, group: Group) -> u8
-    ensures { result ≡ mode_of word group }
-{
-    match group {
-        Group::A => {
-            let one = (word >> 5) & 1;
-            let two = (word >> 6) & 1;
-            (two << 1) | (one & !two)
+/// The mode of a group. Mode 2 is group A's alone.
+#[derive(Clone, Copy, Debug, PartialEq, Eq)]
+pub enum Mode {
+    Zero,
+    One,
+    Two,
+}
+
+impl Mode {
+    /// The mode that the word sets the group to.
+    #[tactic(auto, unfolding(crate::specs::Mode::mode_of))]
+    pub fn of(word: u8, group: Group) -> Mode
+        ensures { mode_number result ≡ mode_of word group }
+    {
+        match group {
+            Group::A => match (word >> 5) & 3 {
+                0 => Mode::Zero,
+                1 => Mode::One,
+                _ => Mode::Two,
+            },
+            Group::B => match (word >> 2) & 1 {
+                0 => Mode::Zero,
+                _ => Mode::One,
+            },
         }
-        Group::B => (word >> 2) & 1,
     }
 }
 
-// Whether port A, the upper half of C, port B and the lower half of C are set to input.
+/// Whether port A, the upper half of C, port B and the lower half of C are set to input.
 #[tactic(auto, unfolding(crate::specs::Mode::input_of, crate::specs::Mode::upper_input, crate::specs::Mode::lower_input))]
 pub fn directions(word: u8) -> Directions
     ensures { result ≡ directions_of word }
@@ -31,7 +45,7 @@ pub fn directions(word: u8) -> Directions
     }
 }
 
-// Whether the group's port takes bytes in by STB.
+/// Whether the group's port takes bytes in by STB.
 pub fn strobed_input(word: u8, group: Group) -> bool
     ensures { result ≡ strobed_input word group }
 {
@@ -41,7 +55,7 @@ pub fn strobed_input(word: u8, group: Group) -> bool
     }
 }
 
-// Whether the group's port gives bytes out by ACK.
+/// Whether the group's port gives bytes out by ACK.
 pub fn strobed_output(word: u8, group: Group) -> bool
     ensures { result ≡ strobed_output word group }
 {
@@ -51,7 +65,7 @@ pub fn strobed_output(word: u8, group: Group) -> bool
     }
 }
 
-// Whether the group's port is an output, so that it stores what is written to it.
+/// Whether the group's port is an output, so that it stores what is written to it.
 pub fn output(word: u8, group: Group) -> bool
     ensures { result ≡ output_of word group }
 {

@@ -1,5 +1,5 @@
 -- An event is accepted in the history's words exactly where its number is 0, and then the chip is what the step makes of it.
--- Rests on bits' Logic, events' ByKind and the step's Outcome.
+-- Rests on bits' Logic, the bus's ByKind, and chip's Outcome.
 use mathlib.Core.Path.{◌≡◌, ◌∙◌, refl, ap, sym}
 use mathlib.Core.Bool.{Bool, true, false, not, cond, ◌&&◌, ◌||◌}
 use Prim.Native.Nat.{ℕ}
@@ -7,9 +7,9 @@ use native.Mathlib.Omega.{arith}
 use lib.Dec.{eqb, ltb}
 use borrow.Author.Tests.{ltb-true, lt-ltb, eqb-true, eqb-false}
 use Rattle.bits.proofs.Logic.{contrary}
-use Rattle.events.specs.Kinds.{is_kind, no_kind}
-use Rattle.events.proofs.ByKind.{by_kind, no_row}
-use Rattle.events.specs.Event.{Event, event}
+use Rattle.bus.specs.Kinds.{is_kind, no_kind}
+use Rattle.bus.proofs.ByKind.{by_kind, no_row}
+use Rattle.bus.specs.Event.{Event, event}
 use Rattle.bus.specs.Device.{after_in, byte_in}
 use Rattle.bus.specs.Refusals.{is_busy, number_of}
 use Rattle.bus.specs.declared.Phase.{Phase}
@@ -17,9 +17,8 @@ use Rattle.bus.specs.declared.Phase.TheVariants.{Idle, Reading, Writing}
 use Rattle.chip.specs.declared.Edition.{Edition}
 use Rattle.chip.specs.declared.Edition.TheVariants.{Older, Newer}
 use Rattle.chip.specs.declared.Chip.{Chip}
-use Rattle.step.specs.declared.Stepped.{Stepped}
-use Rattle.step.specs.Step.{readable, limits, device, accepted, refused, stepped}
-use Rattle.step.proofs.Outcome.{step-accepts, step-refuses}
+use Rattle.chip.specs.Step.{Stepped, readable, limits, device, accepted, refused, stepped}
+use Rattle.chip.proofs.Outcome.{step-accepts, step-refuses}
 use Rattle.fates.specs.Kinds.{unknown, kind_of, free, readable_at, accepts}
 
 -- A read, by whether it can be had there and whether there is such an address, where the first asks for the second.

@@ -8,7 +8,7 @@ use Rattle.channel.specs.declared.Side.{Side}
 use Rattle.channel.specs.declared.Side.TheVariants.{Input, Output}
 use Rattle.channel.specs.declared.Channel.{Channel}
 use Rattle.channel.specs.Moves.{after_force}
-use Rattle.writes.specs.Write.{stored_in}
+use Rattle.chip.specs.Write.{stored_in}
 use Rattle.fates.specs.Effects.{Effect, offered, forced_full, forced_empty, nothing, says_full, when}
 use Rattle.fates.proofs.Moved.{moved}
 

@@ -1,14 +1,14 @@
 -- Each channel of the chip moves as its own history says: what an event is to the channel, in the history's words, is what the step
 -- does to it. One lemma over the four channels.
--- Rests on PinNamed, Tables, Accepted, Moved and Moving, and on what the crates below say of each event: settings' PortsAfter, reads' and
--- writes' PortsAfter, levels' PortsAfter, chip's OnPort and Surrounded, control's Strobed, events' ByKind.
+-- Rests on PinNamed, Tables, Accepted, Moved, Moving, the bus's ByKind, control's Strobed, and chip's OnPort, Surrounded, SettingsAfter,
+-- ReadsAfter, WritesAfter and LevelsAfter.
 use mathlib.Core.Path.{◌≡◌, ◌∙◌, refl, ap, sym}
 use mathlib.Core.Bool.{Bool, true, false, not, ◌&&◌, ◌||◌, or-false}
 use Prim.Native.Nat.{ℕ, ◌/◌, ◌%◌}
 use lib.Dec.{eqb}
 use Rattle.bits.specs.Bit.{bit_of}
-use Rattle.events.proofs.ByKind.{by_kind}
-use Rattle.events.specs.Event.{Event, event}
+use Rattle.bus.proofs.ByKind.{by_kind}
+use Rattle.bus.specs.Event.{Event, event}
 use Rattle.bus.specs.Device.{after_in}
 use Rattle.bus.specs.declared.Phase.{Phase}
 use Rattle.bus.specs.declared.Phase.TheVariants.{Idle, Reading, Writing}
@@ -26,13 +26,13 @@ use Rattle.chip.specs.State.{port_of, channel_of}
 use Rattle.chip.specs.Handshakes.{own_address, strobed, line_pin, flag_pin}
 use Rattle.chip.proofs.OnPort.{lines-not-own, control-not-own}
 use Rattle.chip.proofs.Surrounded.{Spared, spared-port}
-use Rattle.settings.proofs.PortsAfter.{PinPut, mode-word-channel}
-use Rattle.reads.specs.Read.{after_read_begins}
-use Rattle.reads.proofs.PortsAfter.{begun-input, begun-output, ended-input, ended-output}
-use Rattle.writes.proofs.PortsAfter.{Stored, by_address}
-use Rattle.levels.specs.Levels.{fallen, after_levels}
-use Rattle.levels.proofs.PortsAfter.{levels-input, levels-output}
-use Rattle.step.specs.Step.{device, on_bus, after_end, stepped}
+use Rattle.chip.proofs.SettingsAfter.{PinPut, mode-word-channel}
+use Rattle.chip.specs.Read.{after_read_begins}
+use Rattle.chip.proofs.ReadsAfter.{begun-input, begun-output, ended-input, ended-output}
+use Rattle.chip.proofs.WritesAfter.{Stored, by_address}
+use Rattle.chip.specs.Levels.{fallen, after_levels}
+use Rattle.chip.proofs.LevelsAfter.{levels-input, levels-output}
+use Rattle.chip.specs.Step.{device, on_bus, after_end, stepped}
 use Rattle.fates.specs.Kinds.{Kind, read_begun, cycle_ended, new_levels, kind_of, accepts}
 use Rattle.fates.specs.Surroundings.{Surroundings}
 use Rattle.fates.specs.Effects.{offered, followed, taken, ended, nothing, levels_on, strobes, when, own_effect, clears, effect_of, effect}

@@ -6,7 +6,7 @@ use Prim.Native.Nat.{ℕ}
 use lib.Dec.{ltb, eqb}
 use Rattle.bits.specs.Bit.{bit_of}
 use Rattle.bits.proofs.Logic.{contrary}
-use Rattle.events.specs.Event.{Event}
+use Rattle.bus.specs.Event.{Event}
 use Rattle.bus.specs.declared.Phase.{Phase}
 use Rattle.bus.specs.declared.Phase.TheVariants.{Idle, Reading, Writing}
 use Rattle.control.specs.declared.Group.{Group}

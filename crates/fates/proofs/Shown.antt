@@ -1,7 +1,7 @@
 -- Where the history says that an event takes a byte from a channel, the read answers the channel's latch, or the chip drives the port
 -- with it.
--- Rests on Tables, Accepted, Shapes and Followed, on bits' Logic, events' ByKind, levels' PortsAfter, ports' Strobed, the step's Outcome, and
--- laws' OwnPort and Falls.
+-- Rests on Tables, Accepted, Shapes, Followed, bits' Logic, the bus's ByKind, chip's LevelsAfter, Strobed and Outcome, and laws' OwnPort
+-- and Falls.
 use mathlib.Core.Path.{◌≡◌, ◌∙◌, refl, ap, sym, subst}
 use mathlib.Core.Bool.{Bool, true, false, cond}
 use Prim.Native.Nat.{ℕ}
@@ -9,21 +9,21 @@ use lib.Dec.{T, eqb}
 use borrow.Author.Tests.{not-true}
 use Rattle.bits.specs.Bit.{bit_of}
 use Rattle.bits.proofs.Logic.{both}
-use Rattle.events.proofs.ByKind.{by_kind}
-use Rattle.events.specs.Event.{Event, event}
+use Rattle.bus.proofs.ByKind.{by_kind}
+use Rattle.bus.specs.Event.{Event, event}
 use Rattle.control.specs.declared.Group.{Group}
 use Rattle.control.specs.Mode.{strobed_output}
 use Rattle.channel.specs.declared.Side.{Side}
 use Rattle.channel.specs.declared.Side.TheVariants.{Input, Output}
 use Rattle.chip.specs.declared.Chip.{Chip}
 use Rattle.chip.specs.State.{port_of}
-use Rattle.levels.specs.Levels.{after_levels}
-use Rattle.levels.proofs.PortsAfter.{levels-word, levels-lines}
-use Rattle.ports.specs.Reads.{read_of}
-use Rattle.ports.specs.Pins.{drives_port}
-use Rattle.ports.proofs.Strobed.{strobed-reads, acknowledge-drives, driven-shows}
-use Rattle.step.specs.declared.Stepped.{Stepped}
-use Rattle.step.proofs.Outcome.{step-accepts}
+use Rattle.chip.specs.Levels.{after_levels}
+use Rattle.chip.proofs.LevelsAfter.{levels-word, levels-lines}
+use Rattle.chip.specs.Reads.{read_of}
+use Rattle.chip.specs.Pins.{drives_port}
+use Rattle.chip.proofs.Strobed.{strobed-reads, acknowledge-drives, driven-shows}
+use Rattle.chip.specs.Step.{Stepped}
+use Rattle.chip.proofs.Outcome.{step-accepts}
 use Rattle.laws.proofs.OwnPort.{own-pins, own_read}
 use Rattle.laws.proofs.Falls.{output-latch-stays}
 use Rattle.fates.specs.Kinds.{kind_of, accepts}

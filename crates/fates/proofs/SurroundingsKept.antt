@@ -1,11 +1,10 @@
 -- The chip's bus phase, edition, mode word and outside levels are those that the history works out for itself.
--- Rests on Accepted, and on what the crates below say of each event: settings' PortsAfter, reads' and writes' PortsAfter, levels' PortsAfter,
--- chip's Surrounded, events' ByKind.
+-- Rests on Accepted, the bus's ByKind, and chip's Surrounded, SettingsAfter, ReadsAfter, WritesAfter and LevelsAfter.
 use mathlib.Core.Path.{◌≡◌, refl}
 use mathlib.Core.Bool.{true, cond}
 use Prim.Native.Nat.{ℕ}
-use Rattle.events.proofs.ByKind.{by_kind}
-use Rattle.events.specs.Event.{Event, event}
+use Rattle.bus.proofs.ByKind.{by_kind}
+use Rattle.bus.specs.Event.{Event, event}
 use Rattle.bus.specs.Device.{after_in}
 use Rattle.bus.specs.declared.Phase.{Phase}
 use Rattle.bus.specs.declared.Phase.TheVariants.{Idle, Reading, Writing}
@@ -14,14 +13,14 @@ use Rattle.chip.specs.declared.Edition.{Edition}
 use Rattle.chip.specs.declared.Core.{Core}
 use Rattle.chip.specs.declared.Chip.{Chip}
 use Rattle.chip.proofs.Surrounded.{Surrounded, spared-surrounded}
-use Rattle.settings.specs.ModeWord.{after_mode_word}
-use Rattle.settings.proofs.PortsAfter.{mode-word-word, mode-word-ports, mode-word-lines}
-use Rattle.reads.specs.Read.{after_read_begins, after_read_ends}
-use Rattle.reads.proofs.PortsAfter.{begun-surrounded, ended-surrounded}
-use Rattle.writes.proofs.PortsAfter.{by_address}
-use Rattle.levels.specs.Levels.{after_levels}
-use Rattle.levels.proofs.PortsAfter.{levels-word, levels-ports, levels-lines}
-use Rattle.step.specs.Step.{device, on_bus, after_end, stepped}
+use Rattle.chip.specs.ModeWord.{after_mode_word}
+use Rattle.chip.proofs.SettingsAfter.{mode-word-word, mode-word-ports, mode-word-lines}
+use Rattle.chip.specs.Read.{after_read_begins, after_read_ends}
+use Rattle.chip.proofs.ReadsAfter.{begun-surrounded, ended-surrounded}
+use Rattle.chip.proofs.WritesAfter.{by_address}
+use Rattle.chip.specs.Levels.{after_levels}
+use Rattle.chip.proofs.LevelsAfter.{levels-word, levels-ports, levels-lines}
+use Rattle.chip.specs.Step.{device, on_bus, after_end, stepped}
 use Rattle.fates.specs.Kinds.{cycle_ended, new_levels, kind_of, accepts}
 use Rattle.fates.specs.Surroundings.{surroundings_after, surroundings_next}
 use Rattle.fates.specs.Promise.{surroundings_of}

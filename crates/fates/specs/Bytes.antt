@@ -2,7 +2,7 @@
 -- refused ones too. Nothing here, nor in Kinds, Surroundings, Effects and Left, asks a chip.
 use Rattle.std.specs.Prelude.{Bool, true, false, cond, not, List, [], ◌∷◌, ◌++◌, ℕ, suc, ◌+◌, eqb}
 use Rattle.bits.specs.Bit.{num}
-use Rattle.events.specs.Event.{Event}
+use Rattle.bus.specs.Event.{Event}
 use Rattle.control.specs.declared.Group.{Group}
 use Rattle.channel.specs.declared.Side.{Side}
 use Rattle.channel.specs.declared.Fill.TheVariants.{Empty}

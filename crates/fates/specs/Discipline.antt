@@ -1,7 +1,7 @@
 -- The discipline under which no input byte is lost: STB falls only at times when IBF is low, and reads of the port begin only at times
 -- when it is high. And histories in which no program forces a flag.
 use Rattle.std.specs.Prelude.{◌≡◌, Bool, true, false, ◌&&◌, List, [], ◌∷◌}
-use Rattle.events.specs.Event.{Event}
+use Rattle.bus.specs.Event.{Event}
 use Rattle.control.specs.declared.Group.{Group}
 use Rattle.channel.specs.declared.Side.{Side}
 use Rattle.channel.specs.declared.Side.TheVariants.{Input}
@@ -9,7 +9,7 @@ use Rattle.channel.specs.declared.Fill.TheVariants.{Fetching}
 use Rattle.chip.specs.declared.Chip.{Chip}
 use Rattle.chip.specs.State.{channel_of}
 use Rattle.chip.specs.Handshakes.{flag_pin}
-use Rattle.step.specs.Step.{stepped}
+use Rattle.chip.specs.Step.{stepped}
 use Rattle.laws.specs.Seen.{pin}
 use Rattle.fates.specs.Surroundings.{Surroundings, surroundings_next}
 use Rattle.fates.specs.Effects.{Effect, offered, followed, taken, ended, cleared_away, forced_full, forced_empty, nothing, strobes, read_runs, effect}

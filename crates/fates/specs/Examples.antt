@@ -1,7 +1,7 @@
 -- Histories that show the fates, with what becomes of each byte; events are counted from 1.
 use Rattle.std.specs.Prelude.{List, [], ◌∷◌, ◌++◌, ℕ, zero, suc}
-use Rattle.events.specs.Event.{Event, event}
-use Rattle.events.specs.Histories.{write, levels, read_from, cycle_end}
+use Rattle.bus.specs.Event.{Event, event}
+use Rattle.bus.specs.Histories.{write, levels, read_from, cycle_end}
 use Rattle.control.specs.declared.Group.{Group}
 use Rattle.control.specs.declared.Group.TheVariants.{A, B}
 use Rattle.channel.specs.declared.Side.{Side}
@@ -10,7 +10,7 @@ use Rattle.channel.specs.declared.Tally.{Tally}
 use Rattle.chip.specs.declared.Edition.{Edition}
 use Rattle.chip.specs.declared.Levels.{Levels}
 use Rattle.chip.specs.State.{all_low, all_high}
-use Rattle.ports.specs.declared.Pins.{Pins}
+use Rattle.bus.specs.declared.Pins.{Pins}
 use Rattle.laws.specs.Marked.{strobe, P13}
 use Rattle.fates.specs.Bytes.{Fate, handed_over, overwritten, swallowed, cleared, struck, waiting, Byte, offered_at, planted_at, decided_at, bytes_of}
 

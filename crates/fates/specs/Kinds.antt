@@ -1,7 +1,7 @@
 -- Events by name, and which of them are accepted ("Events and numbers"), in the history's own words: the step has its rule as a table
 -- of refusals.
 use Rattle.std.specs.Prelude.{Bool, true, false, not, ◌&&◌, List, [], ◌∷◌, ℕ, ltb, get_or}
-use Rattle.events.specs.Event.{Event}
+use Rattle.bus.specs.Event.{Event}
 use Rattle.bus.specs.declared.Phase.{Phase}
 use Rattle.bus.specs.declared.Phase.TheVariants.{Idle, Reading, Writing}
 use Rattle.chip.specs.declared.Edition.{Edition}

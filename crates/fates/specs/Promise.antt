@@ -1,7 +1,7 @@
 -- Demand 3: what is promised of the chip, its tallies, its answers and its pins, by the bytes of each channel over a history.
 use Rattle.std.specs.Prelude.{◌≡◌, Bool, true, List, [], ◌∷◌, ℕ, zero, suc, ◌+◌, ◌%◌, ◌<◌, ◌≤◌, length}
 use Rattle.bits.specs.Bit.{num}
-use Rattle.events.specs.Event.{Event}
+use Rattle.bus.specs.Event.{Event}
 use Rattle.control.specs.declared.Group.{Group}
 use Rattle.channel.specs.declared.Side.{Side}
 use Rattle.channel.specs.declared.Side.TheVariants.{Input, Output}
@@ -11,8 +11,8 @@ use Rattle.channel.specs.declared.Tally.{Tally}
 use Rattle.channel.specs.Channel.{is_waiting}
 use Rattle.chip.specs.declared.Chip.{Chip}
 use Rattle.chip.specs.State.{channel_of, tally_of}
-use Rattle.ports.specs.Pins.{pins_of}
-use Rattle.step.specs.Step.{stepped}
+use Rattle.chip.specs.Pins.{pins_of}
+use Rattle.chip.specs.Step.{stepped}
 use Rattle.fates.specs.Surroundings.{Surroundings}
 use Rattle.fates.specs.Effects.{Effect, port_number, strobes, effects}
 use Rattle.fates.specs.Left.{Left, left}

@@ -8,15 +8,15 @@ use lib.Dec.{eqb}
 use borrow.Author.Tests.{eq-eqb}
 use Rattle.bits.specs.Bit.{bit_of}
 use Rattle.bits.proofs.Logic.{contrary, both}
-use Rattle.events.specs.Event.{Event, event}
-use Rattle.events.specs.Histories.{write, read_from, cycle_end}
+use Rattle.bus.specs.Event.{Event, event}
+use Rattle.bus.specs.Histories.{write, read_from, cycle_end}
 use Rattle.bus.specs.declared.Phase.TheVariants.{Idle, Writing}
 use Rattle.control.specs.declared.Group.{Group}
 use Rattle.control.specs.declared.Group.TheVariants.{A, B}
 use Rattle.chip.specs.declared.Edition.{Edition}
 use Rattle.chip.specs.declared.Edition.TheVariants.{Older, Newer}
 use Rattle.chip.specs.declared.Chip.{Chip}
-use Rattle.step.specs.Step.{stepped}
+use Rattle.chip.specs.Step.{stepped}
 use Rattle.fates.specs.Kinds.{cycle_ended, read_begun, write_begun, new_levels, kind_of, accepts}
 use Rattle.fates.specs.Surroundings.{Surroundings, phase_after, surroundings_next}
 use Rattle.fates.specs.Effects.{port_number}

@@ -1,11 +1,12 @@
 -- A chip without the other group's events beside the chip with them: events keep them alike in what belongs to the group.
--- Rests on Alike, OneEvent, Together, Bus, bits' Logic, events' ByKind, laws' Interrupts and Editions, and on fates' Accepted and SurroundingsKept.
+-- Rests on Alike, OneEvent, Together, Bus, bits' Logic, the bus's ByKind, laws' Editions and Interrupts, and fates' Accepted and
+-- SurroundingsKept.
 use mathlib.Core.Path.{◌≡◌, ◌∙◌, refl, ap, sym, subst}
 use mathlib.Core.Bool.{Bool, true, false, cond}
 use Prim.Native.Nat.{ℕ}
 use Rattle.bits.proofs.Logic.{contrary}
-use Rattle.events.specs.Event.{Event, event}
-use Rattle.events.proofs.ByKind.{by_kind}
+use Rattle.bus.specs.Event.{Event, event}
+use Rattle.bus.proofs.ByKind.{by_kind}
 use Rattle.bus.specs.Device.{after_in}
 use Rattle.bus.specs.declared.Phase.TheVariants.{Idle}
 use Rattle.control.specs.declared.Group.{Group}
@@ -15,7 +16,7 @@ use Rattle.chip.specs.State.{power_up_word}
 use Rattle.chip.specs.Handshakes.{running}
 use Rattle.laws.proofs.Editions.{edition-stays}
 use Rattle.laws.proofs.Interrupts.{none_runs}
-use Rattle.step.specs.Step.{device, after_end, stepped}
+use Rattle.chip.specs.Step.{device, after_end, stepped}
 use Rattle.fates.specs.Kinds.{kind_of, accepts}
 use Rattle.fates.specs.Surroundings.{Surroundings}
 use Rattle.fates.specs.Promise.{surroundings_of}

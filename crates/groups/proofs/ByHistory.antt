@@ -4,10 +4,10 @@ use mathlib.Core.Path.{◌≡◌}
 use mathlib.Core.Bool.{true, false}
 use mathlib.Core.List.{List, [], ◌∷◌}
 use Rattle.bits.proofs.Logic.{neither, by-test}
-use Rattle.events.specs.Event.{Event}
+use Rattle.bus.specs.Event.{Event}
 use Rattle.control.specs.declared.Group.{Group}
 use Rattle.chip.specs.declared.Chip.{Chip}
-use Rattle.step.specs.Step.{stepped}
+use Rattle.chip.specs.Step.{stepped}
 use Rattle.fates.specs.Kinds.{kind_of}
 use Rattle.fates.specs.Promise.{surroundings_of}
 use Rattle.fates.proofs.SurroundingsKept.{surroundings-next}

@@ -8,13 +8,13 @@ use Prim.Native.Nat.{ℕ}
 use lib.Dec.{eqb}
 use borrow.Author.Tests.{eqb-false}
 use Rattle.bits.specs.Bit.{bit_of, value_of}
-use Rattle.events.specs.Event.{Event}
+use Rattle.bus.specs.Event.{Event}
 use Rattle.control.specs.declared.Group.{Group}
 use Rattle.control.specs.declared.Group.TheVariants.{A, B}
 use Rattle.chip.specs.declared.Edition.TheVariants.{Older}
 use Rattle.chip.specs.declared.Chip.{Chip}
 use Rattle.chip.specs.State.{all_high, power_up_with}
-use Rattle.step.specs.Step.{stepped}
+use Rattle.chip.specs.Step.{stepped}
 use Rattle.fates.specs.Promise.{run}
 use Rattle.account.specs.Account.{opened}
 use Rattle.account.specs.Views.{levels_shown}

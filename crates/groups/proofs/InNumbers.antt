@@ -2,26 +2,26 @@
 -- Rests on nothing.
 use mathlib.Core.Path.{◌≡◌, refl}
 use Rattle.bits.specs.Bit.{bit_of, value_of, with_bit}
-use Rattle.events.specs.Kinds.{is_kind}
+use Rattle.bus.specs.Kinds.{is_kind}
 use Rattle.bus.specs.Device.{step_in}
 use Rattle.bus.specs.Refusals.{number_of}
 use Rattle.control.specs.declared.Group.TheVariants.{A, B}
 use Rattle.control.specs.Mode.{mode_of, input_of, upper_input, lower_input, strobed_input, strobed_output, output_of}
 use Rattle.control.specs.Word.{control_of}
-use Rattle.roles.specs.Role.{uses_of, free_role, role_of}
+use Rattle.control.specs.Role.{uses_of, free_role, role_of}
 use Rattle.channel.specs.Channel.{flag_of}
 use Rattle.channel.specs.Moves.{after_offer, after_follow, after_hand_over, after_end_read, after_clear}
 use Rattle.chip.specs.State.{all_high, power_up_with}
-use Rattle.status.specs.Status.{request_of, intr_of}
-use Rattle.status.specs.Reasons.{reason_of, explained_in}
-use Rattle.settings.specs.ModeWord.{cleared_port, after_mode_word}
-use Rattle.settings.specs.ControlWord.{pin_set, after_control_word}
-use Rattle.reads.specs.Read.{after_read_begins, after_read_ends}
-use Rattle.writes.specs.Write.{stored_by, latch_written, after_write_ends}
-use Rattle.levels.specs.Levels.{fallen, edged, after_levels_on_c, port_after_levels, after_levels}
-use Rattle.ports.specs.Reads.{read_port, read_lines, read_of}
-use Rattle.ports.specs.Pins.{drives_port, pins_of_port, pins_of_lines, pins_of}
-use Rattle.step.specs.Step.{step_of}
+use Rattle.chip.specs.Status.{request_of, intr_of}
+use Rattle.chip.specs.Reasons.{reason_of, explained_in}
+use Rattle.chip.specs.ModeWord.{cleared_port, after_mode_word}
+use Rattle.chip.specs.ControlWord.{pin_set, after_control_word}
+use Rattle.chip.specs.Read.{after_read_begins, after_read_ends}
+use Rattle.chip.specs.Write.{stored_by, latch_written, after_write_ends}
+use Rattle.chip.specs.Levels.{fallen, edged, after_levels_on_c, port_after_levels, after_levels}
+use Rattle.chip.specs.Reads.{read_port, read_lines, read_of}
+use Rattle.chip.specs.Pins.{drives_port, pins_of_port, pins_of_lines, pins_of}
+use Rattle.chip.specs.Step.{step_of}
 use Rattle.fates.specs.Promise.{run}
 use Rattle.groups.specs.Belongings.{belongings_of}
 use Rattle.groups.specs.InNumbers.{moment, scale_has, printer_has}

@@ -1,5 +1,5 @@
 -- One event that is harmless to a group leaves the chip alike in what belongs to it, from every chip.
--- Rests on Alike, Places, Rules, Spared, bits' Logic, events' ByKind, writes' PortsAfter, laws' Interrupts, and on fates' Tables and
+-- Rests on Alike, Places, Rules, Spared, bits' Logic, the bus's ByKind, chip's WritesAfter, laws' Interrupts, and fates' Tables and
 -- Accepted.
 use mathlib.Core.Path.{◌≡◌, ◌∙◌, refl, sym}
 use mathlib.Core.Bool.{true, false}
@@ -7,8 +7,8 @@ use Prim.Native.Nat.{ℕ}
 use lib.Dec.{eqb, ltb}
 use Rattle.bits.specs.Bit.{bit_of}
 use Rattle.bits.proofs.Logic.{contrary, both, one_of}
-use Rattle.events.specs.Event.{Event, event}
-use Rattle.events.proofs.ByKind.{by_kind}
+use Rattle.bus.specs.Event.{Event, event}
+use Rattle.bus.proofs.ByKind.{by_kind}
 use Rattle.bus.specs.Device.{after_in}
 use Rattle.bus.specs.declared.Phase.{Phase}
 use Rattle.bus.specs.declared.Phase.TheVariants.{Idle, Reading, Writing}
@@ -19,12 +19,12 @@ use Rattle.chip.specs.declared.Edition.{Edition}
 use Rattle.chip.specs.declared.Core.{Core}
 use Rattle.chip.specs.declared.Chip.{Chip}
 use Rattle.chip.specs.Handshakes.{running}
-use Rattle.reads.specs.Read.{after_read_begins, after_read_ends}
-use Rattle.writes.specs.Write.{after_write_ends}
-use Rattle.writes.proofs.PortsAfter.{by-write}
-use Rattle.levels.specs.Levels.{after_levels}
+use Rattle.chip.specs.Read.{after_read_begins, after_read_ends}
+use Rattle.chip.specs.Write.{after_write_ends}
+use Rattle.chip.proofs.WritesAfter.{by-write}
+use Rattle.chip.specs.Levels.{after_levels}
 use Rattle.laws.proofs.Interrupts.{none_runs}
-use Rattle.step.specs.Step.{device, after_end, on_bus, stepped}
+use Rattle.chip.specs.Step.{device, after_end, on_bus, stepped}
 use Rattle.fates.specs.Kinds.{read_begun, new_levels, kind_of, free, readable_at, accepts}
 use Rattle.fates.specs.Effects.{port_number}
 use Rattle.fates.specs.Promise.{surroundings_of}

@@ -5,9 +5,9 @@ use Rattle.control.specs.declared.Group.{Group}
 use Rattle.control.specs.Mode.{strobed_input}
 use Rattle.chip.specs.declared.Port.{Port}
 use Rattle.chip.specs.declared.Core.{Core}
-use Rattle.reads.specs.Read.{fetched_from, done_with}
-use Rattle.writes.specs.Write.{stored_by}
-use Rattle.levels.specs.Levels.{lets_through, port_after_levels}
+use Rattle.chip.specs.Read.{fetched_from, done_with}
+use Rattle.chip.specs.Write.{stored_by}
+use Rattle.chip.specs.Levels.{lets_through, port_after_levels}
 
 -- A read begins, and ends.
 abbrev pub beginning : Core → Group → Port → Port

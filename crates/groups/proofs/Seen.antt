@@ -7,17 +7,17 @@ use Rattle.bits.specs.Bit.{bit_of}
 use Rattle.bits.proofs.BitLaws.{assembled-same}
 use Rattle.control.specs.declared.Group.{Group}
 use Rattle.control.specs.declared.Group.TheVariants.{A, B}
-use Rattle.roles.specs.Role.{Role, input, output, INTR, IBF, OBF, STB, ACK, role_of}
+use Rattle.control.specs.Role.{Role, input, output, INTR, IBF, OBF, STB, ACK, role_of}
 use Rattle.channel.specs.declared.Side.{Side}
 use Rattle.channel.specs.declared.Side.TheVariants.{Input, Output}
 use Rattle.channel.specs.Channel.{flag_of}
 use Rattle.chip.specs.declared.Core.{Core}
 use Rattle.chip.specs.declared.Chip.{Chip}
 use Rattle.chip.specs.State.{side_of}
-use Rattle.status.specs.Status.{flag_at, request_of, intr_of}
-use Rattle.status.specs.Reasons.{reason_of, explained_in}
-use Rattle.ports.specs.Reads.{read_as, read_of}
-use Rattle.ports.specs.Pins.{drives_port, is_driven, level_as, pins_of}
+use Rattle.chip.specs.Status.{flag_at, request_of, intr_of}
+use Rattle.chip.specs.Reasons.{reason_of, explained_in}
+use Rattle.chip.specs.Reads.{read_as, read_of}
+use Rattle.chip.specs.Pins.{drives_port, is_driven, level_as, pins_of}
 use Rattle.laws.specs.Seen.{pin, told, driven}
 use Rattle.laws.proofs.OwnPort.{own-pins, own_read}
 use Rattle.laws.proofs.ChannelPins.{pin-by-role, told-by-role}

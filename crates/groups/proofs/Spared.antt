@@ -8,7 +8,7 @@ use Rattle.bits.specs.Bit.{bit_of, with_bit}
 use Rattle.bits.proofs.BitLaws.{bit-of-with}
 use Rattle.control.specs.declared.Group.{Group}
 use Rattle.control.specs.declared.Group.TheVariants.{A, B}
-use Rattle.roles.specs.Role.{Role, input, output, INTR, IBF, OBF, STB, ACK, role_of}
+use Rattle.control.specs.Role.{Role, input, output, INTR, IBF, OBF, STB, ACK, role_of}
 use Rattle.channel.specs.declared.Side.{Side}
 use Rattle.channel.specs.declared.Side.TheVariants.{Input, Output}
 use Rattle.channel.specs.Moves.{after_force}
@@ -19,11 +19,11 @@ use Rattle.chip.specs.State.{port_of, with_latch, with_enables, on_port}
 use Rattle.chip.specs.Handshakes.{own_address, strobed, line_pin, group_at, enable_of}
 use Rattle.chip.proofs.OnPort.{port-on, word_on, lines-on, enables-on}
 use Rattle.chip.proofs.OneChannel.{same_group, port-put, channel-surrounded, channel-lines, channel-enables}
-use Rattle.settings.specs.ControlWord.{enabled, flag_put, set_as, pin_set, after_control_word}
-use Rattle.settings.proofs.PortsAfter.{bit-word}
-use Rattle.writes.proofs.PortsAfter.{Stored}
-use Rattle.levels.specs.Levels.{fallen, edged, line_falls, edges_on, after_levels_on_c}
-use Rattle.levels.proofs.PortsAfter.{edges-of}
+use Rattle.chip.specs.ControlWord.{enabled, flag_put, set_as, pin_set, after_control_word}
+use Rattle.chip.proofs.SettingsAfter.{bit-word}
+use Rattle.chip.proofs.WritesAfter.{Stored}
+use Rattle.chip.specs.Levels.{fallen, edged, line_falls, edges_on, after_levels_on_c}
+use Rattle.chip.proofs.LevelsAfter.{edges-of}
 use Rattle.groups.specs.Doings.{other, acts_on}
 use Rattle.groups.proofs.Alike.{SameAt, Alike, alike_same, port-by-parts, port-same, line_same}
 use Rattle.groups.proofs.Pins.{acted-apart, acted-group}

@@ -1,5 +1,5 @@
 -- Chips alike in what belongs to a group stay so under one and the same event.
--- Rests on Alike, Rules, bits' BitLaws, chip's OnPort and OneChannel, and levels' PortsAfter.
+-- Rests on Alike, Rules, bits' BitLaws, and chip's OnPort, OneChannel and LevelsAfter.
 use mathlib.Core.Path.{◌≡◌, ◌∙◌, refl, ap, sym, subst}
 use mathlib.Core.Bool.{Bool, true, false, cond}
 use Prim.Native.Nat.{ℕ}
@@ -13,7 +13,7 @@ use Rattle.control.specs.declared.Group.TheVariants.{A, B}
 use Rattle.control.specs.declared.word.Control.{Control}
 use Rattle.control.specs.declared.word.Control.TheVariants.{Mode, Bit}
 use Rattle.control.specs.Word.{control_of}
-use Rattle.roles.specs.Role.{Role, input, output, INTR, IBF, OBF, STB, ACK, role_of}
+use Rattle.control.specs.Role.{Role, input, output, INTR, IBF, OBF, STB, ACK, role_of}
 use Rattle.channel.specs.declared.Side.{Side}
 use Rattle.channel.specs.declared.Side.TheVariants.{Input, Output}
 use Rattle.channel.specs.declared.Channel.{Channel}
@@ -25,13 +25,13 @@ use Rattle.chip.specs.State.{port_of, with_latch, with_enables, on_port}
 use Rattle.chip.specs.Handshakes.{group_at, enable_of}
 use Rattle.chip.proofs.OnPort.{port-on, word_on, lines-on, enables-on}
 use Rattle.chip.proofs.OneChannel.{port-put, channel-surrounded, channel-lines, channel-enables}
-use Rattle.settings.specs.ModeWord.{cleared_port, after_mode_word}
-use Rattle.settings.specs.ControlWord.{enabled, flag_put, set_as, pin_set, obeyed, after_control_word}
-use Rattle.reads.specs.Read.{after_read_begins, after_read_ends}
-use Rattle.writes.specs.Write.{writable, latch_written, after_write_ends}
-use Rattle.levels.specs.Levels.{fallen, line_falls, lets_through, after_levels_on_c, after_levels}
-use Rattle.levels.proofs.PortsAfter.{edges-of}
-use Rattle.step.specs.Step.{after_end}
+use Rattle.chip.specs.ModeWord.{cleared_port, after_mode_word}
+use Rattle.chip.specs.ControlWord.{enabled, flag_put, set_as, pin_set, obeyed, after_control_word}
+use Rattle.chip.specs.Read.{after_read_begins, after_read_ends}
+use Rattle.chip.specs.Write.{writable, latch_written, after_write_ends}
+use Rattle.chip.specs.Levels.{fallen, line_falls, lets_through, after_levels_on_c, after_levels}
+use Rattle.chip.proofs.LevelsAfter.{edges-of}
+use Rattle.chip.specs.Step.{after_end}
 use Rattle.groups.proofs.Alike.{SameAt, Alike, port-same, line_same}
 use Rattle.groups.proofs.Rules.{beginning, ending, storing, levelling}
 

@@ -1,6 +1,6 @@
 -- A history without one group's events, and when that makes no difference to the other group: no chip is asked ("Two groups").
 use Rattle.std.specs.Prelude.{Bool, false, cond, not, ◌&&◌, ◌||◌, List, [], ◌∷◌}
-use Rattle.events.specs.Event.{Event}
+use Rattle.bus.specs.Event.{Event}
 use Rattle.bus.specs.declared.Phase.TheVariants.{Idle}
 use Rattle.control.specs.declared.Group.{Group}
 use Rattle.fates.specs.Kinds.{Kind, kind_of, accepts}

@@ -1,8 +1,8 @@
 -- What is promised of a group where the other is at work ("Two groups").
 use Rattle.std.specs.Prelude.{◌≡◌, true, false, List, [], ◌∷◌, ◌++◌, ℕ, ◌/◌, ◌%◌, ◌<◌}
 use Rattle.bits.specs.Bit.{bit_of}
-use Rattle.events.specs.Event.{Event, event}
-use Rattle.events.specs.Histories.{write, levels, read_from, cycle_end}
+use Rattle.bus.specs.Event.{Event, event}
+use Rattle.bus.specs.Histories.{write, levels, read_from, cycle_end}
 use Rattle.control.specs.declared.Group.{Group}
 use Rattle.channel.specs.declared.Side.{Side}
 use Rattle.chip.specs.declared.Chip.{Chip}

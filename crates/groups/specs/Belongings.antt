@@ -8,11 +8,11 @@ use Rattle.channel.specs.declared.Channel.{Channel}
 use Rattle.chip.specs.declared.Chip.{Chip}
 use Rattle.chip.specs.State.{port_of, channel_of}
 use Rattle.chip.specs.Handshakes.{enable_of}
-use Rattle.status.specs.declared.reasons.Explained.{Explained}
-use Rattle.status.specs.Reasons.{explained_in}
-use Rattle.ports.specs.declared.Pins.{Pins}
-use Rattle.ports.specs.Reads.{read_of}
-use Rattle.ports.specs.Pins.{pins_of}
+use Rattle.chip.specs.declared.reasons.Explained.{Explained}
+use Rattle.chip.specs.Reasons.{explained_in}
+use Rattle.bus.specs.declared.Pins.{Pins}
+use Rattle.chip.specs.Reads.{read_of}
+use Rattle.chip.specs.Pins.{pins_of}
 use Rattle.fates.specs.Effects.{port_number}
 
 -- Of the pins of port C 7 to 3 belong to group A, and 2 to 0 to group B.

@@ -1,7 +1,7 @@
 -- What counts as no group's doing, and what it changes: why the sentences about the groups leave it out ("Two groups").
 use Rattle.std.specs.Prelude.{◌≡◌, false, List, [], ◌∷◌, ◌++◌, ℕ}
-use Rattle.events.specs.Event.{Event, event}
-use Rattle.events.specs.Histories.{write, levels}
+use Rattle.bus.specs.Event.{Event, event}
+use Rattle.bus.specs.Histories.{write, levels}
 use Rattle.control.specs.declared.Group.{Group}
 use Rattle.control.specs.declared.Group.TheVariants.{A, B}
 use Rattle.chip.specs.declared.Edition.TheVariants.{Older}

@@ -1,13 +1,13 @@
 -- What belongs to the group of a scale and to that of a printer at one moment, in numbers ("Two groups").
 use Rattle.std.specs.Prelude.{true, false, List, ◌++◌}
-use Rattle.events.specs.Event.{Event}
-use Rattle.events.specs.Histories.{write, levels}
+use Rattle.bus.specs.Event.{Event}
+use Rattle.bus.specs.Histories.{write, levels}
 use Rattle.channel.specs.declared.Fill.TheVariants.{Waiting}
 use Rattle.channel.specs.declared.Tally.{Tally}
 use Rattle.channel.specs.declared.Channel.{Channel}
 use Rattle.chip.specs.State.{no_byte}
-use Rattle.status.specs.declared.reasons.Reason.TheVariants.{EnableOff, High}
-use Rattle.status.specs.declared.reasons.Explained.TheVariants.{InputHalf, OutputHalf}
+use Rattle.chip.specs.declared.reasons.Reason.TheVariants.{EnableOff, High}
+use Rattle.chip.specs.declared.reasons.Explained.TheVariants.{InputHalf, OutputHalf}
 use Rattle.laws.specs.Marked.{strobe}
 use Rattle.groups.specs.Belongings.{Belongings}
 

@@ -1,8 +1,8 @@
 -- A scale on port A and a printer on port B, side by side: the history of each alone, and what happens where one is in the other's way
 -- ("Two groups").
 use Rattle.std.specs.Prelude.{◌≡◌, true, false, List, [], ◌∷◌, ◌++◌, ℕ}
-use Rattle.events.specs.Event.{Event, event}
-use Rattle.events.specs.Histories.{write, levels, read_from, cycle_end}
+use Rattle.bus.specs.Event.{Event, event}
+use Rattle.bus.specs.Histories.{write, levels, read_from, cycle_end}
 use Rattle.control.specs.declared.Group.{Group}
 use Rattle.control.specs.declared.Group.TheVariants.{A, B}
 use Rattle.channel.specs.declared.Side.{Side}

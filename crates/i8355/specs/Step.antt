@@ -1,6 +1,6 @@
 -- The 8355 as a device on the bus, and its step ("The 8355 ports", "Events and numbers").
 use Rattle.std.specs.Prelude.{refl, ℕ}
-use Rattle.events.specs.Event.{Event}
+use Rattle.bus.specs.Event.{Event}
 use Rattle.bus.specs.declared.Phase.{Phase}
 use Rattle.bus.specs.declared.Phase.TheVariants.{Idle, Reading, Writing}
 use Rattle.bus.specs.declared.Limits.{Limits}
@@ -8,7 +8,6 @@ use Rattle.bus.specs.Refusals.{limits_of}
 use Rattle.bus.specs.Device.{Device, Given, step_in}
 use Rattle.i8355.specs.declared.Ports.{Ports}
 use Rattle.i8355.specs.declared.Chip8355.{Chip8355}
-use Rattle.i8355.specs.declared.step.Stepped.{Stepped}
 use Rattle.i8355.specs.Registers.{after_reset, after_write_ends, after_levels}
 use Rattle.i8355.specs.Views.{read_of}
 
@@ -46,7 +45,12 @@ device = record {
   levels-limits = λ s x d. refl;
 }
 
--- What an event gives, as the step's struct.
+-- What an event gives: the device, the number and the byte.
+pub record Stepped : Type 0 where
+  pub chip : Chip8355
+  pub number : ℕ
+  pub byte : ℕ
+
 abbrev pub as_stepped : Given Chip8355 → Stepped
 as_stepped o = record { chip = o.state; number = o.number; byte = o.byte }
 

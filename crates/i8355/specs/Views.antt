@@ -3,7 +3,7 @@ use Rattle.std.specs.Prelude.{cond, ℕ, eqb}
 use Rattle.bits.specs.Bit.{blend_of}
 use Rattle.i8355.specs.declared.Port.{Port}
 use Rattle.i8355.specs.declared.Chip8355.{Chip8355}
-use Rattle.i8355.specs.declared.Pins.{Pins}
+use Rattle.bus.specs.declared.Pins.{Pins}
 use Rattle.i8355.specs.State.{port_a, port_b}
 
 -- A pin whose direction bit is 1 shows the latch, any other what the outside puts there.

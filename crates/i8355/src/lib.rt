@@ -1,64 +1,69 @@
-// The two ports of the 8355, and what they are at power-up.
+//! The 8355: two ports, each pin of which is an input or an output by itself, as a device on the bus.
 #![tactic(auto)]
 
 ghost use Rattle.std.specs.Prelude.{◌≡◌};
 ghost use Rattle.i8355.specs.State.{power_up};
 
-mod registers;
-pub mod step;
-pub mod view;
+mod device;
 
 use bus::Phase;
 
-// A port: its data direction register, in which a 1 makes a pin an output, its output latch, and the levels put on its pins from outside.
-#[derive(Clone, Copy)]
+/// A port: which of its pins are outputs, by the ones of its data direction register; its output latch; and the levels that the outside puts
+/// on its pins.
+#[derive(Clone, Copy, Debug, PartialEq, Eq)]
 pub struct Port {
     pub direction: u8,
     pub latch: u8,
     pub outside: u8,
 }
 
-// All of the device but the bus.
-#[derive(Clone, Copy)]
+/// The device without what runs on the bus.
+#[derive(Clone, Copy, Debug, PartialEq, Eq)]
 pub struct Ports {
     pub a: Port,
     pub b: Port,
 }
 
-// What runs on the bus, and the ports.
-#[derive(Clone, Copy)]
+/// A device. By default it is as at power-up.
+#[derive(Clone, Copy, Debug, PartialEq, Eq)]
 pub struct Chip8355 {
     pub phase: Phase,
     pub ports: Ports,
 }
 
-// The levels of a port's pins, and a 1 for each pin that the device drives.
-#[derive(Clone, Copy)]
-pub struct Pins {
-    pub levels: u8,
-    pub driven: u8,
-}
-
-// The ports and their data direction registers by their addresses on the bus. Outside levels name a port by the same number.
+/// The address of port A. Outside levels name it by the same number.
 pub const PORT_A: u8 = 0;
 
+/// The address of port B, and its number.
 pub const PORT_B: u8 = 1;
 
+/// The address of port A's data direction register.
 pub const DIRECTION_A: u8 = 2;
 
+/// The address of port B's data direction register.
 pub const DIRECTION_B: u8 = 3;
 
-// The device at power-up: every pin is an input, under a line that is high.
-pub fn power_up() -> Chip8355
-    ensures { result ≡ power_up }
-{
-    let port = Port {
-        direction: 0,
-        latch: 0,
-        outside: 0xff,
-    };
-    Chip8355 {
-        phase: Phase::Idle,
-        ports: Ports { a: port, b: port },
+impl Chip8355 {
+    /// The device at power-up: an idle bus, and only inputs, on lines that are high.
+    pub fn new() -> Self
+        ensures { result ≡ power_up }
+    {
+        let port = Port {
+            direction: 0,
+            latch: 0,
+            outside: 0xff,
+        };
+        Chip8355 {
+            phase: Phase::Idle,
+            ports: Ports { a: port, b: port },
+        }
+    }
+}
+
+impl Default for Chip8355 {
+    ghost is_default = { λ chip. chip ≡ power_up };
+
+    fn default() -> Self {
+        Chip8355::new()
     }
 }

@@ -1,4 +1,5 @@
 pub mod Behind
+pub mod Copied
 pub mod Bounds
 pub mod Cycle
 pub mod BusNumber
@@ -9,3 +10,4 @@ pub mod Fitting
 pub mod SameBytes
 pub mod OneImage
 pub mod Parts
+pub mod Determined

@@ -1,10 +1,11 @@
 -- Bytes that are 0, and an edition before them, told by the number that they are together.
 -- Rests on nothing.
 use mathlib.Core.Path.{◌≡◌, ◌∙◌, refl, ap, sym}
-use mathlib.Core.Bool.{Bool, true, false, cond, not, ◌&&◌, and-false}
+use mathlib.Core.Bool.{Bool, true, false, not, ◌&&◌, and-false}
 use mathlib.Core.List.{List, [], ◌∷◌, ◌++◌}
 use Prim.Native.Nat.{ℕ, zero, suc, ◌+◌, ◌*◌, ◌/◌, ◌%◌, ◌<◌}
 use native.Mathlib.Omega.{arith}
+use mir.Val.{bool_byte}
 use lib.Dec.{eqb, ltb}
 use borrow.Author.Tests.{ltb-true, ltb-false, lt-ltb, le-ltb, eq-eqb, ne_eqb}
 use Rattle.image.specs.Places as places
@@ -103,7 +104,7 @@ module _ (l : List ℕ) where
       rw (le-ltb (eight_at l (places.edition + 16)) 0 (omega arith))
       (and-false (ltb (eight_at l places.edition) 2 && ltb (eight_at l (places.edition + 8)) 0))
 
-  by-bus : (fits : Bool) → three_eights (cond fits 1 0) ≡ (fits && behind_fits)
+  by-bus : (fits : Bool) → three_eights (bool_byte fits) ≡ (fits && behind_fits)
   by-bus true = all_fit
   by-bus false = none-fit
 
@@ -112,18 +113,18 @@ module _ (l : List ℕ) where
 
   -- Where the first eight do not fit, nothing else matters; where they do, the edition is what the first two are.
   by-edition : (below : Bool) → ltb (eight_at l places.edition) 2 ≡ below
-      → three_eights (cond (cycle (wide_at l places.edition)) 1 0) ≡ three_eights (cond (cycle (byte_at l places.edition)) 1 0)
+      → three_eights (bool_byte (cycle (wide_at l places.edition))) ≡ three_eights (bool_byte (cycle (byte_at l places.edition)))
   by-edition true is =
       let first : wide_at l places.edition ≡ byte_at l places.edition = omega (arith, ltb-true (eight_at l places.edition) 2 is) in
-      ap (λ (e : ℕ). three_eights (cond (cycle e) 1 0)) first
+      ap (λ (e : ℕ). three_eights (bool_byte (cycle e))) first
   by-edition false is = rw (is)
 
   -- The number is 1 where the bus fits, by its two bytes as one number, and otherwise 0.
   pub end-fits : byte_at l places.bus < 256
-      → three_eights (cond (cycle_fits (wide_at l places.edition) (wide_at l places.bus % 256) (wide_at l places.bus / 256)) 1 0) ≡ end_fits l
+      → three_eights (bool_byte (cycle_fits (wide_at l places.edition) (wide_at l places.bus % 256) (wide_at l places.bus / 256))) ≡ end_fits l
   end-fits small =
       let bus : wide_at l places.bus % 256 ≡ byte_at l places.bus = omega (arith, small) in
       let written : wide_at l places.bus / 256 ≡ byte_at l places.written = omega (arith, small) in
-      (λ i. three_eights (cond (cycle_fits (wide_at l places.edition) (bus i) (written i)) 1 0))
+      (λ i. three_eights (bool_byte (cycle_fits (wide_at l places.edition) (bus i) (written i))))
       ∙ by-edition (ltb (eight_at l places.edition) 2) refl
       ∙ by-bus (cycle (byte_at l places.edition))

@@ -1,4 +1,4 @@
-// Whether bytes are the image of a state.
+//! Whether bytes are the image of a state.
 ghost use Rattle.std.specs.Prelude.{◌≡◌, ◌+◌, ◌/◌, ◌%◌, ◌<◌, length};
 ghost use Rattle.channel.specs.declared.Side.TheVariants.{Input, Output};
 ghost use Rattle.image.specs.Places as places;
@@ -21,9 +21,9 @@ fn cycle(bus: u16, behind: u16) -> bool
     ensures { result ≡ cycle_fits behind (bus % 256) (bus / 256) }
 {
     let lower = bus % 256;
-    let writes = !(lower < WRITES as u16) & (lower < IDLE as u16);
+    let writes = (lower >= WRITES as u16) & (lower < IDLE as u16);
     let all = (bus as u32) + 0x1_0000 * (behind as u32);
-    (writes | !((IDLE as u16) < bus)) & (all != OLDER_READS_CONTROL)
+    (writes | (bus <= IDLE as u16)) & (all != OLDER_READS_CONTROL)
 }
 
 fn enables(byte: u8) -> bool
@@ -35,23 +35,29 @@ fn enables(byte: u8) -> bool
 fn input(strobed: bool, fill: u8) -> bool
     ensures { result ≡ fill_fits strobed Input fill }
 {
-    !(bits::choose(strobed, 2, 0) < fill)
+    fill <= if strobed { 2 } else { 0 }
 }
 
 fn output(strobed: bool, fill: u8) -> bool
     ensures { result ≡ fill_fits strobed Output fill }
 {
-    !(bits::choose(strobed, 1, 0) < fill)
+    fill <= if strobed { 1 } else { 0 }
 }
 
 fn eight(image: &[u8], at: usize) -> u64
     requires { at + 7 < length image.now }
     ensures { result ≡ eight_at image.now at }
 {
-    (load::wide(image, at) as u64)
-        + 0x1_0000 * (load::wide(image, at + 2) as u64)
-        + 0x1_0000_0000 * (load::wide(image, at + 4) as u64)
-        + 0x1_0000_0000_0000 * (load::wide(image, at + 6) as u64)
+    u64::from_le_bytes([
+        image[at],
+        image[at + 1],
+        image[at + 2],
+        image[at + 3],
+        image[at + 4],
+        image[at + 5],
+        image[at + 6],
+        image[at + 7],
+    ])
 }
 
 // The bus, and what is behind it: the edition, and what is not used, which is 0. Of eight bytes as one number the edition is the lowest, and
@@ -63,7 +69,7 @@ fn end(image: &[u8]) -> bool
     ensures { result ≡ end_fits image.now }
 {
     let fits = cycle(load::wide(image, BUS), load::wide(image, EDITION));
-    let above = bits::choose(fits, 1, 0) as u64;
+    let above = fits as u64;
     (eight(image, EDITION) < BEYOND_THE_EDITION)
         & (eight(image, EDITION + 8) < above)
         & (eight(image, EDITION + 16) < above)
@@ -107,7 +113,7 @@ fn fits(image: &[u8]) -> bool
     core(image)
 }
 
-// Whether the bytes are the image of a state. Those of another length are none.
+/// Whether the bytes are the image of a state. Those of another length are none.
 #[tactic(auto, unfolding(crate::specs::Good::is_image))]
 pub fn good(image: &[u8]) -> bool
     ensures { result ≡ is_image image.now }

@@ -1,5 +1,5 @@
-// A chip in 96 bytes that a host keeps: whether bytes are an image (check), the state that they tell (load), and a state written as its
-// image (save). The bytes are lent as a slice, of whatever length.
+//! A chip in 96 bytes that a host keeps: whether bytes are an image (check), the state that they tell (load), and a state written as its
+//! image (save). The bytes are lent as a slice, of whatever length.
 #![tactic(auto)]
 
 pub mod check;

@@ -1,4 +1,4 @@
-// The state that an image tells. The length is asked for once, before any byte is read, and not at each byte.
+//! The state that an image tells. The length is asked for once, before any byte is read, and not at each byte.
 ghost use Rattle.std.specs.Prelude.{◌≡◌, ◌+◌, ◌<◌, length};
 ghost use Rattle.image.specs.Places as places;
 ghost use Rattle.image.specs.Loaded.{wide_at, tally_at, fill_as, channel_at, enables_as, phase_as, edition_as, state_of};
@@ -18,7 +18,7 @@ pub(super) fn wide(image: &[u8], at: usize) -> u16
     requires { at + 1 < length image.now }
     ensures { result ≡ wide_at image.now at }
 {
-    bits::pair(image[at], image[at + 1])
+    u16::from_le_bytes([image[at], image[at + 1]])
 }
 
 fn tally(image: &[u8], at: usize) -> Tally
@@ -36,18 +36,13 @@ fn tally(image: &[u8], at: usize) -> Tally
     }
 }
 
-// The number is compared first with 2: what the compiler makes of that gives a condition back as it came in fewer steps.
 fn fill(byte: u8) -> Fill
     ensures { result ≡ fill_as byte }
 {
-    if byte < 2 {
-        if byte == 1 {
-            Fill::Waiting
-        } else {
-            Fill::Empty
-        }
-    } else {
-        Fill::Fetching
+    match byte {
+        0 => Fill::Empty,
+        1 => Fill::Waiting,
+        _ => Fill::Fetching,
     }
 }
 
@@ -98,7 +93,7 @@ fn phase(bus: u8, written: u8) -> Phase
     }
 }
 
-// The edition that a byte tells.
+/// The edition that a byte tells.
 pub fn edition(byte: u8) -> Edition
     ensures { result ≡ edition_as byte }
 {
@@ -115,24 +110,23 @@ fn whole(image: &[u8]) -> Chip
     requires { length image.now ≡ places.length }
     ensures { result ≡ state_of image.now }
 {
-    let core = Core {
-        word: image[WORD],
-        a: port(image, 0, image[LEVELS_A]),
-        b: port(image, 2, image[LEVELS_B]),
-        c: PortC {
-            latch: image[LATCH_C],
-            outside: image[LEVELS_C],
-        },
-        inte: enables(image[ENABLES]),
-    };
     Chip {
         phase: phase(image[BUS], image[WRITTEN]),
         edition: edition(image[EDITION]),
-        core,
+        core: Core {
+            word: image[WORD],
+            a: port(image, 0, image[LEVELS_A]),
+            b: port(image, 2, image[LEVELS_B]),
+            c: PortC {
+                latch: image[LATCH_C],
+                outside: image[LEVELS_C],
+            },
+            inte: enables(image[ENABLES]),
+        },
     }
 }
 
-// What runs on the bus, by itself: nothing, where it is told by no image.
+/// What runs on the bus, by itself. Bytes of another length than an image's tell of nothing: for them it is an idle bus.
 #[tactic(auto, unfolding(crate::specs::Slices::loaded_from, crate::specs::Loaded::state_of))]
 pub fn bus(image: &[u8]) -> Phase
     ensures { result ≡ (loaded_from image.now).phase }
@@ -143,15 +137,15 @@ pub fn bus(image: &[u8]) -> Phase
     phase(image[BUS], image[WRITTEN])
 }
 
-// The whole state. Bytes of another length than an image's tell none: for them it is the chip at power-up.
+/// The whole state. Bytes of another length than an image's tell none: for them it is the chip at power-up.
 #[inline(always)]
-#[tactic(auto, unfolding(crate::specs::Slices::loaded_from, crate::specs::Loaded::state_of))]
+#[tactic(auto, unfolding(crate::specs::Slices::loaded_from))]
 pub fn state(image: &[u8]) -> Chip
     ensures { result ≡ loaded_from image.now }
 {
     if image.len() == LENGTH {
         whole(image)
     } else {
-        chip::power_up()
+        Chip::default()
     }
 }

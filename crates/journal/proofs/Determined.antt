@@ -1,14 +1,41 @@
 -- The contract of each public function of journal leaves no choice: of the answer, and of every word of a slice that is written.
 -- Rests on bits' Determined.
+use mathlib.Core.Path.{◌≡◌, ◌∙◌, refl, ap, sym}
+use Prim.Native.Nat.{ℕ}
+use native.Mathlib.Omega.{arith}
+use Rattle.std.proofs.Common.{rules, Result, Ok, Err}
 use Rattle.bits.proofs.Determined.{Determines, equation-determines, equations-determine}
+use Rattle.journal.specs.declared.TrimRefusal.{TrimRefusal}
+use Rattle.journal.specs.declared.TrimRefusal.TheVariants.{NoFrame, TooLong, NoEdition}
+use Rattle.journal.specs.Trim.{refusal_number, answer_told}
 use Rattle.journal.specs.contracts as journal_says
 use Rattle.journal.proofs as journal
 
-pub pack-determined : Determines journal_says.words.pack.ended journal.words.pack.Reads.Learnt
+pub read-determined : Determines journal_says.words.Logged.read.ended journal.words.Logged.read.Reads.Learnt
+read-determined c x y = equation-determines
+
+pub pack-determined : Determines journal_says.words.Logged.pack.ended journal.words.Logged.pack.Reads.Learnt
 pack-determined c x y = equation-determines
 
-pub read-determined : Determines journal_says.words.read.ended journal.words.read.Reads.Learnt
-read-determined c x y = equation-determines
+pub number-determined : Determines journal_says.TrimRefusal.number.ended journal.TrimRefusal.number.Reads.Learnt
+number-determined c x y = equation-determines
+
+-- An outcome is what its answer tells.
+refusal : (r s : TrimRefusal) → refusal_number r ≡ refusal_number s → r ≡ s
+refusal r s h = search rules
+
+outcome : (r s : Result ℕ TrimRefusal) → answer_told r ≡ answer_told s → r ≡ s
+outcome (Ok m) (Ok n) h = let same : m ≡ n = omega arith in ap Ok same
+outcome (Ok m) (Err NoFrame) h = absurd (omega arith)
+outcome (Ok m) (Err TooLong) h = absurd (omega arith)
+outcome (Ok m) (Err NoEdition) h = absurd (omega arith)
+outcome (Err NoFrame) (Ok n) h = absurd (omega arith)
+outcome (Err TooLong) (Ok n) h = absurd (omega arith)
+outcome (Err NoEdition) (Ok n) h = absurd (omega arith)
+outcome (Err r) (Err s) h = ap Err (refusal r s h)
+
+pub trim-determined : Determines journal_says.trim.ended journal.trim.Reads.Learnt
+trim-determined c x y p q = equations-determine (outcome x.0 y.0 (p.0 ∙ sym q.0), p.1) (refl, q.1)
 
 pub towanchor-trim-determined : Determines journal_says.towanchor_trim.ended journal.towanchor_trim.Reads.Learnt
 towanchor-trim-determined c x y = equations-determine

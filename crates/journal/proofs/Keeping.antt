@@ -1,50 +1,41 @@
 -- The pass over the words of a journal, turn by turn: what is kept of those gone through stands in front, with zero words behind, and ahead
 -- nothing has changed.
--- Rests on Ahead and Held, and on restored's Stays.
+-- Rests on Ahead, Exact and bits' Logic.
 use mathlib.Core.Path.{◌≡◌, ◌∙◌, refl, ap, sym}
-use mathlib.Core.Bool.{Bool, true, false}
+use mathlib.Core.Bool.{Bool, true, false, not}
 use mathlib.Core.List.{List, [], ◌∷◌, ◌++◌, append_assoc, append-nil}
 use Prim.Native.Nat.{ℕ, suc, ◌+◌, ◌-◌, ◌<◌, ◌≤◌}
 use native.Mathlib.Omega.{arith}
 use lib.ListN.{length, drop, set, get_or, replicate, length-append, length-drop, length-replicate, replicate-append-replicate, drop_of_length-le}
 use lib.Seq.{set_at, get_or_at}
-use Rattle.bits.specs.Same.{same_bytes}
+use Rattle.std.proofs.Math.Bool.{not-not}
 use Rattle.bits.proofs.Logic.{both}
 use Rattle.chip.specs.declared.Chip.{Chip}
-use Rattle.image.specs.Layout.{image_of}
-use Rattle.image.specs.Good.{has_image}
-use Rattle.calls.specs.Calls.{step_image}
-use Rattle.restored.proofs.Stays.{image-stays}
 use Rattle.journal.specs.Words.{event_in, is_frame, all_frames}
-use Rattle.journal.specs.Trim.{same_state, after_word, kept_from, filled_up}
+use Rattle.journal.specs.Same.{same_state}
+use Rattle.journal.specs.Trim.{after_word, kept_from, filled_up}
 use Rattle.journal.proofs.Ahead.{ahead}
-use Rattle.journal.proofs.Held.{passed}
+use Rattle.journal.proofs.Exact.{only-then}
 
 -- Of the words ws₀, met by the chip c₀, those before the place `at` have been gone through, and `kept` of them are kept. They are `done`, and have
--- led to `chip`, whose image is held. What they and those ahead are kept as is what is kept of all.
-pub record Keeping (c₀ : Chip) (ws₀ ws image : List ℕ) (at kept : ℕ) : Type 0 where
+-- led to the chip c. What they and those ahead are kept as is what is kept of all.
+pub record Keeping (c₀ : Chip) (ws₀ ws : List ℕ) (c : Chip) (at kept : ℕ) : Type 0 where
   pub done : List ℕ
-  pub chip : Chip
   pub counted : length done ≡ kept
   pub behind : kept ≤ at
   pub inside : at ≤ length ws₀
   pub words : ws ≡ (done ++ replicate (at - kept) 0) ++ drop at ws₀
-  pub all : done ++ kept_from chip (drop at ws₀) ≡ kept_from c₀ ws₀
-  pub held : image ≡ image_of chip
-  pub has : has_image chip ≡ true
+  pub all : done ++ kept_from c (drop at ws₀) ≡ kept_from c₀ ws₀
   pub frames : all_frames (drop at ws₀) ≡ true
 
-pub starts : (c₀ : Chip) (ws₀ image : List ℕ) → image ≡ image_of c₀ → has_image c₀ ≡ true → all_frames ws₀ ≡ true → Keeping c₀ ws₀ ws₀ image 0 0
-starts c₀ ws₀ image held has frames = record {
+pub starts : (c₀ : Chip) (ws₀ : List ℕ) → all_frames ws₀ ≡ true → Keeping c₀ ws₀ ws₀ c₀ 0 0
+starts c₀ ws₀ frames = record {
   done = [];
-  chip = c₀;
   counted = refl;
   behind = omega arith;
   inside = omega arith;
   words = refl;
   all = refl;
-  held = held;
-  has = has;
   frames = frames;
 }
 
@@ -53,15 +44,15 @@ kept_here : (c : Chip) (w : ℕ) (ws : List ℕ) → same_state c (after_word c 
 unfolding kept_from
 kept_here c w ws differs = rw (differs)
 
-dropped-here : (c : Chip) (w : ℕ) (ws : List ℕ) → same_state c (after_word c w) ≡ true → kept_from c (w ∷ ws) ≡ kept_from (after_word c w) ws
+dropped-here : (c : Chip) (w : ℕ) (ws : List ℕ) → same_state c (after_word c w) ≡ true → kept_from c (w ∷ ws) ≡ kept_from c ws
 unfolding kept_from
-dropped-here c w ws same = rw (same)
+dropped-here c w ws same = rw (same) (ap (λ (d : Chip). kept_from d ws) (sym (only-then c (after_word c w) same)))
 
 none_kept : (c : Chip) → kept_from c [] ≡ []
 unfolding kept_from
 none_kept c = refl
 
-module _ (c₀ : Chip) (ws₀ ws image : List ℕ) (at kept : ℕ) (way : Keeping c₀ ws₀ ws image at kept) where
+module _ (c₀ : Chip) (ws₀ ws : List ℕ) (c : Chip) (at kept : ℕ) (way : Keeping c₀ ws₀ ws c at kept) where
   -- What stands before the place.
   abbrev passed-by : List ℕ
   passed-by = way.done ++ replicate (at - kept) 0
@@ -110,43 +101,40 @@ module _ (c₀ : Chip) (ws₀ ws image : List ℕ) (at kept : ℕ) (way : Keepin
     pub is-frame : is_frame (event_in (get_or ws at 0)) ≡ true
     is-frame = ap (λ w. is_frame (event_in w)) here ∙ both-frames.0
 
-    module _ (next : List ℕ) (met : next ≡ step_image image (event_in (get_or ws at 0)).kind (event_in (get_or ws at 0)).first (event_in (get_or ws at 0)).second) where
-      -- The image of the chip after the word.
-      now-held : next ≡ image_of (after_word way.chip word)
-      now-held =
-          met
-          ∙ (λ i. step_image (way.held i) (event_in (here i)).kind (event_in (here i)).first (event_in (here i)).second)
-          ∙ passed way.chip way.has (event_in word)
+    -- What is kept of this word and of those behind it, once more.
+    all-here : way.done ++ kept_from c (word ∷ drop (at + 1) ws₀) ≡ kept_from c₀ ws₀
+    all-here = ap (λ l. way.done ++ kept_from c l) (sym (ahead ws₀ at below)) ∙ way.all
 
-      told : (b : Bool) → same_bytes image next ≡ b → same_state way.chip (after_word way.chip word) ≡ b
-      unfolding same_state
-      told b is = (λ i. same_bytes (sym way.held i) (sym now-held i)) ∙ is
+    module _ (next : Chip) (met : next ≡ after_word c (get_or ws at 0)) (changed : Bool) (told : changed ≡ not (same_state c (after_word c (get_or ws at 0)))) where
+      now-met : next ≡ after_word c word
+      now-met = met ∙ ap (after_word c) here
 
-      pub dropped : same_bytes image next ≡ true → Keeping c₀ ws₀ (set ws at 0) next (at + 1) kept
-      dropped same =
+      same-as : same_state c (after_word c word) ≡ not changed
+      same-as = ap (λ w. same_state c (after_word c w)) (sym here) ∙ sym (not-not _) ∙ ap not (sym told)
+
+      -- A word that changes nothing leaves the chip,
+      pub stays : changed ≡ false → next ≡ c
+      stays off = now-met ∙ sym (only-then c (after_word c word) (same-as ∙ ap not off))
+
+      -- and is dropped.
+      pub dropped : changed ≡ false → Keeping c₀ ws₀ (set ws at 0) c (at + 1) kept
+      dropped off =
           let zeros : suc (at - kept) ≡ at + 1 - kept = omega (arith, way.behind) in
           record {
             done = way.done;
-            chip = after_word way.chip word;
             counted = way.counted;
             behind = omega (arith, way.behind);
             inside = omega (arith, below);
             words = taken_out ∙ ap (λ n. (way.done ++ replicate n 0) ++ drop (at + 1) ws₀) zeros;
-            all =
-                ap (λ l. way.done ++ l)
-                (sym (ap (kept_from way.chip) (ahead ws₀ at below) ∙ dropped-here way.chip word (drop (at + 1) ws₀) (told true same)))
-                ∙ way.all;
-            held = now-held;
-            has = image-stays way.chip (event_in word) way.has;
+            all = ap (λ l. way.done ++ l) (sym (dropped-here c word (drop (at + 1) ws₀) (same-as ∙ ap not off))) ∙ all-here;
             frames = both-frames.1;
           }
 
-      pub moved : same_bytes image next ≡ false → Keeping c₀ ws₀ (set (set ws at 0) kept (get_or ws at 0)) next (at + 1) (kept + 1)
-      moved differs =
+      pub moved : changed ≡ true → Keeping c₀ ws₀ (set (set ws at 0) kept (get_or ws at 0)) next (at + 1) (kept + 1)
+      moved on =
           let zeros : at - kept ≡ at + 1 - (kept + 1) = omega (arith, way.behind) in
           record {
             done = way.done ++ (word ∷ []);
-            chip = after_word way.chip word;
             counted = length-append way.done (word ∷ []) ∙ ap (λ n. n + 1) way.counted;
             behind = omega (arith, way.behind);
             inside = omega (arith, below);
@@ -157,12 +145,10 @@ module _ (c₀ : Chip) (ws₀ ws image : List ℕ) (at kept : ℕ) (way : Keepin
                 ∙ sym (append_assoc (way.done ++ (word ∷ [])) (replicate (at - kept) 0) (drop (at + 1) ws₀))
                 ∙ ap (λ n. ((way.done ++ (word ∷ [])) ++ replicate n 0) ++ drop (at + 1) ws₀) zeros;
             all =
-                append_assoc way.done (word ∷ []) (kept_from (after_word way.chip word) (drop (at + 1) ws₀))
-                ∙ ap (λ l. way.done ++ l)
-                (sym (ap (kept_from way.chip) (ahead ws₀ at below) ∙ kept_here way.chip word (drop (at + 1) ws₀) (told false differs)))
-                ∙ way.all;
-            held = now-held;
-            has = image-stays way.chip (event_in word) way.has;
+                append_assoc way.done (word ∷ []) (kept_from next (drop (at + 1) ws₀))
+                ∙ ap (λ d. way.done ++ (word ∷ kept_from d (drop (at + 1) ws₀))) now-met
+                ∙ ap (λ l. way.done ++ l) (sym (kept_here c word (drop (at + 1) ws₀) (same-as ∙ ap not on)))
+                ∙ all-here;
             frames = both-frames.1;
           }
 
@@ -177,7 +163,7 @@ module _ (c₀ : Chip) (ws₀ ws image : List ℕ) (at kept : ℕ) (way : Keepin
     pub arrives : way.done ≡ kept_from c₀ ws₀
     arrives =
         sym (append-nil way.done)
-        ∙ ap (λ l. way.done ++ l) (sym (ap (kept_from way.chip) none_ahead ∙ none_kept way.chip))
+        ∙ ap (λ l. way.done ++ l) (sym (ap (kept_from c) none_ahead ∙ none_kept c))
         ∙ way.all
 
     pub filled-up : ws ≡ filled_up way.done (length ws₀)

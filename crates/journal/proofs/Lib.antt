@@ -1,6 +1,7 @@
 pub mod Packed
 pub mod Ahead
-pub mod Held
+pub mod Exact
+pub mod Derived
 pub mod Keeping
 pub mod Trimming
 pub mod Determined

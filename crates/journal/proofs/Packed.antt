@@ -1,10 +1,10 @@
 -- Packing and reading are each other's inverse, and the kind of a frame is a byte.
--- Rests on bits' Logic and events' ByKind.
+-- Rests on bits' Logic and the bus's ByKind.
 use Rattle.std.proofs.Common.{◌≡◌, true, ℕ, ◌/◌, ◌%◌, ◌<◌, arith}
 use Rattle.bits.proofs.Logic.{both}
-use Rattle.events.specs.Kinds.{is_kind, operands_of}
-use Rattle.events.specs.Event.{Event}
-use Rattle.events.proofs.ByKind.{kind-small}
+use Rattle.bus.specs.Kinds.{is_kind, operands_of}
+use Rattle.bus.specs.Event.{Event}
+use Rattle.bus.proofs.ByKind.{kind-small}
 use Rattle.journal.specs.Words.{word_of, event_in, unused_zero, is_frame}
 
 -- Every word is what it packs, packed again.

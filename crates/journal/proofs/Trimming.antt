@@ -5,13 +5,14 @@ use mathlib.Core.Bool.{Bool, true, false, cond, not}
 use mathlib.Core.List.{List, [], ◌∷◌}
 use Prim.Native.Nat.{ℕ, suc, ◌*◌, ◌≤◌}
 use native.Mathlib.Omega.{arith}
-use lib.Dec.{ltb}
+use lib.Dec.{eqb, ltb}
 use lib.ListN.{length}
 use borrow.Author.Tests.{ltb-false, eq-eqb, ne_eqb}
 use Rattle.chip.specs.declared.Chip.{Chip}
-use Rattle.image.specs.Good.{edition_fits}
+use Rattle.chip.specs.State.{levels_by, power_up_as}
 use Rattle.journal.specs.Words.{all_frames}
-use Rattle.journal.specs.Trim.{same_state, after_word, kept_from, kept_of, most_words, no_edition_number, too_long_number, no_frame_number, trim_number, trim_answer, filled_up, trimmed_words}
+use Rattle.journal.specs.Same.{same_state}
+use Rattle.journal.specs.Trim.{after_word, kept_from, edition_fits, edition_as, kept_of, most_words, no_edition_number, too_long_number, no_frame_number, trim_number, trim_answer, filled_up, trimmed_words}
 
 -- No more words are kept than there are.
 pub kept-at-most : (c : Chip) (ws : List ℕ) → length (kept_from c ws) ≤ length ws
@@ -56,3 +57,21 @@ module _ (ws : List ℕ) (edition : ℕ) where
     pub accepted-words : trim_number ws edition ≡ 0 → filled_up (kept_of ws edition a b c) (length ws) ≡ trimmed_words ws edition a b c
     unfolding trimmed_words
     accepted-words zero = rw (eq-eqb (trim_number ws edition) 0 zero)
+
+    -- No answer is greater than that of the longest journal, all of which is kept.
+    pub answer-at-most : trim_answer ws edition a b c ≤ 256 * most_words
+    unfolding trim_number trim_answer
+    answer-at-most = go (edition_fits edition) (ltb most_words (length ws)) refl (all_frames ws)
+      where
+        count : ℕ
+        count = length (kept_of ws edition a b c)
+
+        answer_by : ℕ → ℕ
+        answer_by n = cond (eqb n 0) (256 * count) n
+
+        go : (known many : Bool) → ltb most_words (length ws) ≡ many → (all : Bool)
+            → answer_by (cond (not known) no_edition_number (cond many too_long_number (cond all 0 no_frame_number))) ≤ 256 * most_words
+        go false many m all = omega arith
+        go true true m all = omega arith
+        go true false m false = omega arith
+        go true false m true = omega (arith, kept-at-most (power_up_as (edition_as edition) (levels_by a b c)) ws, ltb-false most_words (length ws) m)

@@ -1,17 +1,14 @@
 -- The trim of a journal: what is kept, its number, its answer, and the words that it leaves ("Trimming the journal").
-use Rattle.std.specs.Prelude.{Bool, cond, not, List, [], ◌∷◌, ◌++◌, ℕ, ◌-◌, ◌*◌, eqb, ltb, length, replicate}
-use Rattle.bits.specs.Same.{same_bytes}
+use Rattle.std.specs.Prelude.{Bool, cond, not, List, [], ◌∷◌, ◌++◌, ℕ, ◌-◌, ◌*◌, eqb, ltb, length, replicate, Option, Some, None, Result, Ok, Err}
 use Rattle.chip.specs.declared.Chip.{Chip}
+use Rattle.chip.specs.declared.Edition.{Edition}
+use Rattle.chip.specs.declared.Edition.TheVariants.{Older, Newer}
 use Rattle.chip.specs.State.{levels_by, power_up_as}
-use Rattle.step.specs.Step.{stepped}
-use Rattle.image.specs.Layout.{image_of}
-use Rattle.image.specs.Loaded.{edition_as}
-use Rattle.image.specs.Good.{edition_fits}
+use Rattle.chip.specs.Step.{stepped}
+use Rattle.journal.specs.declared.TrimRefusal.{TrimRefusal}
+use Rattle.journal.specs.declared.TrimRefusal.TheVariants.{NoFrame, TooLong, NoEdition}
 use Rattle.journal.specs.Words.{event_in, all_frames}
-
--- Two states are the same where their images are. That this is equality, of every two states that a history reaches, is a theorem.
-unfoldable pub same_state : Chip → Chip → Bool
-same_state c d = same_bytes (image_of c) (image_of d)
+use Rattle.journal.specs.Same.{same_state}
 
 -- The chip after the event of a word.
 abbrev pub after_word : Chip → ℕ → Chip
@@ -21,6 +18,16 @@ after_word c w = (stepped c (event_in w)).chip
 unfoldable pub kept_from : Chip → List ℕ → List ℕ
 kept_from c [] = []
 kept_from c (w ∷ ws) = cond (same_state c (after_word c w)) (kept_from (after_word c w) ws) (w ∷ kept_from (after_word c w) ws)
+
+-- The older edition is 0, and the newer is 1. There is no other.
+abbrev pub edition_fits : ℕ → Bool
+edition_fits n = not (ltb 1 n)
+
+abbrev pub edition_as : ℕ → Edition
+edition_as n = cond (eqb n 0) Older Newer
+
+abbrev pub edition_numbered : ℕ → Option Edition
+edition_numbered n = cond (edition_fits n) (Some (edition_as n)) None
 
 -- They are kept from a power-up on, whose edition and levels the caller names.
 abbrev pub kept_of : List ℕ → ℕ → ℕ → ℕ → ℕ → List ℕ
@@ -40,6 +47,11 @@ too_long_number = 6
 abbrev pub no_frame_number : ℕ
 no_frame_number = 1
 
+abbrev pub refusal_number : TrimRefusal → ℕ
+refusal_number NoEdition = no_edition_number
+refusal_number TooLong = too_long_number
+refusal_number NoFrame = no_frame_number
+
 -- The number of a trim: that of the first refusal that applies, and 0 where none does.
 unfoldable pub trim_number : List ℕ → ℕ → ℕ
 trim_number ws edition =
@@ -51,6 +63,11 @@ trim_number ws edition =
 unfoldable pub trim_answer : List ℕ → ℕ → ℕ → ℕ → ℕ → ℕ
 trim_answer ws edition a b c =
     cond (eqb (trim_number ws edition) 0) (256 * length (kept_of ws edition a b c)) (trim_number ws edition)
+
+-- The answer that an outcome tells: its count above the number 0, or the number of its refusal.
+abbrev pub answer_told : Result ℕ TrimRefusal → ℕ
+answer_told (Ok kept) = 256 * kept
+answer_told (Err r) = refusal_number r
 
 -- Words with zero words behind, as many in all as there were.
 abbrev pub filled_up : List ℕ → ℕ → List ℕ

@@ -1,7 +1,8 @@
 -- The words of a journal: an event packed in 32 bits, and read back ("Trimming the journal").
-use Rattle.std.specs.Prelude.{Bool, true, ◌&&◌, ◌||◌, List, [], ◌∷◌, ℕ, ◌+◌, ◌*◌, ◌/◌, ◌%◌, eqb, ltb}
-use Rattle.events.specs.Kinds.{is_kind, operands_of}
-use Rattle.events.specs.Event.{Event, event}
+use Rattle.std.specs.Prelude.{Bool, ◌&&◌, ◌||◌, List, ℕ, ◌+◌, ◌*◌, ◌/◌, ◌%◌, eqb, ltb}
+use Rattle.std.specs.List.{list_all}
+use Rattle.bus.specs.Kinds.{is_kind, operands_of}
+use Rattle.bus.specs.Event.{Event, event}
 use Rattle.journal.specs.declared.words.Logged.{Logged}
 
 -- The packing: the kind times 65,536, the first operand times 256, and the second.
@@ -26,5 +27,4 @@ is_frame e = is_kind e.kind && unused_zero (operands_of e.kind) e
 
 -- Each word of a journal is a frame in this packing.
 abbrev pub all_frames : List ℕ → Bool
-all_frames [] = true
-all_frames (w ∷ ws) = is_frame (event_in w) && all_frames ws
+all_frames ws = list_all (λ w. is_frame (event_in w)) ws

@@ -1,31 +1,35 @@
-// The words of a journal: an event packed in 32 bits, what a word packs, and whether it is a frame.
+//! The words of a journal: an event packed in 32 bits, what a word packs, and whether it is a frame.
 ghost use Rattle.std.specs.Prelude.{◌≡◌};
-ghost use Rattle.events.specs.Event.{event};
+ghost use Rattle.bus.specs.Event.{event};
 ghost use Rattle.journal.specs.Words.{word_of, event_in, logged_in, unused_zero, is_frame, all_frames};
 
-// An event as it was logged. The number of its kind may be no byte, for all upper sixteen bits of a word are the kind.
-#[derive(Clone, Copy)]
+use bus::kinds;
+
+/// An event as it was logged. The number of its kind may be no byte, for all upper sixteen bits of a word are the kind.
+#[derive(Clone, Copy, Debug, PartialEq, Eq)]
 pub struct Logged {
     pub kind: u16,
     pub first: u8,
     pub second: u8,
 }
 
-// An event as a word. For a frame the operands that the kind lacks are 0.
-pub fn pack(kind: u8, first: u8, second: u8) -> u32
-    ensures { result ≡ word_of (event kind first second) }
-{
-    65536 * (kind as u32) + 256 * (first as u32) + (second as u32)
-}
+impl Logged {
+    /// What a word packs, whether or not it is a frame.
+    pub fn read(word: u32) -> Self
+        ensures { result ≡ logged_in word }
+    {
+        Logged {
+            kind: (word / 65536) as u16,
+            first: (word / 256 % 256) as u8,
+            second: (word % 256) as u8,
+        }
+    }
 
-// What a word packs, whether or not it is a frame.
-pub fn read(word: u32) -> Logged
-    ensures { result ≡ logged_in word }
-{
-    Logged {
-        kind: (word / 65536) as u16,
-        first: (word / 256 % 256) as u8,
-        second: (word % 256) as u8,
+    /// The word that packs it. For a frame the operands that the kind lacks are 0.
+    pub fn pack(self) -> u32
+        ensures { result ≡ word_of (event self.kind self.first self.second) }
+    {
+        65536 * (self.kind as u32) + 256 * (self.first as u32) + (self.second as u32)
     }
 }
 
@@ -46,17 +50,12 @@ fn is_frame(word: u32) -> bool
     ensures { result ≡ is_frame (event_in word) }
 {
     let kind = (word / 65536) as u16;
-    events::is_kind(kind) & is_exact(word, events::operands(kind))
+    kinds::is_kind(kind) & is_exact(word, kinds::operands(kind))
 }
 
 // Whether all words are frames.
 pub(super) fn all_frames(words: &[u32]) -> bool
     ensures { result ≡ all_frames words.now }
 {
-    for word in words {
-        if !is_frame(*word) {
-            return false;
-        }
-    }
-    true
+    words.iter().all(|word| is_frame(*word))
 }

@@ -1,7 +1,7 @@
 -- Which events are kept and which are dropped, by the events alone.
 -- Rests on Along, SameLevels and PlainWord, on bits' Logic, and on fates' Tables, Accepted, SurroundingsKept and Followed.
 use mathlib.Core.Path.{◌≡◌, ◌∙◌, refl, ap, sym, subst}
-use mathlib.Core.Bool.{Bool, true, false, cond, not}
+use mathlib.Core.Bool.{Bool, true, false, cond}
 use mathlib.Core.List.{List}
 use Prim.Native.Nat.{ℕ, ◌<◌}
 use native.Mathlib.Omega.{arith}
@@ -9,8 +9,8 @@ use lib.Dec.{eqb, ltb}
 use borrow.Author.Tests.{lt-ltb, eqb-true, eqb-false, eq-eqb, not-true}
 use Rattle.bits.specs.Bit.{bit_of}
 use Rattle.bits.proofs.Logic.{both, contrary}
-use Rattle.events.specs.Event.{Event, event}
-use Rattle.events.specs.Kinds.{is_kind}
+use Rattle.bus.specs.Event.{Event, event}
+use Rattle.bus.specs.Kinds.{is_kind}
 use Rattle.bus.specs.Refusals.{number_of}
 use Rattle.bus.specs.declared.Phase.{Phase}
 use Rattle.bus.specs.declared.Phase.TheVariants.{Idle, Reading, Writing}
@@ -21,10 +21,10 @@ use Rattle.chip.specs.declared.Edition.{Edition}
 use Rattle.chip.specs.declared.Chip.{Chip}
 use Rattle.chip.specs.declared.Levels.{Levels}
 use Rattle.chip.specs.State.{power_up_as}
-use Rattle.settings.specs.ModeWord.{after_mode_word}
-use Rattle.levels.specs.Levels.{lets_through, after_levels}
-use Rattle.step.specs.Step.{on_bus}
-use Rattle.step.proofs.Outcome.{step-accepts}
+use Rattle.chip.specs.ModeWord.{after_mode_word}
+use Rattle.chip.specs.Levels.{lets_through, after_levels}
+use Rattle.chip.specs.Step.{on_bus}
+use Rattle.chip.proofs.Outcome.{step-accepts}
 use Rattle.fates.specs.Kinds.{Kind, reset, cycle_ended, unknown, read_begun, write_begun, new_levels, readable_at, kind_of, accepts}
 use Rattle.fates.specs.Surroundings.{Surroundings, phase_after, surroundings_after, surroundings_next}
 use Rattle.fates.specs.Effects.{followed, port_number, strobe_pin, strobes, effect}

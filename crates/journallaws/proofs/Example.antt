@@ -2,7 +2,7 @@
 -- Rests on nothing.
 use mathlib.Core.Path.{◌≡◌, refl}
 use Rattle.bits.specs.Bit.{bit_of, value_of}
-use Rattle.events.specs.Kinds.{is_kind, operands_of}
+use Rattle.bus.specs.Kinds.{is_kind, operands_of}
 use Rattle.bus.specs.Refusals.{number_of}
 use Rattle.bus.specs.Device.{step_in}
 use Rattle.control.specs.Mode.{strobed_input, strobed_output, mode_of, input_of}
@@ -10,18 +10,18 @@ use Rattle.control.specs.Word.{control_of}
 use Rattle.channel.specs.Moves.{after_offer, after_follow, after_hand_over, after_end_read, after_clear}
 use Rattle.chip.specs.declared.Edition.{Edition}
 use Rattle.chip.specs.declared.Edition.TheVariants.{Older, Newer}
-use Rattle.settings.specs.ModeWord.{cleared_port, after_mode_word}
-use Rattle.settings.specs.ControlWord.{after_control_word}
-use Rattle.reads.specs.Read.{after_read_begins, after_read_ends}
-use Rattle.writes.specs.Write.{after_write_ends}
-use Rattle.levels.specs.Levels.{fallen, edged, after_levels_on_c, port_after_levels, after_levels}
-use Rattle.step.specs.Step.{step_of}
-use Rattle.image.specs.Layout.{image_of}
+use Rattle.chip.specs.ModeWord.{cleared_port, after_mode_word}
+use Rattle.chip.specs.ControlWord.{after_control_word}
+use Rattle.chip.specs.Read.{after_read_begins, after_read_ends}
+use Rattle.chip.specs.Write.{after_write_ends}
+use Rattle.chip.specs.Levels.{fallen, edged, after_levels_on_c, port_after_levels, after_levels}
+use Rattle.chip.specs.Step.{step_of}
 use Rattle.journal.specs.Words.{is_frame}
-use Rattle.journal.specs.Trim.{same_state, kept_from, trim_number, trim_answer, trimmed_words}
+use Rattle.journal.specs.Same.{same_state}
+use Rattle.journal.specs.Trim.{kept_from, trim_number, trim_answer, trimmed_words}
 use Rattle.journallaws.specs.Example.{given, said}
 
 pub trimmed-so : (ed : Edition) → given ed ≡ said
-unfolding bit_of value_of is_kind operands_of number_of step_in strobed_input strobed_output mode_of input_of control_of after_offer after_follow after_hand_over after_end_read after_clear cleared_port after_mode_word after_control_word after_read_begins after_read_ends after_write_ends fallen edged after_levels_on_c port_after_levels after_levels step_of image_of is_frame same_state kept_from trim_number trim_answer trimmed_words
+unfolding bit_of value_of is_kind operands_of number_of step_in strobed_input strobed_output mode_of input_of control_of after_offer after_follow after_hand_over after_end_read after_clear cleared_port after_mode_word after_control_word after_read_begins after_read_ends after_write_ends fallen edged after_levels_on_c port_after_levels after_levels step_of is_frame same_state kept_from trim_number trim_answer trimmed_words
 trimmed-so Older = refl
 trimmed-so Newer = refl

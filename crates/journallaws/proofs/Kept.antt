@@ -1,50 +1,46 @@
 -- What the trim keeps is what the relation keeps; kept again, it is all kept.
--- Rests on Same, on bits' Logic and on restored's Stays.
+-- Rests on Same, and on bits' Logic.
 use mathlib.Core.Path.{◌≡◌, refl, ap, sym, subst}
 use mathlib.Core.Bool.{Bool, true, false, cond}
 use mathlib.Core.List.{List, [], ◌∷◌}
 use Prim.Native.Nat.{ℕ}
 use Rattle.bits.proofs.Logic.{both, contrary}
 use Rattle.chip.specs.declared.Chip.{Chip}
-use Rattle.image.specs.Good.{has_image}
-use Rattle.restored.proofs.Stays.{image-stays}
 use Rattle.journal.specs.Words.{event_in, is_frame, all_frames}
-use Rattle.journal.specs.Trim.{same_state, after_word, kept_from}
+use Rattle.journal.specs.Same.{same_state}
+use Rattle.journal.specs.Trim.{after_word, kept_from}
 use Rattle.journallaws.specs.Keeps.{events_in, Keeps, none, kept, dropped}
 use Rattle.journallaws.proofs.Same.{exactly}
 
-module _ (c : Chip) (has : has_image c ≡ true) (w : ℕ) where
-  has-next : has_image (after_word c w) ≡ true
-  has-next = image-stays c (event_in w) has
-
+module _ (c : Chip) (w : ℕ) where
   is_same : same_state c (after_word c w) ≡ true → after_word c w ≡ c
-  is_same same = sym ((exactly c (after_word c w) has has-next).only_then same)
+  is_same same = sym ((exactly c (after_word c w)).only_then same)
 
   differs : same_state c (after_word c w) ≡ false → ¬ (after_word c w ≡ c)
-  differs other is = contrary (same_state c (after_word c w)) other ((exactly c (after_word c w) has has-next).then (sym is))
+  differs other is = contrary (same_state c (after_word c w)) other ((exactly c (after_word c w)).then (sym is))
 
-pub keeps : (c : Chip) → has_image c ≡ true → (ws : List ℕ) → Keeps c (events_in ws) (events_in (kept_from c ws))
+pub keeps : (c : Chip) (ws : List ℕ) → Keeps c (events_in ws) (events_in (kept_from c ws))
 unfolding kept_from
-keeps c has [] = none
-keeps c has (w ∷ ws) = go (same_state c (after_word c w)) refl (keeps (after_word c w) (has-next c has w) ws)
+keeps c [] = none
+keeps c (w ∷ ws) = go (same_state c (after_word c w)) refl (keeps (after_word c w) ws)
   where
     go : (b : Bool) → same_state c (after_word c w) ≡ b → Keeps (after_word c w) (events_in ws) (events_in (kept_from (after_word c w) ws))
         → Keeps c (events_in (w ∷ ws)) (events_in (cond b (kept_from (after_word c w) ws) (w ∷ kept_from (after_word c w) ws)))
-    go true same later = dropped (is_same c has w same) later
-    go false other later = kept (differs c has w other) later
+    go true same later = dropped (is_same c w same) later
+    go false other later = kept (differs c w other) later
 
 -- Of what is kept all is kept.
-pub kept_again : (c : Chip) → has_image c ≡ true → (ws : List ℕ) → kept_from c (kept_from c ws) ≡ kept_from c ws
+pub kept_again : (c : Chip) (ws : List ℕ) → kept_from c (kept_from c ws) ≡ kept_from c ws
 unfolding kept_from
-kept_again c has [] = refl
-kept_again c has (w ∷ ws) = go (same_state c (after_word c w)) refl (kept_again (after_word c w) (has-next c has w) ws)
+kept_again c [] = refl
+kept_again c (w ∷ ws) = go (same_state c (after_word c w)) refl (kept_again (after_word c w) ws)
   where
     c' : Chip
     c' = after_word c w
 
     go : (b : Bool) → same_state c c' ≡ b → kept_from c' (kept_from c' ws) ≡ kept_from c' ws
         → kept_from c (cond b (kept_from c' ws) (w ∷ kept_from c' ws)) ≡ cond b (kept_from c' ws) (w ∷ kept_from c' ws)
-    go true same again = subst (λ (d : Chip). kept_from d (kept_from c' ws) ≡ kept_from c' ws) (is_same c has w same) again
+    go true same again = subst (λ (d : Chip). kept_from d (kept_from c' ws) ≡ kept_from c' ws) (is_same c w same) again
     go false other again = rw (other) (ap (λ (ks : List ℕ). w ∷ ks) again)
 
 -- What is kept of frames is frames.

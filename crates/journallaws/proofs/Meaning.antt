@@ -1,11 +1,11 @@
 -- What is kept of a history means what the history means.
--- Rests on SameFates, on journal's Held, on image's Long, and on restored's Stays and Holds.
-use mathlib.Core.Path.{◌≡◌, ◌∙◌, refl, ap, sym}
+-- Rests on SameFates, on image's OneImage, ComesBack and Long, on calls' HostStep, and on restored's Stays.
+use mathlib.Core.Path.{◌≡◌, ◌∙◌, refl, ap, sym, subst}
 use mathlib.Core.Bool.{true}
 use mathlib.Core.List.{List, [], ◌∷◌, ◌++◌, append-nil}
 use Prim.Native.Nat.{ℕ}
 use lib.ListN.{length}
-use Rattle.events.specs.Event.{Event}
+use Rattle.bus.specs.Event.{Event}
 use Rattle.control.specs.declared.Group.{Group}
 use Rattle.control.specs.declared.Group.TheVariants.{A, B}
 use Rattle.channel.specs.declared.Side.{Side}
@@ -15,16 +15,18 @@ use Rattle.chip.specs.declared.Edition.TheVariants.{Older, Newer}
 use Rattle.chip.specs.declared.Chip.{Chip}
 use Rattle.chip.specs.declared.Levels.{Levels}
 use Rattle.chip.specs.State.{power_up_as, tally_of}
-use Rattle.step.specs.Step.{stepped}
+use Rattle.chip.specs.Step.{stepped}
 use Rattle.image.specs.Layout.{image_of}
 use Rattle.image.specs.Good.{has_image}
+use Rattle.image.proofs.ComesBack.{comes_back}
 use Rattle.image.proofs.Long.{written_over}
+use Rattle.image.proofs.OneImage.{has-image}
 use Rattle.fates.specs.Bytes.{offered_at, bytes_of, values_and_fates}
 use Rattle.fates.specs.Promise.{run}
-use Rattle.calls.specs.Calls.{power_up_as_image}
+use Rattle.calls.specs.Calls.{power_up_as_image, step_image}
+use Rattle.calls.proofs.HostStep.{by_number}
 use Rattle.restored.specs.Host.{host_run, power_up_in}
 use Rattle.restored.proofs.Stays.{image-stays, power-up-has}
-use Rattle.journal.proofs.Held.{passed}
 use Rattle.journallaws.specs.Keeps.{Keeps, none, kept, dropped}
 use Rattle.journallaws.specs.Promise.{SameMeaning}
 use Rattle.journallaws.proofs.SameFates.{same-fates}
@@ -34,6 +36,12 @@ same-state : {c : Chip} {es ks : List Event} → Keeps c es ks → (new : List E
 same-state none new = refl
 same-state (kept changes rest) new = same-state rest new
 same-state (dropped {c} {e} {es} {ks} stays rest) new = ap (λ (x : Chip). run x (ks ++ new)) (sym stays) ∙ same-state rest new
+
+-- Of a chip with an image, what the step of its image leaves is the image of the chip after the event.
+passed : (c : Chip) → has_image c ≡ true → (e : Event) → step_image (image_of c) e.kind e.first e.second ≡ image_of (stepped c e).chip
+passed c has e =
+    subst (λ (d : Chip). step_image (image_of c) e.kind e.first e.second ≡ image_of (stepped d e).chip) (comes_back c has)
+    (by_number (image_of c) e.kind e.first e.second (λ l d. l ≡ image_of d) (has-image c has) refl (ap image_of (sym (comes_back c has))))
 
 -- The bytes that a host holds are the image of the chip.
 held : (c : Chip) (es : List Event) → has_image c ≡ true → host_run (image_of c) es ≡ image_of (run c es)

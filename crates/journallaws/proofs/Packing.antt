@@ -2,7 +2,7 @@
 use mathlib.Core.Path.{◌≡◌, ◌∙◌, ap, sym}
 use Prim.Native.Nat.{ℕ, ◌+◌, ◌*◌, ◌<◌}
 use native.Mathlib.Omega.{arith}
-use Rattle.events.specs.Event.{event}
+use Rattle.bus.specs.Event.{event}
 use Rattle.journal.specs.Words.{word_of, event_in}
 use Rattle.journal.proofs.Packed.{read_back}
 use Rattle.journallaws.specs.Packing.{Packs}

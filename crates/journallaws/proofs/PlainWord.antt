@@ -1,13 +1,13 @@
 -- Under the mode word of power-up nothing is ever set: the chip is as a reset leaves it, but for the bus and the levels outside.
--- Rests on events' ByKind, on levels', reads', settings' and writes' PortsAfter, and on fates' Accepted.
+-- Rests on the bus's ByKind, on chip's OnPort, SettingsAfter, ReadsAfter and LevelsAfter, and on fates' Accepted and Followed.
 use mathlib.Core.Path.{◌≡◌, ◌∙◌, refl, ap, sym, subst}
 use mathlib.Core.Bool.{Bool, true, false, cond}
 use mathlib.Core.List.{List, [], ◌∷◌}
 use Prim.Native.Nat.{ℕ, ◌/◌, ◌%◌}
 use lib.Dec.{eqb, ltb}
 use Rattle.bits.specs.Bit.{bit_of, value_of}
-use Rattle.events.specs.Event.{Event, event}
-use Rattle.events.proofs.ByKind.{by_kind}
+use Rattle.bus.specs.Event.{Event, event}
+use Rattle.bus.proofs.ByKind.{by_kind}
 use Rattle.bus.specs.Device.{after_in}
 use Rattle.bus.specs.declared.Phase.{Phase}
 use Rattle.bus.specs.declared.Phase.TheVariants.{Idle, Reading, Writing}
@@ -25,16 +25,16 @@ use Rattle.chip.specs.declared.Levels.{Levels}
 use Rattle.chip.specs.State.{power_up_as, with_port, with_latch, on_port}
 use Rattle.chip.specs.Handshakes.{strobed}
 use Rattle.chip.proofs.OnPort.{word_on}
-use Rattle.roles.specs.Role.{input, output, uses_of, free_role, role_of}
-use Rattle.settings.specs.ModeWord.{cleared_port, after_mode_word}
-use Rattle.settings.specs.ControlWord.{set_as, pin_set, after_control_word}
-use Rattle.settings.proofs.PortsAfter.{mode-word, mode-word-word, mode-word-latch, bit-word, bit-put}
-use Rattle.reads.specs.Read.{fetched_from, done_with, after_read_begins, after_read_ends}
-use Rattle.reads.proofs.PortsAfter.{begun-surrounded, ended-surrounded}
-use Rattle.writes.specs.Write.{stored_by, latch_written, after_write_ends}
-use Rattle.levels.specs.Levels.{edged, after_levels_on_c, port_after_levels, after_levels}
-use Rattle.levels.proofs.PortsAfter.{levels-word}
-use Rattle.step.specs.Step.{device, after_end}
+use Rattle.control.specs.Role.{input, output, uses_of, free_role, role_of}
+use Rattle.chip.specs.ModeWord.{cleared_port, after_mode_word}
+use Rattle.chip.specs.ControlWord.{set_as, pin_set, after_control_word}
+use Rattle.chip.proofs.SettingsAfter.{mode-word, mode-word-word, mode-word-latch, bit-word, bit-put}
+use Rattle.chip.specs.Read.{fetched_from, done_with, after_read_begins, after_read_ends}
+use Rattle.chip.proofs.ReadsAfter.{begun-surrounded, ended-surrounded}
+use Rattle.chip.specs.Write.{stored_by, latch_written, after_write_ends}
+use Rattle.chip.specs.Levels.{edged, after_levels_on_c, port_after_levels, after_levels}
+use Rattle.chip.proofs.LevelsAfter.{levels-word}
+use Rattle.chip.specs.Step.{device, after_end}
 use Rattle.fates.specs.Kinds.{kind_of, accepts}
 use Rattle.fates.specs.Promise.{run}
 use Rattle.fates.proofs.Accepted.{by-outcome, no-kind-accepted}

@@ -15,7 +15,7 @@ use Rattle.chip.specs.declared.Port.{Port}
 use Rattle.chip.specs.declared.Core.{Core}
 use Rattle.chip.specs.State.{port_of, with_port}
 use Rattle.chip.specs.Handshakes.{strobed, line_pin}
-use Rattle.levels.specs.Levels.{fallen, edged, line_falls, edges_on, after_levels_on_c, lets_through, port_after_levels, after_levels}
+use Rattle.chip.specs.Levels.{fallen, edged, line_falls, edges_on, after_levels_on_c, lets_through, port_after_levels, after_levels}
 
 -- Nothing falls where the levels stay.
 none-falls : (l n : ℕ) → fallen l l n ≡ false

@@ -1,5 +1,5 @@
 -- A word is a frame exactly where it is one in plain numbers.
--- Rests on bits' Logic, events' ByKind and journal's Packed.
+-- Rests on bits' Logic, the bus's ByKind and journal's Packed.
 use mathlib.Core.Path.{◌≡◌, ◌∙◌, refl, ap, subst}
 use mathlib.Core.Bool.{true, not, ◌&&◌}
 use mathlib.Core.List.{List, [], ◌∷◌}
@@ -8,9 +8,9 @@ use native.Mathlib.Omega.{arith}
 use lib.Dec.{eqb}
 use borrow.Author.Tests.{eqb-true}
 use Rattle.bits.proofs.Logic.{both, contrary}
-use Rattle.events.specs.Kinds.{is_kind, no_kind, operands_of}
-use Rattle.events.specs.Event.{Event, event}
-use Rattle.events.proofs.ByKind.{by_kind}
+use Rattle.bus.specs.Kinds.{is_kind, no_kind, operands_of}
+use Rattle.bus.specs.Event.{Event, event}
+use Rattle.bus.proofs.ByKind.{by_kind}
 use Rattle.journal.specs.Words.{word_of, event_in, unused_zero, is_frame, all_frames}
 use Rattle.journal.proofs.Packed.{packed-back, read_back}
 use Rattle.journallaws.specs.Frames.{Frame, reset, begin_read, end_cycle, begin_write, levels, Frames}

@@ -1,5 +1,5 @@
 -- What is promised of a call of the trim: its number, and where it is accepted what it leaves and what that means.
--- Rests on Kept, Meaning and Shapes, on journal's Trimming, and on restored's Stays.
+-- Rests on Kept, Meaning and Shapes, and on journal's Trimming.
 use mathlib.Core.Path.{◌≡◌, ◌∙◌, refl, ap, sym}
 use mathlib.Core.Bool.{Bool, true, false, cond}
 use mathlib.Core.List.{List, ◌++◌, append-nil}
@@ -13,7 +13,6 @@ use Rattle.chip.specs.declared.Edition.TheVariants.{Older, Newer}
 use Rattle.chip.specs.declared.Levels.{Levels}
 use Rattle.chip.specs.State.{power_up_as}
 use Rattle.image.specs.Layout.{edition_byte}
-use Rattle.restored.proofs.Stays.{power-up-has}
 use Rattle.journal.specs.Words.{all_frames}
 use Rattle.journal.specs.Trim.{kept_from, kept_of, trim_number, filled_up}
 use Rattle.journal.proofs.Trimming.{kept-at-most, refused_answer, refused-words, accepted_answer, accepted-words}
@@ -108,10 +107,10 @@ module _ (ed : Edition) (v : Levels) where
   trimmed ws few shapes =
       let all = shapes-all ws shapes in
       let ks = kept_in ws in
-      let again = kept_again (power_up_as ed v) (power-up-has ed v) ws in
+      let again = kept_again (power_up_as ed v) ws in
       let fewer : length ks ≤ 8192 = omega (arith, kept-at-most (power_up_as ed v) ws, few) in
       let frames = kept-frames (power_up_as ed v) ws all in
-      let kept : Keeps (power_up_as ed v) (events_in ws) (events_in ks) = keeps (power_up_as ed v) (power-up-has ed v) ws in
+      let kept : Keeps (power_up_as ed v) (events_in ws) (events_in ks) = keeps (power_up_as ed v) ws in
       record {
         accepted = omega (arith, answer ws few all);
         as_long = as-long ws few all;

@@ -1,6 +1,6 @@
 -- Which events are kept, told by the events alone ("Trimming the journal").
 use Rattle.std.specs.Prelude.{◌≡◌, true, false, List, [], ◌∷◌, ◌++◌, ℕ, ◌<◌}
-use Rattle.events.specs.Event.{Event, event}
+use Rattle.bus.specs.Event.{Event, event}
 use Rattle.bus.specs.declared.Phase.TheVariants.{Idle}
 use Rattle.control.specs.declared.Group.{Group}
 use Rattle.channel.specs.declared.Side.TheVariants.{Input}

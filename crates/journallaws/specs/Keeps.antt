@@ -1,10 +1,10 @@
 -- What is kept of a history, as a relation ("Trimming the journal"): no test of two states is in it, but whether they are equal.
 use Rattle.std.specs.Prelude.{◌≡◌, true, List, [], ◌∷◌, map, ℕ}
-use Rattle.events.specs.Event.{Event}
+use Rattle.bus.specs.Event.{Event}
 use Rattle.chip.specs.declared.Chip.{Chip}
-use Rattle.step.specs.Step.{stepped}
+use Rattle.chip.specs.Step.{stepped}
 use Rattle.journal.specs.Words.{event_in}
-use Rattle.journal.specs.Trim.{same_state}
+use Rattle.journal.specs.Same.{same_state}
 
 -- The history that a journal is: the event of each word.
 abbrev pub events_in : List ℕ → List Event

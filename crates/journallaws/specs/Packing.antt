@@ -1,6 +1,6 @@
 -- Which event a word packs, in plain numbers ("Trimming the journal").
 use Rattle.std.specs.Prelude.{◌≡◌, ℕ, ◌+◌, ◌*◌}
-use Rattle.events.specs.Event.{event}
+use Rattle.bus.specs.Event.{event}
 use Rattle.journal.specs.Words.{word_of, event_in}
 
 -- The word of an event is its kind times 65,536, its first operand times 256, and its second; and that word is read as that event.

@@ -1,5 +1,5 @@
 -- What it would take: with the one cause altered, a half of which no later reason is seen is high ("Why the interrupt is quiet").
--- Rests on Interrupts and Quiet, on status' ByReason and on bits' BitLaws.
+-- Rests on Interrupts, Quiet, bits' BitLaws, and chip's ByReason.
 use mathlib.Core.Path.{◌≡◌, ◌∙◌, refl, ap, sym}
 use mathlib.Core.Bool.{true, false, not}
 use lib.Dec.{lit<}
@@ -11,10 +11,10 @@ use Rattle.channel.specs.declared.Side.TheVariants.{Input, Output}
 use Rattle.channel.specs.Channel.{flag_of}
 use Rattle.chip.specs.declared.Chip.{Chip}
 use Rattle.chip.specs.Handshakes.{strobed}
-use Rattle.status.specs.declared.reasons.Reason.{Reason}
-use Rattle.status.specs.declared.reasons.Reason.TheVariants.{EnableOff, FlagWrong, LineLow, OwnCycle, High}
-use Rattle.status.specs.Reasons.{holds, reason_of}
-use Rattle.status.proofs.ByReason.{NoneHolds, by-reason, none_named, none-asks}
+use Rattle.chip.specs.declared.reasons.Reason.{Reason}
+use Rattle.chip.specs.declared.reasons.Reason.TheVariants.{EnableOff, FlagWrong, LineLow, OwnCycle, High}
+use Rattle.chip.specs.Reasons.{holds, reason_of}
+use Rattle.chip.proofs.ByReason.{NoneHolds, by-reason, none_named, none-asks}
 use Rattle.laws.specs.Quiet.{later, NoneSeen}
 use Rattle.laws.specs.Altered.{altered, HalfHigh}
 use Rattle.laws.proofs.Interrupts.{none_runs}

@@ -1,26 +1,26 @@
 -- The one way through all events: what is so of each thing that an event can leave of the chip is so after every event.
--- Rests on Cycles, bits' Logic, events' ByKind, writes' PortsAfter, and the step's Ends and Outcome.
+-- Rests on Cycles, bits' Logic, the bus's ByKind, and chip's WritesAfter, Ends and Outcome.
 use mathlib.Core.Path.{◌≡◌, ◌∙◌, refl, ap}
 use mathlib.Core.Bool.{true, false}
 use Prim.Native.Nat.{ℕ}
 use Rattle.bits.specs.Bit.{bit_of}
 use Rattle.bits.proofs.Logic.{contrary}
-use Rattle.events.proofs.ByKind.{by_kind}
+use Rattle.bus.proofs.ByKind.{by_kind}
 use Rattle.bus.specs.declared.Phase.{Phase}
 use Rattle.bus.specs.declared.Phase.TheVariants.{Idle, Reading, Writing}
 use Rattle.bus.specs.Refusals.{number_of}
 use Rattle.chip.specs.declared.Core.{Core}
 use Rattle.chip.specs.declared.Chip.{Chip}
 use Rattle.chip.specs.State.{power_up_word, with_latch}
-use Rattle.settings.specs.ModeWord.{after_mode_word}
-use Rattle.settings.specs.ControlWord.{after_control_word}
-use Rattle.reads.specs.Read.{after_read_begins, after_read_ends}
-use Rattle.writes.specs.Write.{latch_written}
-use Rattle.writes.proofs.PortsAfter.{Stored, by-write}
-use Rattle.levels.specs.Levels.{after_levels}
-use Rattle.step.specs.Step.{limits, on_bus, step_of}
-use Rattle.step.proofs.Ends.{by-phase}
-use Rattle.step.proofs.Outcome.{step-either}
+use Rattle.chip.specs.ModeWord.{after_mode_word}
+use Rattle.chip.specs.ControlWord.{after_control_word}
+use Rattle.chip.specs.Read.{after_read_begins, after_read_ends}
+use Rattle.chip.specs.Write.{latch_written}
+use Rattle.chip.proofs.WritesAfter.{Stored, by-write}
+use Rattle.chip.specs.Levels.{after_levels}
+use Rattle.chip.specs.Step.{limits, on_bus, step_of}
+use Rattle.chip.proofs.Ends.{by-phase}
+use Rattle.chip.proofs.Outcome.{step-either}
 use Rattle.laws.specs.Seen.{makes_anew}
 use Rattle.laws.proofs.Cycles.{no-kind-refused}
 

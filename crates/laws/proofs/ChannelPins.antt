@@ -1,5 +1,5 @@
 -- What the pins of a strobed channel show: its flag, its line, its group's INTR ("Port C roles", "Reads and pins").
--- Rests on bits' Logic, Tested and BitLaws, on roles' SameWords and PinByMasks, on chip's StrobedWords and OneChannel, and on settings' Flags.
+-- Rests on bits' Logic, Tested and BitLaws, control's RoleWords and PinByMasks, and chip's StrobedWords, OneChannel and Flags.
 use mathlib.Core.Path.{◌≡◌, ◌∙◌, refl, ap, sym, subst}
 use mathlib.Core.Bool.{Bool, true, not, ◌||◌, or-true}
 use Prim.Native.Nat.{ℕ, ◌%◌, ◌<◌}
@@ -13,19 +13,19 @@ use Rattle.bits.proofs.BitLaws.{bit-of-assembled}
 use Rattle.control.specs.declared.Group.{Group}
 use Rattle.control.specs.declared.Group.TheVariants.{A, B}
 use Rattle.control.specs.Mode.{mode_of, input_of, upper_input, lower_input, strobed_input, strobed_output}
-use Rattle.roles.specs.Role.{Role, INTR, STB, ACK, number, uses_of, free_role, role_of}
-use Rattle.roles.proofs.SameWords.{role-as-byte}
-use Rattle.roles.proofs.PinByMasks.{number-one}
+use Rattle.control.specs.Role.{Role, INTR, STB, ACK, number, uses_of, free_role, role_of}
+use Rattle.control.proofs.RoleWords.{role-as-byte}
+use Rattle.control.proofs.PinByMasks.{number-one}
 use Rattle.channel.specs.declared.Side.{Side}
 use Rattle.channel.specs.declared.Side.TheVariants.{Input, Output}
 use Rattle.chip.specs.declared.Chip.{Chip}
 use Rattle.chip.specs.Handshakes.{strobed, line_pin, flag_pin, group_at, enable_of}
 use Rattle.chip.proofs.StrobedWords.{strobed-as-byte}
 use Rattle.chip.proofs.OneChannel.{same_group}
-use Rattle.settings.proofs.Flags.{flag_role, flag-by-role}
-use Rattle.status.specs.Status.{flag_at, intr_of}
-use Rattle.ports.specs.Reads.{read_as, read_lines, read_of}
-use Rattle.ports.specs.Pins.{level_as, pins_of_lines, pins_of}
+use Rattle.chip.proofs.Flags.{flag_role, flag-by-role}
+use Rattle.chip.specs.Status.{flag_at, intr_of}
+use Rattle.chip.specs.Reads.{read_as, read_lines, read_of}
+use Rattle.chip.specs.Pins.{level_as, pins_of_lines, pins_of}
 use Rattle.laws.specs.Seen.{pin, told, intr_pin}
 
 -- A role that a pin has under every mode word that strobes a channel, found by trying every byte.

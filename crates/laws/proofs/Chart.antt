@@ -10,8 +10,8 @@ use Rattle.control.specs.declared.Group.TheVariants.{A, B}
 use Rattle.control.specs.Mode.{input_of, upper_input, lower_input, directions_of}
 use Rattle.chip.specs.declared.Chip.{Chip}
 use Rattle.chip.specs.Handshakes.{own_address}
-use Rattle.ports.specs.declared.Pins.{Pins}
-use Rattle.ports.specs.Pins.{pins_of}
+use Rattle.bus.specs.declared.Pins.{Pins}
+use Rattle.chip.specs.Pins.{pins_of}
 use Rattle.laws.specs.PlainBits.{goes_both_ways, handshake, into, used, into_c}
 use Rattle.laws.specs.Chart.{LinesCharted, AsCharted}
 use Rattle.laws.proofs.PlainBits.{by-pin}

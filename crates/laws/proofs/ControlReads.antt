@@ -1,6 +1,6 @@
 -- A read of control: refused with 3 by the older edition, and by the newer answered with the mode word read back, while nothing but the bus moves
 -- ("The 82C55A").
--- Rests on Cycles, ShowsAlike and Unreached, bits' BitLaws, events' ByKind, and the step's Outcome.
+-- Rests on Cycles, ShowsAlike, Unreached, bits' BitLaws, the bus's ByKind, and chip's Outcome.
 use mathlib.Core.Path.{◌≡◌, ◌∙◌, refl, sym, ap, subst}
 use mathlib.Core.Bool.{Bool, true, false, cond, not, ◌||◌}
 use Prim.Native.Nat.{ℕ}
@@ -8,8 +8,8 @@ use native.Mathlib.Omega.{arith}
 use lib.Dec.{eqb, ltb, lit<}
 use borrow.Author.Tests.{ne_eqb, eqb-false}
 use Rattle.bits.proofs.BitLaws.{bit-of-with}
-use Rattle.events.specs.Kinds.{is_kind}
-use Rattle.events.proofs.ByKind.{by_kind}
+use Rattle.bus.specs.Kinds.{is_kind}
+use Rattle.bus.proofs.ByKind.{by_kind}
 use Rattle.bus.specs.declared.Phase.{Phase}
 use Rattle.bus.specs.declared.Phase.TheVariants.{Idle, Reading, Writing}
 use Rattle.bus.specs.Refusals.{is_busy, number_of}
@@ -22,10 +22,10 @@ use Rattle.chip.specs.declared.Edition.{Edition}
 use Rattle.chip.specs.declared.Edition.TheVariants.{Older, Newer}
 use Rattle.chip.specs.declared.Chip.{Chip}
 use Rattle.chip.specs.Handshakes.{running}
-use Rattle.reads.specs.Read.{after_read_begins}
-use Rattle.ports.specs.Reads.{read_control, read_of}
-use Rattle.step.specs.Step.{limits, on_bus, as_stepped, step_of}
-use Rattle.step.proofs.Outcome.{step-accepts, step-number, step-either}
+use Rattle.chip.specs.Read.{after_read_begins}
+use Rattle.chip.specs.Reads.{read_control, read_of}
+use Rattle.chip.specs.Step.{limits, on_bus, as_stepped, step_of}
+use Rattle.chip.proofs.Outcome.{step-accepts, step-number, step-either}
 use Rattle.laws.specs.Editions.{ShowsAlike, ReadBack, ControlRead, ControlReadEnds}
 use Rattle.laws.proofs.Cycles.{facts, read-answers}
 use Rattle.laws.proofs.ShowsAlike.{shows_alike}

@@ -1,10 +1,10 @@
 -- The facts about cycles, of the chip of either edition: those of every device on the bus, applied to this one ("Events and numbers", "State").
--- Rests on the bus's Facts and Numbering, and the step's Outcome.
+-- Rests on the bus's Facts and Numbering, and chip's Outcome.
 use mathlib.Core.Path.{◌≡◌, ◌∙◌, refl, ap}
 use mathlib.Core.Bool.{true, false}
 use Prim.Native.Nat.{ℕ}
 use lib.ListN.{get_or}
-use Rattle.events.specs.Kinds.{no_kind}
+use Rattle.bus.specs.Kinds.{no_kind}
 use Rattle.bus.specs.declared.Phase.{Phase}
 use Rattle.bus.specs.Refusals.{limits_of, row, rows, number_of}
 use Rattle.bus.specs.Facts.{Facts}
@@ -13,9 +13,9 @@ use Rattle.bus.proofs.Numbering as numbering
 use Rattle.chip.specs.declared.Edition.{Edition}
 use Rattle.chip.specs.declared.Edition.TheVariants.{Older, Newer}
 use Rattle.chip.specs.declared.Chip.{Chip}
-use Rattle.ports.specs.Reads.{read_of}
-use Rattle.step.specs.Step.{limits, device, as_stepped, refused, step_of}
-use Rattle.step.proofs.Outcome.{step-refuses, step-number}
+use Rattle.chip.specs.Reads.{read_of}
+use Rattle.chip.specs.Step.{limits, device, as_stepped, refused, step_of}
+use Rattle.chip.proofs.Outcome.{step-refuses, step-number}
 use Rattle.laws.specs.Editions.{addresses_read}
 
 -- There are four addresses and three ports; of the addresses three can be read, and of the newer edition all.

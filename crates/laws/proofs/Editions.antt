@@ -1,21 +1,21 @@
 -- The two editions differ in nothing but the read of control: any other event does in the one what it does in the other ("The 82C55A").
--- Rests on ShowsAlike, events' ByKind, and the step's Outcome.
+-- Rests on ShowsAlike, the bus's ByKind, and chip's Outcome.
 use mathlib.Core.Path.{◌≡◌, ◌∙◌, refl, sym, ap}
 use mathlib.Core.Bool.{Bool, true, false, cond, not, ◌||◌}
 use Prim.Native.Nat.{ℕ}
 use native.Mathlib.Omega.{arith}
 use lib.Dec.{eqb, ltb}
 use borrow.Author.Tests.{eqb-true, eqb-false, lt-ltb, ltb-true}
-use Rattle.events.specs.Kinds.{is_kind}
-use Rattle.events.proofs.ByKind.{by_kind, no-kind-differs}
+use Rattle.bus.specs.Kinds.{is_kind}
+use Rattle.bus.proofs.ByKind.{by_kind, no-kind-differs}
 use Rattle.bus.specs.declared.Phase.{Phase}
 use Rattle.bus.specs.Refusals.{is_busy, number_of}
 use Rattle.bus.specs.Device.{after_in, byte_in}
 use Rattle.chip.specs.declared.Edition.{Edition}
 use Rattle.chip.specs.declared.Edition.TheVariants.{Older, Newer}
 use Rattle.chip.specs.declared.Chip.{Chip}
-use Rattle.step.specs.Step.{readable, limits, device, step_of}
-use Rattle.step.proofs.Outcome.{step-accepts, step-refuses, step-either}
+use Rattle.chip.specs.Step.{readable, limits, device, step_of}
+use Rattle.chip.proofs.Outcome.{step-accepts, step-refuses, step-either}
 use Rattle.laws.specs.Editions.{as_edition, given_as, reads_control, ShowsAlike}
 use Rattle.laws.proofs.ShowsAlike.{shows_alike, read_same}
 

@@ -1,13 +1,13 @@
 -- The enables move only by a word written to control, as its write ends, and by a reset ("Writes and bit set/reset").
--- Rests on ByEvent, bits' Logic, and reads' and levels' PortsAfter.
+-- Rests on ByEvent, bits' Logic, and chip's ReadsAfter and LevelsAfter.
 use mathlib.Core.Path.{◌≡◌, refl, ap}
 use mathlib.Core.Bool.{false}
 use Prim.Native.Nat.{ℕ}
 use Rattle.bits.proofs.Logic.{contrary}
 use Rattle.chip.specs.declared.Chip.{Chip}
-use Rattle.reads.proofs.PortsAfter.{begun-enables, ended-enables}
-use Rattle.levels.proofs.PortsAfter.{levels-enables}
-use Rattle.step.specs.Step.{step_of}
+use Rattle.chip.proofs.ReadsAfter.{begun-enables, ended-enables}
+use Rattle.chip.proofs.LevelsAfter.{levels-enables}
+use Rattle.chip.specs.Step.{step_of}
 use Rattle.laws.specs.Seen.{commands}
 use Rattle.laws.proofs.ByEvent.{by-event}
 

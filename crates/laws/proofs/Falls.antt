@@ -1,6 +1,6 @@
 -- Only the fall of a channel's line offers a byte or takes one: in every state, new levels that make none leave the channel's condition and
 -- its tallies. No levels at all touch an output's latch ("Handshake").
--- Rests on bits' Logic, the channel's ConditionsLeft, levels' PortsAfter and the step's Outcome.
+-- Rests on bits' Logic, the channel's ConditionsLeft, and chip's LevelsAfter and Outcome.
 use mathlib.Core.Path.{◌≡◌, ◌∙◌, refl, ap}
 use mathlib.Core.Bool.{Bool, true, false, cond, ◌&&◌, and-false}
 use Prim.Native.Nat.{ℕ}
@@ -17,10 +17,10 @@ use Rattle.chip.specs.declared.Core.{Core}
 use Rattle.chip.specs.declared.Chip.{Chip}
 use Rattle.chip.specs.State.{channel_of}
 use Rattle.chip.specs.Handshakes.{strobed, line_pin, own_address}
-use Rattle.levels.specs.Levels.{fallen, line_falls, lets_through, after_levels}
-use Rattle.levels.proofs.PortsAfter.{levels-input, levels-output}
-use Rattle.step.specs.Step.{step_of}
-use Rattle.step.proofs.Outcome.{step-either}
+use Rattle.chip.specs.Levels.{fallen, line_falls, lets_through, after_levels}
+use Rattle.chip.proofs.LevelsAfter.{levels-input, levels-output}
+use Rattle.chip.specs.Step.{step_of}
+use Rattle.chip.proofs.Outcome.{step-either}
 use Rattle.laws.specs.Kept.{Kept}
 
 -- A channel that is the same is kept.

@@ -1,6 +1,6 @@
 -- What each event can leave of a channel's condition, in every state: the ground of the theorems on the flags and on INTR.
--- Rests on ByEvent, bits' Logic, the channel's ConditionsLeft, chip's Surrounded, settings' Flags,
--- and settings', reads', writes' and levels' PortsAfter.
+-- Rests on ByEvent, bits' Logic, the channel's ConditionsLeft, and chip's Surrounded, Flags, SettingsAfter, ReadsAfter, WritesAfter and
+-- LevelsAfter.
 use mathlib.Core.Path.{◌≡◌, ◌∙◌, refl, ap}
 use mathlib.Core.Bool.{Bool, true, false, cond, not, ◌&&◌}
 use Prim.Native.Nat.{ℕ, ◌/◌, ◌%◌}
@@ -23,17 +23,17 @@ use Rattle.chip.specs.declared.Chip.{Chip}
 use Rattle.chip.specs.State.{power_up_word, port_of, channel_of}
 use Rattle.chip.specs.Handshakes.{own_address, strobed, flag_pin, running}
 use Rattle.chip.proofs.Surrounded.{Spared, latch-spares, spared-channel}
-use Rattle.settings.specs.ModeWord.{after_mode_word}
-use Rattle.settings.specs.ControlWord.{after_control_word}
-use Rattle.settings.proofs.Flags.{flag_at_pin}
-use Rattle.settings.proofs.PortsAfter.{mode-word-channel, bit-put}
-use Rattle.reads.specs.Read.{after_read_begins, after_read_ends}
-use Rattle.reads.proofs.PortsAfter.{begun-input, begun-output, ended-input, ended-output}
-use Rattle.writes.specs.Write.{stored_in, latch_written}
-use Rattle.writes.proofs.PortsAfter.{Stored}
-use Rattle.levels.specs.Levels.{line_falls, lets_through, after_levels}
-use Rattle.levels.proofs.PortsAfter.{levels-input, levels-output}
-use Rattle.step.specs.Step.{step_of}
+use Rattle.chip.specs.ModeWord.{after_mode_word}
+use Rattle.chip.specs.ControlWord.{after_control_word}
+use Rattle.chip.proofs.Flags.{flag_at_pin}
+use Rattle.chip.proofs.SettingsAfter.{mode-word-channel, bit-put}
+use Rattle.chip.specs.Read.{after_read_begins, after_read_ends}
+use Rattle.chip.proofs.ReadsAfter.{begun-input, begun-output, ended-input, ended-output}
+use Rattle.chip.specs.Write.{stored_in, latch_written}
+use Rattle.chip.proofs.WritesAfter.{Stored}
+use Rattle.chip.specs.Levels.{line_falls, lets_through, after_levels}
+use Rattle.chip.proofs.LevelsAfter.{levels-input, levels-output}
+use Rattle.chip.specs.Step.{step_of}
 use Rattle.laws.specs.Seen.{makes_anew, puts}
 use Rattle.laws.proofs.ByEvent.{by-event}
 

@@ -6,7 +6,7 @@ use mathlib.Core.Bool.{true, false, ◌&&◌}
 use Prim.Native.Nat.{ℕ}
 use lib.Dec.{eqb}
 use Rattle.bits.specs.Bit.{bit_of}
-use Rattle.events.specs.Kinds.{is_kind}
+use Rattle.bus.specs.Kinds.{is_kind}
 use Rattle.bus.specs.Refusals.{number_of}
 use Rattle.bus.specs.declared.Phase.{Phase}
 use Rattle.control.specs.declared.Group.{Group}
@@ -14,9 +14,9 @@ use Rattle.channel.specs.declared.Side.{Side}
 use Rattle.chip.specs.declared.Edition.{Edition}
 use Rattle.chip.specs.declared.Chip.{Chip}
 use Rattle.chip.specs.Handshakes.{strobed, line_pin, flag_pin}
-use Rattle.status.specs.Status.{flag_at}
-use Rattle.levels.specs.Levels.{fallen, line_falls}
-use Rattle.step.specs.Step.{limits}
+use Rattle.chip.specs.Status.{flag_at}
+use Rattle.chip.specs.Levels.{fallen, line_falls}
+use Rattle.chip.specs.Step.{limits}
 use Rattle.laws.specs.Seen.{pin, lowers}
 use Rattle.laws.proofs.ChannelPins.{flag-pin, line-pin}
 

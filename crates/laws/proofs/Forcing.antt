@@ -1,6 +1,6 @@
 -- A flag that is forced, in every state: the pin shows the level to which it was put, but for IBF while a byte is fetched; and what it said before
 -- and says now is counted ("Writes and bit set/reset", "Forcing the flags").
--- Rests on ChannelPins and FlagAfter, on the channel's ConditionsLeft, settings' PortsAfter and the step's Ends.
+-- Rests on ChannelPins, FlagAfter, the channel's ConditionsLeft, and chip's SettingsAfter and Ends.
 use mathlib.Core.Path.{◌≡◌, ◌∙◌, refl, ap}
 use mathlib.Core.Bool.{Bool, true, false}
 use Prim.Native.Nat.{ℕ, ◌/◌, ◌%◌}
@@ -19,11 +19,11 @@ use Rattle.channel.proofs.ConditionsLeft.{forced_to, force-leaves, force-keeps}
 use Rattle.chip.specs.declared.Chip.{Chip}
 use Rattle.chip.specs.State.{channel_of}
 use Rattle.chip.specs.Handshakes.{strobed, flag_pin}
-use Rattle.settings.specs.ControlWord.{after_control_word}
-use Rattle.settings.proofs.PortsAfter.{bit-put}
-use Rattle.writes.specs.Write.{after_write_ends}
-use Rattle.step.specs.Step.{step_of}
-use Rattle.step.proofs.Ends.{write-ends}
+use Rattle.chip.specs.ControlWord.{after_control_word}
+use Rattle.chip.proofs.SettingsAfter.{bit-put}
+use Rattle.chip.specs.Write.{after_write_ends}
+use Rattle.chip.specs.Step.{step_of}
+use Rattle.chip.proofs.Ends.{write-ends}
 use Rattle.laws.specs.Forcing.{forced_level, counted_by_flag, Forced}
 use Rattle.laws.proofs.ChannelPins.{flag-pin}
 use Rattle.laws.proofs.FlagAfter.{flag-under}

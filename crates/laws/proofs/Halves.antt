@@ -1,12 +1,12 @@
 -- Which cycles drop which half of INTR, in every state: a read or a write drops its own as it begins, and no other; a cycle elsewhere leaves INTR
 -- as it was ("Handshake").
--- Rests on ByEvent, Cycles, FillAfter, Interrupts, bits' Logic, chip's Surrounded, reads' and writes' PortsAfter, and the step's Outcome.
+-- Rests on Cycles, ByEvent, FillAfter, Interrupts, bits' Logic, and chip's Surrounded, ReadsAfter and Outcome.
 use mathlib.Core.Path.{◌≡◌, ◌∙◌, refl, ap, sym, ap₂}
 use mathlib.Core.Bool.{Bool, true, false, not, ◌&&◌, ◌||◌}
 use Prim.Native.Nat.{ℕ}
 use borrow.Author.Tests.{not-true}
 use Rattle.bits.proofs.Logic.{contrary}
-use Rattle.events.specs.Kinds.{begins}
+use Rattle.bus.specs.Kinds.{begins}
 use Rattle.bus.specs.Device.{after_in}
 use Rattle.bus.specs.Refusals.{number_of}
 use Rattle.bus.specs.declared.Phase.{Phase}
@@ -20,11 +20,10 @@ use Rattle.chip.specs.declared.Chip.{Chip}
 use Rattle.chip.specs.State.{channel_of}
 use Rattle.chip.specs.Handshakes.{own_address, running}
 use Rattle.chip.proofs.Surrounded.{Surrounded, latch-spares, spared-channel, spared-surrounded}
-use Rattle.status.specs.Status.{request_of, intr_of}
-use Rattle.reads.proofs.PortsAfter.{begun-surrounded, begun-enables, ended-surrounded, ended-enables}
-use Rattle.step.specs.declared.Stepped.{Stepped}
-use Rattle.step.specs.Step.{limits, device, step_of}
-use Rattle.step.proofs.Outcome.{step-accepts, step-number, step-either}
+use Rattle.chip.specs.Status.{request_of, intr_of}
+use Rattle.chip.proofs.ReadsAfter.{begun-surrounded, begun-enables, ended-surrounded, ended-enables}
+use Rattle.chip.specs.Step.{Stepped, limits, device, step_of}
+use Rattle.chip.proofs.Outcome.{step-accepts, step-number, step-either}
 use Rattle.laws.specs.Seen.{commands}
 use Rattle.laws.specs.Halves.{spares, HalfAfter, IntrAfter}
 use Rattle.laws.proofs.Cycles.{row-refuses}

@@ -1,6 +1,7 @@
 -- IBF as the sheet has it, in every state: set by the fall of STB, reset by the end of the read, forced by bit set/reset, and moved by nothing
 -- else but a mode word and a reset ("Handshake", "Forcing the flags").
--- Rests on FillAfter, FlagAfter, Forcing, ChannelPins, bits' Logic, the channel's ConditionsLeft, reads' and levels' PortsAfter, and the step's Ends and Outcome.
+-- Rests on ChannelPins, FillAfter, Forcing, FlagAfter, bits' Logic, the channel's ConditionsLeft, and chip's ReadsAfter, LevelsAfter, Ends
+-- and Outcome.
 use mathlib.Core.Path.{◌≡◌, ◌∙◌, refl, sym, subst}
 use mathlib.Core.Bool.{Bool, true, false, or-true}
 use Prim.Native.Nat.{ℕ}
@@ -18,14 +19,14 @@ use Rattle.chip.specs.declared.Core.{Core}
 use Rattle.chip.specs.declared.Chip.{Chip}
 use Rattle.chip.specs.State.{port_of, channel_of}
 use Rattle.chip.specs.Handshakes.{strobed, line_pin, own_address, reading, flag_pin}
-use Rattle.status.specs.Status.{flag_at}
-use Rattle.reads.specs.Read.{after_read_ends}
-use Rattle.reads.proofs.PortsAfter.{begun-surrounded, ended-input, ended-surrounded}
-use Rattle.levels.specs.Levels.{line_falls, after_levels}
-use Rattle.levels.proofs.PortsAfter.{levels-input, levels-word}
-use Rattle.step.specs.Step.{step_of}
-use Rattle.step.proofs.Ends.{read-ends}
-use Rattle.step.proofs.Outcome.{step-accepts, step-either}
+use Rattle.chip.specs.Status.{flag_at}
+use Rattle.chip.specs.Read.{after_read_ends}
+use Rattle.chip.proofs.ReadsAfter.{begun-surrounded, ended-input, ended-surrounded}
+use Rattle.chip.specs.Levels.{line_falls, after_levels}
+use Rattle.chip.proofs.LevelsAfter.{levels-input, levels-word}
+use Rattle.chip.specs.Step.{step_of}
+use Rattle.chip.proofs.Ends.{read-ends}
+use Rattle.chip.proofs.Outcome.{step-accepts, step-either}
 use Rattle.laws.specs.Seen.{pin, makes_anew, puts}
 use Rattle.laws.specs.Flags.{moves_ibf}
 use Rattle.laws.proofs.ChannelPins.{flag-pin}

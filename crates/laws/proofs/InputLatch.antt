@@ -1,7 +1,7 @@
 -- What loads an input latch, in every state: the fall of STB, and levels on the port's own lines while STB is low. Nothing else but a mode
 -- word and a reset touches it ("Handshake").
--- Rests on ByEvent, ChannelPins, FlagAfter, OwnPort, bits' Logic, the channel's ConditionsLeft, ports' Strobed, chip's OnPort and Surrounded,
--- settings' Flags, settings', reads', writes' and levels' PortsAfter, and the step's Outcome.
+-- Rests on ByEvent, ChannelPins, FlagAfter, OwnPort, bits' Logic, the channel's ConditionsLeft, and chip's OnPort, Surrounded, Flags,
+-- SettingsAfter, ReadsAfter, LevelsAfter, Strobed and Outcome.
 use mathlib.Core.Path.{◌≡◌, ◌∙◌, refl, ap, sym, subst}
 use mathlib.Core.Bool.{Bool, true, false, cond, not, ◌&&◌, ◌||◌, and-false}
 use Prim.Native.Nat.{ℕ, ◌/◌, ◌%◌}
@@ -18,21 +18,21 @@ use Rattle.channel.proofs.ConditionsLeft.{offer-latches, follow-latches, hand-ov
 use Rattle.chip.specs.declared.Core.{Core}
 use Rattle.chip.specs.declared.Chip.{Chip}
 use Rattle.chip.specs.State.{port_of, channel_of}
-use Rattle.writes.specs.Write.{latch_written}
+use Rattle.chip.specs.Write.{latch_written}
 use Rattle.chip.specs.Handshakes.{strobed, line_pin, own_address}
 use Rattle.chip.proofs.OnPort.{lines-not-own}
 use Rattle.chip.proofs.Surrounded.{Spared, latch-spares, spared-channel}
-use Rattle.settings.specs.ControlWord.{after_control_word}
-use Rattle.settings.proofs.Flags.{flag_at_pin}
-use Rattle.settings.proofs.PortsAfter.{bit-put}
-use Rattle.reads.specs.Read.{after_read_begins, after_read_ends}
-use Rattle.reads.proofs.PortsAfter.{begun-input, ended-input}
-use Rattle.levels.specs.Levels.{fallen, line_falls, lets_through, after_levels}
-use Rattle.levels.proofs.PortsAfter.{levels-input, levels-word}
-use Rattle.ports.specs.Reads.{read_of}
-use Rattle.ports.proofs.Strobed.{strobed-reads}
-use Rattle.step.specs.Step.{step_of}
-use Rattle.step.proofs.Outcome.{step-accepts}
+use Rattle.chip.specs.ControlWord.{after_control_word}
+use Rattle.chip.proofs.Flags.{flag_at_pin}
+use Rattle.chip.proofs.SettingsAfter.{bit-put}
+use Rattle.chip.specs.Read.{after_read_begins, after_read_ends}
+use Rattle.chip.proofs.ReadsAfter.{begun-input, ended-input}
+use Rattle.chip.specs.Levels.{fallen, line_falls, lets_through, after_levels}
+use Rattle.chip.proofs.LevelsAfter.{levels-input, levels-word}
+use Rattle.chip.specs.Reads.{read_of}
+use Rattle.chip.proofs.Strobed.{strobed-reads}
+use Rattle.chip.specs.Step.{step_of}
+use Rattle.chip.proofs.Outcome.{step-accepts}
 use Rattle.laws.specs.Seen.{pin, lowers, makes_anew}
 use Rattle.laws.specs.Loads.{comes_under_low, loads}
 use Rattle.laws.proofs.ByEvent.{not-anew, by-event}

@@ -1,6 +1,6 @@
 -- INTR as the sheet gives it, in every state: the equation under its figure of mode 2, and each half alone in mode 1; and that the
 -- beginning of the own read or write drops it ("Handshake").
--- Rests on ChannelPins, on control's ModeTwo and Strobed, on status' ByReason, and on the step's Outcome.
+-- Rests on ChannelPins, control's ModeTwo and Strobed, and chip's ByReason and Outcome.
 use mathlib.Core.Path.{◌≡◌, ◌∙◌, refl, ap, sym}
 use mathlib.Core.Bool.{Bool, true, false, not, ◌&&◌, ◌||◌, or-false}
 use Prim.Native.Nat.{ℕ}
@@ -17,10 +17,10 @@ use Rattle.channel.specs.declared.Side.{Side}
 use Rattle.channel.specs.declared.Side.TheVariants.{Input, Output}
 use Rattle.chip.specs.declared.Chip.{Chip}
 use Rattle.chip.specs.Handshakes.{strobed, line_pin, enable_of, own_address, running}
-use Rattle.status.specs.Status.{flag_at, request_of, intr_of}
-use Rattle.status.proofs.ByReason.{quiet}
-use Rattle.step.specs.Step.{limits, step_of}
-use Rattle.step.proofs.Outcome.{step-accepts}
+use Rattle.chip.specs.Status.{flag_at, request_of, intr_of}
+use Rattle.chip.proofs.ByReason.{quiet}
+use Rattle.chip.specs.Step.{limits, step_of}
+use Rattle.chip.proofs.Outcome.{step-accepts}
 use Rattle.laws.specs.Seen.{pin, intr_pin}
 use Rattle.laws.specs.Halves.{half, other}
 use Rattle.laws.proofs.ChannelPins.{flag-pin, line-pin, intr-pin}

@@ -1,5 +1,5 @@
 -- Port A in mode 2, which is bit 6: driven exactly while ACK is low, when it shows its output latch; read as its input latch ("Reads and pins").
--- Rests on PlainBits, ChannelPins, OwnPort, ports' Strobed and control's ModeTwo.
+-- Rests on PlainBits, ChannelPins, OwnPort, control's ModeTwo, and chip's Strobed.
 use mathlib.Core.Path.{◌≡◌, ◌∙◌, refl}
 use mathlib.Core.Bool.{Bool, true, false, cond, not}
 use Rattle.bits.specs.Bit.{bit_of}
@@ -8,9 +8,9 @@ use Rattle.control.specs.Mode.{mode_of}
 use Rattle.control.proofs.ModeTwo.{mode-2-both-ways}
 use Rattle.channel.specs.declared.Side.TheVariants.{Output}
 use Rattle.chip.specs.declared.Chip.{Chip}
-use Rattle.ports.specs.declared.Pins.{Pins}
-use Rattle.ports.specs.Pins.{drives_port, pins_of_port, pins_of}
-use Rattle.ports.proofs.Strobed.{strobed-reads}
+use Rattle.bus.specs.declared.Pins.{Pins}
+use Rattle.chip.specs.Pins.{drives_port, pins_of_port, pins_of}
+use Rattle.chip.proofs.Strobed.{strobed-reads}
 use Rattle.laws.specs.Ports.{GivesAndTakes}
 use Rattle.laws.proofs.PlainBits.{mode-by-bits}
 use Rattle.laws.proofs.ChannelPins.{line-pin}

@@ -1,21 +1,21 @@
 -- Every mode word, the same one again included, and a reset make the chip anew; after a reset every pin is an input ("State",
 -- "Mode words").
--- Rests on the channel's ConditionsLeft, settings' PortsAfter, roles' PinByMasks, bits' Tested and the step's Ends.
+-- Rests on bits' Tested, control's PinByMasks, the channel's ConditionsLeft, and chip's SettingsAfter and Ends.
 use mathlib.Core.Path.{◌≡◌, ◌∙◌, refl, ap}
 use mathlib.Core.Bool.{Bool, true, false, cond}
 use Prim.Native.Nat.{ℕ, ◌<◌}
 use lib.Dec.{eqb}
 use Rattle.bits.specs.Bit.{bit_of, value_of}
 use Rattle.bits.proofs.Tested.{numbers}
-use Rattle.events.specs.Kinds.{is_kind}
+use Rattle.bus.specs.Kinds.{is_kind}
 use Rattle.bus.specs.Device.{step_in}
 use Rattle.bus.specs.Refusals.{number_of}
 use Rattle.bus.specs.declared.Phase.TheVariants.{Writing}
 use Rattle.control.specs.declared.Group.{Group}
 use Rattle.control.specs.declared.Group.TheVariants.{A, B}
 use Rattle.control.specs.Mode.{mode_of, input_of, upper_input, lower_input, strobed_input, output_of}
-use Rattle.roles.specs.Role.{input, number, uses_of, free_role, role_of}
-use Rattle.roles.proofs.PinByMasks.{number-one}
+use Rattle.control.specs.Role.{input, number, uses_of, free_role, role_of}
+use Rattle.control.proofs.PinByMasks.{number-one}
 use Rattle.channel.specs.declared.Side.{Side}
 use Rattle.channel.specs.declared.Side.TheVariants.{Input, Output}
 use Rattle.channel.proofs.ConditionsLeft.{clear-empties, clear-zeroes, clear-counts}
@@ -23,13 +23,13 @@ use Rattle.chip.specs.declared.Core.{Core}
 use Rattle.chip.specs.declared.Chip.{Chip}
 use Rattle.chip.specs.State.{no_enables, port_of, channel_of}
 use Rattle.chip.specs.Handshakes.{enable_of}
-use Rattle.settings.specs.ModeWord.{cleared_port, after_mode_word}
-use Rattle.settings.proofs.PortsAfter.{mode-word-channel, mode-word-word, mode-word-ports, mode-word-lines, mode-word-latch, mode-word-enables, mode-word}
-use Rattle.writes.specs.Write.{after_write_ends}
-use Rattle.ports.specs.Reads.{read_port}
-use Rattle.ports.specs.Pins.{drives_port, pins_of_port, pins_of_lines, pins_of}
-use Rattle.step.specs.Step.{step_of}
-use Rattle.step.proofs.Ends.{write-ends}
+use Rattle.chip.specs.ModeWord.{cleared_port, after_mode_word}
+use Rattle.chip.proofs.SettingsAfter.{mode-word-channel, mode-word-word, mode-word-ports, mode-word-lines, mode-word-latch, mode-word-enables, mode-word}
+use Rattle.chip.specs.Write.{after_write_ends}
+use Rattle.chip.specs.Reads.{read_port}
+use Rattle.chip.specs.Pins.{drives_port, pins_of_port, pins_of_lines, pins_of}
+use Rattle.chip.specs.Step.{step_of}
+use Rattle.chip.proofs.Ends.{write-ends}
 use Rattle.laws.specs.Anew.{Anew, Obeyed}
 
 anew : (c : Core) (w : ℕ) → Anew c w (after_mode_word c w)

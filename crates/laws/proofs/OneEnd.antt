@@ -1,7 +1,7 @@
 -- The one end of a cycle, in every state: it is accepted while any cycle runs, a read that ends leaves the outputs, and a write that ends
 -- leaves the inputs, unless it was of a mode word or forces a flag; and 04, which is no kind, is refused whatever its operands ("Events and
 -- numbers").
--- Rests on Cycles and FillAfter, bits' Logic, chip's Surrounded, reads' and writes' PortsAfter, and the step's Ends.
+-- Rests on Cycles, FillAfter, bits' Logic, and chip's Surrounded, ReadsAfter, WritesAfter and Ends.
 use mathlib.Core.Path.{◌≡◌, ◌∙◌, refl, ap, sym}
 use mathlib.Core.Bool.{Bool, true, false, ◌&&◌, and-false}
 use Prim.Native.Nat.{ℕ, ◌/◌, ◌%◌}
@@ -9,7 +9,7 @@ use native.Mathlib.Omega.{arith}
 use lib.Dec.{eqb}
 use Rattle.bits.specs.Bit.{bit_of}
 use Rattle.bits.proofs.Logic.{contrary}
-use Rattle.events.specs.Kinds.{is_kind}
+use Rattle.bus.specs.Kinds.{is_kind}
 use Rattle.bus.specs.declared.Phase.TheVariants.{Idle, Reading, Writing}
 use Rattle.control.specs.declared.Group.{Group}
 use Rattle.channel.specs.declared.Side.TheVariants.{Input, Output}
@@ -18,17 +18,17 @@ use Rattle.chip.specs.declared.Chip.{Chip}
 use Rattle.chip.specs.State.{channel_of}
 use Rattle.chip.specs.Handshakes.{strobed, flag_pin}
 use Rattle.chip.proofs.Surrounded.{spared-channel}
-use Rattle.reads.proofs.PortsAfter.{ended-output}
-use Rattle.writes.specs.Write.{after_write_ends}
-use Rattle.writes.proofs.PortsAfter.{by_address}
-use Rattle.step.specs.Step.{refused, step_of}
-use Rattle.step.proofs.Ends.{read-ends, write-ends}
+use Rattle.chip.proofs.ReadsAfter.{ended-output}
+use Rattle.chip.specs.Write.{after_write_ends}
+use Rattle.chip.proofs.WritesAfter.{by_address}
+use Rattle.chip.specs.Step.{refused, step_of}
+use Rattle.chip.proofs.Ends.{read-ends, write-ends}
 use Rattle.laws.specs.Seen.{makes_anew, puts}
 use Rattle.laws.specs.Anew.{Freed}
 use Rattle.laws.proofs.Cycles.{facts, no-kind-refused}
 use Rattle.laws.proofs.FillAfter.{puts-here}
 
--- The end of whatever runs is accepted, as on any device. The idle bus itself refuses with 5: idle-ends-nothing, in the step's Ends.
+-- The end of whatever runs is accepted, as on any device. The idle bus itself refuses with 5: idle-ends-nothing, in chip's Ends.
 pub cycle-ends : (c : Chip) (x d : ℕ) → ¬ (c.phase ≡ Idle) → Freed (step_of c 2 x d)
 unfolding step_of
 cycle-ends c x d runs = record {

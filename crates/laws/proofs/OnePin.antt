@@ -1,6 +1,6 @@
 -- Bit set/reset changes one bit of port C's latch, or one enable, or forces one flag, or does nothing, by plain bits of the mode word
 -- ("Writes and bit set/reset", "Forcing the flags").
--- Rests on PlainBits, bits' BitLaws, settings' PortsAfter, and the step's Ends.
+-- Rests on PlainBits, bits' BitLaws, and chip's SettingsAfter and Ends.
 use mathlib.Core.Path.{◌≡◌, ◌∙◌, refl, ap, subst}
 use mathlib.Core.Bool.{Bool, true, false, cond, not, ◌&&◌, ◌||◌}
 use Prim.Native.Nat.{ℕ, ◌/◌, ◌%◌, ◌<◌}
@@ -11,8 +11,8 @@ use Rattle.bits.proofs.BitLaws.{bit-of-with}
 use Rattle.bus.specs.declared.Phase.TheVariants.{Writing}
 use Rattle.control.specs.declared.Group.{Group}
 use Rattle.control.specs.declared.Group.TheVariants.{A, B}
-use Rattle.roles.specs.Role.{input, output}
-use Rattle.roles.specs.Pins.{handshake_role}
+use Rattle.control.specs.Role.{input, output}
+use Rattle.control.specs.Pins.{handshake_role}
 use Rattle.channel.specs.declared.Side.{Side}
 use Rattle.channel.specs.declared.Side.TheVariants.{Input, Output}
 use Rattle.channel.specs.Moves.{after_force}
@@ -21,11 +21,11 @@ use Rattle.chip.specs.declared.Core.{Core}
 use Rattle.chip.specs.declared.Chip.{Chip}
 use Rattle.chip.specs.State.{channel_of}
 use Rattle.chip.specs.Handshakes.{line_pin, flag_pin, enable_of}
-use Rattle.settings.specs.ControlWord.{set_as, pin_set}
-use Rattle.settings.proofs.PortsAfter.{pin-put, bit-word}
-use Rattle.writes.specs.Write.{after_write_ends}
-use Rattle.step.specs.Step.{step_of}
-use Rattle.step.proofs.Ends.{write-ends}
+use Rattle.chip.specs.ControlWord.{set_as, pin_set}
+use Rattle.chip.proofs.SettingsAfter.{pin-put, bit-word}
+use Rattle.chip.specs.Write.{after_write_ends}
+use Rattle.chip.specs.Step.{step_of}
+use Rattle.chip.proofs.Ends.{write-ends}
 use Rattle.laws.specs.PlainBits.{used, into_c, free_output, is_line_pin, is_flag_pin}
 use Rattle.laws.specs.OnePin.{OnePin}
 use Rattle.laws.proofs.PlainBits.{by-pin, strobed-by-bits, role-by-bits}

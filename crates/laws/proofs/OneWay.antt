@@ -1,6 +1,6 @@
 -- Ports A and B where they go one way, in modes 0 and 1, by plain bits: an output drives its lines with its latch and is read as it; an input
 -- is not driven, and keeps nothing that is written to it ("Writes and bit set/reset", "Reads and pins").
--- Rests on PlainBits, OwnPort, Falls, bits' Logic, the channel's ConditionsLeft, writes' PortsAfter, levels' PortsAfter, and the step's Ends and Outcome.
+-- Rests on PlainBits, OwnPort, Falls, bits' Logic, the channel's ConditionsLeft, and chip's WritesAfter, LevelsAfter, Ends and Outcome.
 use mathlib.Core.Path.{◌≡◌, ◌∙◌, refl, ap, sym}
 use mathlib.Core.Bool.{Bool, true, false, not, ◌&&◌, ◌||◌, and-true, and-false}
 use Prim.Native.Nat.{ℕ}
@@ -17,14 +17,14 @@ use Rattle.chip.specs.declared.Core.{Core}
 use Rattle.chip.specs.declared.Chip.{Chip}
 use Rattle.chip.specs.State.{port_of, channel_of}
 use Rattle.chip.specs.Handshakes.{strobed, own_address}
-use Rattle.writes.specs.Write.{stored_by, after_write_ends}
-use Rattle.writes.proofs.PortsAfter.{own-stored}
-use Rattle.levels.proofs.PortsAfter.{levels-word, levels-ports}
-use Rattle.ports.specs.Reads.{read_port, read_of}
-use Rattle.ports.specs.Pins.{drives_port, pins_of_port, pins_of}
-use Rattle.step.specs.Step.{step_of}
-use Rattle.step.proofs.Ends.{write-ends}
-use Rattle.step.proofs.Outcome.{step-accepts, step-either}
+use Rattle.chip.specs.Write.{stored_by, after_write_ends}
+use Rattle.chip.proofs.WritesAfter.{own-stored}
+use Rattle.chip.proofs.LevelsAfter.{levels-word, levels-ports}
+use Rattle.chip.specs.Reads.{read_port, read_of}
+use Rattle.chip.specs.Pins.{drives_port, pins_of_port, pins_of}
+use Rattle.chip.specs.Step.{step_of}
+use Rattle.chip.proofs.Ends.{write-ends}
+use Rattle.chip.proofs.Outcome.{step-accepts, step-either}
 use Rattle.laws.specs.PlainBits.{goes_both_ways, handshake, into, output_only, input_only}
 use Rattle.laws.specs.Ports.{Gives, Takes}
 use Rattle.laws.proofs.PlainBits.{two-by-bit, direction-by-bit, strobed-by-bits}

@@ -1,6 +1,6 @@
 -- The five errors seen in other models, each forbidden in every state. IBF lowered as the read begins: begin-keeps-ibf in InputFlag.
 -- A mode word equal to the last one taken for no change: same-word-renews in ModeWords. The other three are here.
--- Rests on ChannelPins, PortC and Halves, and on the step's Ends.
+-- Rests on ChannelPins, PortC, Halves, and chip's Ends.
 use mathlib.Core.Path.{◌≡◌, ◌∙◌, refl, sym}
 use mathlib.Core.Bool.{true, false, not, ◌||◌, and-false}
 use Prim.Native.Nat.{ℕ, ◌<◌, ◌≤◌}
@@ -10,18 +10,18 @@ use Rattle.bits.specs.Bit.{bit_of}
 use Rattle.bus.specs.declared.Phase.TheVariants.{Idle, Writing}
 use Rattle.control.specs.declared.Group.{Group}
 use Rattle.control.specs.declared.Group.TheVariants.{A, B}
-use Rattle.roles.specs.Role.{Role, input, output, INTR, IBF, OBF, STB, ACK, role_of}
+use Rattle.control.specs.Role.{Role, input, output, INTR, IBF, OBF, STB, ACK, role_of}
 use Rattle.channel.specs.declared.Side.{Side}
 use Rattle.channel.specs.declared.Side.TheVariants.{Input, Output}
 use Rattle.chip.specs.declared.Core.{Core}
 use Rattle.chip.specs.declared.Chip.{Chip}
 use Rattle.chip.specs.State.{with_latch}
 use Rattle.chip.specs.Handshakes.{group_at, strobed, line_pin, enable_of, own_address}
-use Rattle.status.specs.Status.{flag_at, request_of, intr_of}
-use Rattle.writes.specs.Write.{latch_written, after_write_ends}
-use Rattle.ports.specs.Pins.{level_as}
-use Rattle.step.specs.Step.{on_bus, step_of}
-use Rattle.step.proofs.Ends.{write-ends}
+use Rattle.chip.specs.Status.{flag_at, request_of, intr_of}
+use Rattle.chip.specs.Write.{latch_written, after_write_ends}
+use Rattle.chip.specs.Pins.{level_as}
+use Rattle.chip.specs.Step.{on_bus, step_of}
+use Rattle.chip.proofs.Ends.{write-ends}
 use Rattle.laws.specs.Seen.{pin, told}
 use Rattle.laws.specs.PlainBits.{handshake, free_output}
 use Rattle.laws.proofs.ChannelPins.{told-enable, pin-by-role}

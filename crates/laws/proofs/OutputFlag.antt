@@ -1,6 +1,7 @@
 -- OBF as the sheet has it, in every state: lowered by the end of the write, raised by the fall of ACK, forced by bit set/reset, and moved by
 -- nothing else but a mode word and a reset ("Handshake", "Forcing the flags").
--- Rests on FillAfter, FlagAfter, Forcing, ChannelPins, bits' Logic, control's Strobed, the channel's ConditionsLeft, writes' and levels' PortsAfter, and the step's Ends and Outcome.
+-- Rests on ChannelPins, FillAfter, Forcing, FlagAfter, bits' Logic, control's Strobed, the channel's ConditionsLeft, and chip's
+-- WritesAfter, LevelsAfter, Ends and Outcome.
 use mathlib.Core.Path.{◌≡◌, ◌∙◌, refl, sym, subst}
 use mathlib.Core.Bool.{Bool, true, false, not, or-true}
 use Prim.Native.Nat.{ℕ}
@@ -19,14 +20,14 @@ use Rattle.chip.specs.declared.Core.{Core}
 use Rattle.chip.specs.declared.Chip.{Chip}
 use Rattle.chip.specs.State.{channel_of}
 use Rattle.chip.specs.Handshakes.{own_address, strobed, line_pin, flag_pin, writing}
-use Rattle.status.specs.Status.{flag_at}
-use Rattle.writes.specs.Write.{after_write_ends}
-use Rattle.writes.proofs.PortsAfter.{own-stored}
-use Rattle.levels.specs.Levels.{line_falls, after_levels}
-use Rattle.levels.proofs.PortsAfter.{levels-output, levels-word}
-use Rattle.step.specs.Step.{step_of}
-use Rattle.step.proofs.Ends.{write-ends}
-use Rattle.step.proofs.Outcome.{step-accepts}
+use Rattle.chip.specs.Status.{flag_at}
+use Rattle.chip.specs.Write.{after_write_ends}
+use Rattle.chip.proofs.WritesAfter.{own-stored}
+use Rattle.chip.specs.Levels.{line_falls, after_levels}
+use Rattle.chip.proofs.LevelsAfter.{levels-output, levels-word}
+use Rattle.chip.specs.Step.{step_of}
+use Rattle.chip.proofs.Ends.{write-ends}
+use Rattle.chip.proofs.Outcome.{step-accepts}
 use Rattle.laws.specs.Seen.{pin, makes_anew, puts}
 use Rattle.laws.specs.Flags.{moves_obf}
 use Rattle.laws.proofs.ChannelPins.{flag-pin}

@@ -4,7 +4,7 @@ use mathlib.Core.Path.{◌≡◌}
 use mathlib.Core.Bool.{true}
 use Prim.Native.Nat.{ℕ}
 use borrow.Author.Tests.{eqb-true}
-use Rattle.events.specs.Kinds.{is_kind}
+use Rattle.bus.specs.Kinds.{is_kind}
 use Rattle.bus.specs.Refusals.{number_of}
 use Rattle.bus.specs.declared.Phase.{Phase}
 use Rattle.control.specs.declared.Group.{Group}
@@ -13,9 +13,9 @@ use Rattle.chip.specs.declared.Edition.{Edition}
 use Rattle.chip.specs.declared.Chip.{Chip}
 use Rattle.chip.specs.State.{port_of}
 use Rattle.chip.specs.Handshakes.{own_address}
-use Rattle.ports.specs.Reads.{read_port, read_of}
-use Rattle.ports.specs.Pins.{drives_port, pins_of_port, pins_of}
-use Rattle.step.specs.Step.{limits}
+use Rattle.chip.specs.Reads.{read_port, read_of}
+use Rattle.chip.specs.Pins.{drives_port, pins_of_port, pins_of}
+use Rattle.chip.specs.Step.{limits}
 
 pub own-accepted : (ed : Edition) (ph : Phase) (a : ℕ) (g : Group) → own_address a g ≡ true → number_of (limits ed) ph 5 a ≡ 0
 unfolding number_of is_kind

@@ -1,6 +1,6 @@
 -- What the mode word says, told by its plain bits: the mode and the direction of each group, what is strobed, the role of each pin ("Mode
 -- words", "Port C roles").
--- Rests on bits' Tested, control's AsByte and ByBits, and roles' SameWords and PinByMasks.
+-- Rests on bits' Tested, and control's AsByte, ByBits, RoleWords and PinByMasks.
 use mathlib.Core.Path.{◌≡◌, ◌∙◌, refl, ap}
 use mathlib.Core.Bool.{Bool, true, false, cond, not, ◌&&◌, ◌||◌}
 use Prim.Native.Nat.{ℕ, zero, suc, ◌/◌, ◌%◌, ◌^◌, ◌<◌}
@@ -13,9 +13,9 @@ use Rattle.control.specs.declared.Group.TheVariants.{A, B}
 use Rattle.control.specs.Mode.{mode_of, input_of, upper_input, lower_input}
 use Rattle.control.proofs.AsByte.{as_byte}
 use Rattle.control.proofs.ByBits.{a-takes, a-gives, b-takes, b-gives}
-use Rattle.roles.specs.Role.{number, uses_of, free_role, role_of}
-use Rattle.roles.proofs.SameWords.{role-as-byte}
-use Rattle.roles.proofs.PinByMasks.{number-one}
+use Rattle.control.specs.Role.{number, uses_of, free_role, role_of}
+use Rattle.control.proofs.RoleWords.{role-as-byte}
+use Rattle.control.proofs.PinByMasks.{number-one}
 use Rattle.channel.specs.declared.Side.{Side}
 use Rattle.channel.specs.declared.Side.TheVariants.{Input, Output}
 use Rattle.chip.specs.Handshakes.{strobed}

@@ -1,6 +1,6 @@
 -- Port C by plain bits of the mode word, in every state: what the end of a write stores, which pins the chip drives, and that a read tells of
 -- these what they show ("Writes and bit set/reset", "Reads and pins").
--- Rests on PlainBits, ChannelPins, bits' Tested and BitLaws, and the step's Ends.
+-- Rests on PlainBits, ChannelPins, bits' Tested and BitLaws, and chip's Ends.
 use mathlib.Core.Path.{◌≡◌, ◌∙◌, refl, ap, sym}
 use mathlib.Core.Bool.{Bool, true, false, cond, not, ◌&&◌, ◌||◌}
 use Prim.Native.Nat.{ℕ, ◌<◌}
@@ -8,13 +8,13 @@ use Rattle.bits.specs.Bit.{bit_of}
 use Rattle.bits.proofs.Tested.{bits}
 use Rattle.bits.proofs.BitLaws.{bit-of-assembled}
 use Rattle.bus.specs.declared.Phase.TheVariants.{Writing}
-use Rattle.roles.specs.Role.{input, output, role_of}
-use Rattle.roles.specs.Pins.{is_output, handshake_role}
+use Rattle.control.specs.Role.{input, output, role_of}
+use Rattle.control.specs.Pins.{is_output, handshake_role}
 use Rattle.chip.specs.declared.Chip.{Chip}
-use Rattle.writes.specs.Write.{writable, latch_written, after_write_ends}
-use Rattle.ports.specs.Pins.{is_driven, pins_of_lines, pins_of}
-use Rattle.step.specs.Step.{step_of}
-use Rattle.step.proofs.Ends.{write-ends}
+use Rattle.chip.specs.Write.{writable, latch_written, after_write_ends}
+use Rattle.chip.specs.Pins.{is_driven, pins_of_lines, pins_of}
+use Rattle.chip.specs.Step.{step_of}
+use Rattle.chip.proofs.Ends.{write-ends}
 use Rattle.laws.specs.Seen.{driven}
 use Rattle.laws.specs.PlainBits.{used, into_c, free_output, is_line_pin}
 use Rattle.laws.specs.PortC.{reached, LinesWritten, driven_by, LineShown}

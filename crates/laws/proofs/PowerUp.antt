@@ -5,15 +5,15 @@ use mathlib.Core.Bool.{true}
 use mathlib.Core.List.{◌++◌}
 use Prim.Native.Nat.{ℕ}
 use Rattle.bits.specs.Bit.{bit_of, value_of}
-use Rattle.events.specs.Kinds.{is_kind}
-use Rattle.events.specs.Histories.{levels, write}
+use Rattle.bus.specs.Kinds.{is_kind}
+use Rattle.bus.specs.Histories.{levels, write}
 use Rattle.bus.specs.Device.{step_in}
 use Rattle.bus.specs.Refusals.{number_of}
 use Rattle.bus.specs.declared.Phase.TheVariants.{Writing}
 use Rattle.control.specs.declared.Group.{Group}
 use Rattle.control.specs.declared.Group.TheVariants.{A, B}
 use Rattle.control.specs.Mode.{mode_of, input_of, upper_input, lower_input, strobed_input, strobed_output, output_of}
-use Rattle.roles.specs.Role.{uses_of, free_role, role_of}
+use Rattle.control.specs.Role.{uses_of, free_role, role_of}
 use Rattle.channel.specs.declared.Side.{Side}
 use Rattle.channel.specs.declared.Side.TheVariants.{Input, Output}
 use Rattle.channel.specs.Moves.{after_clear}
@@ -22,10 +22,10 @@ use Rattle.chip.specs.declared.Chip.{Chip}
 use Rattle.chip.specs.declared.Levels.{Levels}
 use Rattle.chip.specs.State.{no_tally, no_byte, power_up_as, channel_of}
 use Rattle.chip.specs.Handshakes.{strobed, line_pin}
-use Rattle.settings.specs.ModeWord.{cleared_port, after_mode_word}
-use Rattle.levels.specs.Levels.{edged, after_levels_on_c, port_after_levels, after_levels}
-use Rattle.ports.specs.Pins.{level_as, drives_port, pins_of_port, pins_of_lines, pins_of}
-use Rattle.step.specs.Step.{accepted, step_of}
+use Rattle.chip.specs.ModeWord.{cleared_port, after_mode_word}
+use Rattle.chip.specs.Levels.{edged, after_levels_on_c, port_after_levels, after_levels}
+use Rattle.chip.specs.Pins.{level_as, drives_port, pins_of_port, pins_of_lines, pins_of}
+use Rattle.chip.specs.Step.{accepted, step_of}
 use Rattle.laws.specs.Anew.{Anew}
 use Rattle.laws.specs.PowerUp.{AsNamed, Starts}
 use Rattle.laws.specs.Marked.{after}

@@ -1,6 +1,6 @@
 -- Why the interrupt is quiet, in every state: the reason given is true, and the first that is; INTR is said to be high exactly where the
 -- pin view shows it; and no group but A and B is explained ("Why the interrupt is quiet").
--- Rests on ChannelPins and Interrupts, and on status' ByReason and ByMode.
+-- Rests on ChannelPins, Interrupts, and chip's ByReason and ByMode.
 use mathlib.Core.Path.{◌≡◌, ◌∙◌, refl, ap, sym}
 use mathlib.Core.Bool.{Bool, true, false, cond, not, ◌&&◌, ◌||◌, or-true}
 use Prim.Native.Nat.{ℕ, zero, suc}
@@ -8,16 +8,15 @@ use native.Mathlib.Omega.{arith}
 use lib.Dec.{ltb}
 use borrow.Author.Tests.{ne_eqb, lt-ltb}
 use Rattle.control.specs.declared.Group.{Group}
-use Rattle.control.specs.declared.Group.TheVariants.{A, B}
 use Rattle.channel.specs.declared.Side.{Side}
 use Rattle.channel.specs.declared.Side.TheVariants.{Input, Output}
 use Rattle.chip.specs.declared.Chip.{Chip}
 use Rattle.chip.specs.Handshakes.{strobed}
-use Rattle.status.specs.declared.reasons.Reason.TheVariants.{EnableOff, FlagWrong, LineLow, High}
-use Rattle.status.specs.Status.{request_of, intr_of}
-use Rattle.status.specs.Reasons.{holds, reason_of, explained_in, explained_of, is_high, says_high, numbers_of}
-use Rattle.status.proofs.ByReason.{by-reason, none-asks, named-high, quiet}
-use Rattle.status.proofs.ByMode.{by_mode, says-high}
+use Rattle.chip.specs.declared.reasons.Reason.TheVariants.{EnableOff, FlagWrong, LineLow, High}
+use Rattle.chip.specs.Status.{request_of, intr_of}
+use Rattle.chip.specs.Reasons.{holds, reason_of, explained_in, explained_of, is_high, says_high, numbers_of}
+use Rattle.chip.proofs.ByReason.{by-reason, none-asks, named-high, quiet}
+use Rattle.chip.proofs.ByMode.{by_mode, says-high}
 use Rattle.laws.specs.Seen.{pin, intr_pin}
 use Rattle.laws.specs.Quiet.{seen, TrueOf, TrueOfGroup, intr_seen}
 use Rattle.laws.specs.Halves.{half}
@@ -79,14 +78,11 @@ high-as-shown c g =
     go false true _ there = sym (intr-pin c g Output there)
     go false false i o = rw (quiet c g Input i, quiet c g Output o)
 
-accepted : (c : Chip) (g : Group) → (numbers_of (explained_in c g)).number ≡ 0
-accepted c g = by_mode c g (λ r. (numbers_of r).number ≡ 0) (λ mode i o. refl) (λ mode i o. refl) (λ mode i o. refl) (λ mode i o. refl)
-
 -- Every state has an answer for groups 0 and 1, and 2 is given for every other number.
 pub refused-above-1 : (c : Chip) (n : ℕ) → (numbers_of (explained_of c n)).number ≡ cond (ltb 1 n) 2 0
 unfolding explained_of
-refused-above-1 c zero = accepted c A
-refused-above-1 c (suc zero) = accepted c B
+refused-above-1 c zero = refl
+refused-above-1 c (suc zero) = refl
 refused-above-1 c (suc (suc n)) =
     let k : ℕ = suc (suc n) in
     rw (ne_eqb k 0 (λ e. omega (arith, e)), ne_eqb k 1 (λ e. omega (arith, e)), lt-ltb 1 k (omega arith))

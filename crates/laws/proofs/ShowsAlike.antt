@@ -9,18 +9,18 @@ use Rattle.bits.proofs.BitLaws.{assembled-same}
 use Rattle.bus.specs.declared.Phase.{Phase}
 use Rattle.control.specs.declared.Group.{Group}
 use Rattle.control.specs.declared.Group.TheVariants.{A, B}
-use Rattle.roles.specs.Role.{Role, input, output, INTR, IBF, OBF, STB, ACK, role_of}
+use Rattle.control.specs.Role.{Role, input, output, INTR, IBF, OBF, STB, ACK, role_of}
 use Rattle.channel.specs.declared.Side.{Side}
 use Rattle.channel.specs.declared.Side.TheVariants.{Input, Output}
 use Rattle.chip.specs.declared.Core.{Core}
 use Rattle.chip.specs.declared.Edition.{Edition}
 use Rattle.chip.specs.declared.Chip.{Chip}
 use Rattle.chip.specs.Handshakes.{group_at, running}
-use Rattle.status.specs.Status.{request_of, intr_of}
-use Rattle.status.specs.Reasons.{reason_of, explained_in, explained_of}
-use Rattle.ports.specs.Reads.{read_as, read_lines, read_of}
-use Rattle.ports.specs.Pins.{is_driven, level_as, pins_of_lines, pins_of}
-use Rattle.step.specs.Step.{on_bus}
+use Rattle.chip.specs.Status.{request_of, intr_of}
+use Rattle.chip.specs.Reasons.{reason_of, explained_in, explained_of}
+use Rattle.chip.specs.Reads.{read_as, read_lines, read_of}
+use Rattle.chip.specs.Pins.{is_driven, level_as, pins_of_lines, pins_of}
+use Rattle.chip.specs.Step.{on_bus}
 use Rattle.laws.specs.Editions.{ShowsAlike}
 
 module _ (core : Core) (ph ph' : Phase) (ed ed' : Edition) (same : (g : Group) (s : Side) → running ph g s ≡ running ph' g s) where

@@ -1,14 +1,14 @@
 -- In states that no history reaches, a cycle at a place that there is not ends, and that is all ("Events and numbers").
--- Rests on reads' and writes' PortsAfter, and on the step's Ends.
+-- Rests on chip's ReadsAfter, WritesAfter and Ends.
 use mathlib.Core.Path.{◌≡◌, ◌∙◌, ap}
 use Prim.Native.Nat.{ℕ, ◌<◌}
 use Rattle.bus.specs.declared.Phase.TheVariants.{Idle, Reading, Writing}
 use Rattle.chip.specs.declared.Core.{Core}
 use Rattle.chip.specs.declared.Chip.{Chip}
-use Rattle.reads.proofs.PortsAfter.{ended-nowhere}
-use Rattle.writes.proofs.PortsAfter.{written-nowhere}
-use Rattle.step.specs.Step.{on_bus, accepted, step_of}
-use Rattle.step.proofs.Ends.{read-ends, write-ends}
+use Rattle.chip.proofs.ReadsAfter.{ended-nowhere}
+use Rattle.chip.proofs.WritesAfter.{written-nowhere}
+use Rattle.chip.specs.Step.{on_bus, accepted, step_of}
+use Rattle.chip.proofs.Ends.{read-ends, write-ends}
 
 pub read-of-no-port-ends : (c : Chip) (p x d : ℕ) → c.phase ≡ Reading p → 1 < p → step_of c 2 x d ≡ accepted (on_bus Idle c.edition c.core) 0
 read-of-no-port-ends c p x d phase none =

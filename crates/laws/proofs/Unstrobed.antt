@@ -1,6 +1,6 @@
 -- A channel that the mode word does not strobe takes no part in edges and cycles: it keeps its condition and its tallies through
 -- every event but a reset and a mode word ("Events and numbers").
--- Rests on ByEvent, Falls, chip's Surrounded, and settings', reads' and writes' PortsAfter.
+-- Rests on ByEvent, Falls, and chip's Surrounded, SettingsAfter, ReadsAfter and WritesAfter.
 use mathlib.Core.Path.{◌≡◌, ◌∙◌, refl}
 use mathlib.Core.Bool.{Bool, true, false, cond, and-false}
 use Prim.Native.Nat.{ℕ}
@@ -14,12 +14,12 @@ use Rattle.chip.specs.declared.Chip.{Chip}
 use Rattle.chip.specs.State.{channel_of}
 use Rattle.chip.specs.Handshakes.{strobed, own_address}
 use Rattle.chip.proofs.Surrounded.{latch-spares, spared-channel}
-use Rattle.settings.proofs.PortsAfter.{bit-put}
-use Rattle.reads.specs.Read.{after_read_begins, after_read_ends}
-use Rattle.reads.proofs.PortsAfter.{begun-input, begun-output, ended-input, ended-output}
-use Rattle.writes.specs.Write.{stored_in, latch_written}
-use Rattle.writes.proofs.PortsAfter.{Stored}
-use Rattle.step.specs.Step.{step_of}
+use Rattle.chip.proofs.SettingsAfter.{bit-put}
+use Rattle.chip.specs.Read.{after_read_begins, after_read_ends}
+use Rattle.chip.proofs.ReadsAfter.{begun-input, begun-output, ended-input, ended-output}
+use Rattle.chip.specs.Write.{stored_in, latch_written}
+use Rattle.chip.proofs.WritesAfter.{Stored}
+use Rattle.chip.specs.Step.{step_of}
 use Rattle.laws.specs.Seen.{makes_anew}
 use Rattle.laws.specs.Kept.{Kept}
 use Rattle.laws.proofs.ByEvent.{not-anew, by-event}

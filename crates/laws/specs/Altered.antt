@@ -12,11 +12,11 @@ use Rattle.chip.specs.declared.Core.{Core}
 use Rattle.chip.specs.declared.Chip.{Chip}
 use Rattle.chip.specs.State.{port_of, channel_of, with_input, with_output, with_port, with_enables}
 use Rattle.chip.specs.Handshakes.{line_pin}
-use Rattle.status.specs.declared.reasons.Reason.{Reason}
-use Rattle.status.specs.declared.reasons.Reason.TheVariants.{EnableOff, FlagWrong, LineLow, OwnCycle, High}
-use Rattle.status.specs.Status.{request_of}
-use Rattle.status.specs.Reasons.{reason_of}
-use Rattle.settings.specs.ControlWord.{enabled}
+use Rattle.chip.specs.declared.reasons.Reason.{Reason}
+use Rattle.chip.specs.declared.reasons.Reason.TheVariants.{EnableOff, FlagWrong, LineLow, OwnCycle, High}
+use Rattle.chip.specs.Status.{request_of}
+use Rattle.chip.specs.Reasons.{reason_of}
+use Rattle.chip.specs.ControlWord.{enabled}
 use Rattle.laws.specs.Seen.{pin, intr_pin}
 
 -- A condition in which a channel's flag is right: a byte in an input, none in an output.

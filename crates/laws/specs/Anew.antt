@@ -9,7 +9,7 @@ use Rattle.chip.specs.declared.Core.{Core}
 use Rattle.chip.specs.declared.Chip.{Chip}
 use Rattle.chip.specs.State.{port_of, channel_of}
 use Rattle.chip.specs.Handshakes.{enable_of}
-use Rattle.step.specs.declared.Stepped.{Stepped}
+use Rattle.chip.specs.Step.{Stepped}
 
 -- An event is accepted, has no byte to give, and leaves the bus idle.
 pub record Freed (r : Stepped) : Type 0 where

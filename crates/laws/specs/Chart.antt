@@ -2,7 +2,7 @@
 use Rattle.std.specs.Prelude.{◌≡◌, cond, not, ℕ, ◌<◌, ltb}
 use Rattle.control.specs.declared.Directions.{Directions}
 use Rattle.chip.specs.declared.Chip.{Chip}
-use Rattle.ports.specs.Pins.{pins_of}
+use Rattle.chip.specs.Pins.{pins_of}
 use Rattle.laws.specs.Seen.{driven}
 
 -- A pin of port C is driven where its half is an output, and not where it is an input.

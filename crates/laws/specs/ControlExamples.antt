@@ -1,12 +1,11 @@
 -- What a read of control gives after a history, in numbers: of the newer edition and of the older ("The 82C55A").
 use Rattle.std.specs.Prelude.{List, [], ◌∷◌, ◌++◌, ℕ}
-use Rattle.events.specs.Event.{Event, event}
-use Rattle.events.specs.Histories.{write, read_from, cycle_end}
+use Rattle.bus.specs.Event.{Event, event}
+use Rattle.bus.specs.Histories.{write, read_from, cycle_end}
 use Rattle.chip.specs.declared.Edition.{Edition}
 use Rattle.chip.specs.declared.Edition.TheVariants.{Older, Newer}
 use Rattle.chip.specs.State.{all_high, power_up_as}
-use Rattle.step.specs.declared.Stepped.{Stepped}
-use Rattle.step.specs.Step.{accepted, stepped}
+use Rattle.chip.specs.Step.{Stepped, accepted, stepped}
 use Rattle.laws.specs.Marked.{after}
 
 -- An edition, a history from its power-up with every line high, and the number and the byte of the read of control that then begins.

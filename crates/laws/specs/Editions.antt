@@ -8,11 +8,10 @@ use Rattle.chip.specs.declared.Edition.{Edition}
 use Rattle.chip.specs.declared.Edition.TheVariants.{Older, Newer}
 use Rattle.chip.specs.declared.Chip.{Chip}
 use Rattle.chip.specs.State.{tally_of}
-use Rattle.status.specs.Reasons.{explained_of}
-use Rattle.ports.specs.Reads.{read_of}
-use Rattle.ports.specs.Pins.{pins_of}
-use Rattle.step.specs.declared.Stepped.{Stepped}
-use Rattle.step.specs.Step.{on_bus, accepted, refused, step_of}
+use Rattle.chip.specs.Reasons.{explained_of}
+use Rattle.chip.specs.Reads.{read_of}
+use Rattle.chip.specs.Pins.{pins_of}
+use Rattle.chip.specs.Step.{Stepped, on_bus, accepted, refused, step_of}
 
 -- How many addresses a program can read: A, B and C, and of the newer edition control.
 abbrev pub addresses_read : Edition → ℕ

@@ -1,6 +1,6 @@
 -- Which events can move IBF and OBF, by what is seen before them ("Handshake").
 use Rattle.std.specs.Prelude.{Bool, true, false, ◌&&◌, ◌||◌, ℕ, eqb}
-use Rattle.events.specs.Kinds as kinds
+use Rattle.bus.specs.Kinds as kinds
 use Rattle.control.specs.declared.Group.{Group}
 use Rattle.channel.specs.declared.Side.TheVariants.{Input, Output}
 use Rattle.chip.specs.declared.Chip.{Chip}

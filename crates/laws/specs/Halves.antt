@@ -1,6 +1,6 @@
 -- The two halves of a group's INTR, the input's and the output's: what each is by the pins, and what cycles make of them ("Handshake").
 use Rattle.std.specs.Prelude.{◌≡◌, Bool, true, false, not, ◌&&◌, ℕ}
-use Rattle.events.specs.Kinds as kinds
+use Rattle.bus.specs.Kinds as kinds
 use Rattle.bus.specs.declared.Phase.{Phase}
 use Rattle.bus.specs.declared.Phase.TheVariants.{Idle, Reading, Writing}
 use Rattle.control.specs.declared.Group.{Group}
@@ -8,8 +8,8 @@ use Rattle.channel.specs.declared.Side.{Side}
 use Rattle.channel.specs.declared.Side.TheVariants.{Input, Output}
 use Rattle.chip.specs.declared.Chip.{Chip}
 use Rattle.chip.specs.Handshakes.{line_pin, enable_of, own_address, running, flag_pin}
-use Rattle.status.specs.Status.{request_of, intr_of}
-use Rattle.step.specs.Step.{step_of}
+use Rattle.chip.specs.Status.{request_of, intr_of}
+use Rattle.chip.specs.Step.{step_of}
 use Rattle.laws.specs.Seen.{pin, commands}
 
 -- One half of INTR, told by the pins: INTE and the flag and the line high and no own cycle running.

@@ -1,16 +1,15 @@
 -- The marked cases P1 to P13, as one table: a history from a power-up with every line high, what is asked after it, and the
 -- results ("Marked cases").
 use Rattle.std.specs.Prelude.{List, [], ◌∷◌, ◌++◌, ℕ}
-use Rattle.events.specs.Event.{Event, event}
-use Rattle.events.specs.Histories.{write, levels, read_from, cycle_end}
+use Rattle.bus.specs.Event.{Event, event}
+use Rattle.bus.specs.Histories.{write, levels, read_from, cycle_end}
 use Rattle.control.specs.declared.Group.TheVariants.{A}
 use Rattle.channel.specs.declared.Side.TheVariants.{Input}
 use Rattle.chip.specs.declared.Edition.{Edition}
 use Rattle.chip.specs.State.{all_high, power_up_as, tally_of}
-use Rattle.ports.specs.Reads.{read_of}
-use Rattle.ports.specs.Pins.{pins_of}
-use Rattle.step.specs.declared.Stepped.{Stepped}
-use Rattle.step.specs.Step.{accepted, stepped}
+use Rattle.chip.specs.Reads.{read_of}
+use Rattle.chip.specs.Pins.{pins_of}
+use Rattle.chip.specs.Step.{Stepped, accepted, stepped}
 
 -- A byte put on port A, and its STB lowered and raised; port C is otherwise high.
 abbrev pub strobe : ℕ → List Event

@@ -3,8 +3,8 @@ use Rattle.std.specs.Prelude.{Bool, false, cond, not, ◌&&◌, ◌||◌, [], �
 use Rattle.bits.specs.Bit.{bit_of}
 use Rattle.control.specs.declared.Group.{Group}
 use Rattle.control.specs.declared.Group.TheVariants.{A, B}
-use Rattle.roles.specs.Role.{Role, input, output}
-use Rattle.roles.specs.Pins.{handshake_role}
+use Rattle.control.specs.Role.{Role, input, output}
+use Rattle.control.specs.Pins.{handshake_role}
 use Rattle.channel.specs.declared.Side.{Side}
 use Rattle.channel.specs.declared.Side.TheVariants.{Input, Output}
 

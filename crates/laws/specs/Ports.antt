@@ -3,8 +3,8 @@ use Rattle.std.specs.Prelude.{◌≡◌, cond, ℕ}
 use Rattle.control.specs.declared.Group.{Group}
 use Rattle.chip.specs.declared.Chip.{Chip}
 use Rattle.chip.specs.State.{port_of}
-use Rattle.ports.specs.Reads.{read_of}
-use Rattle.ports.specs.Pins.{pins_of}
+use Rattle.chip.specs.Reads.{read_of}
+use Rattle.chip.specs.Pins.{pins_of}
 use Rattle.laws.specs.Seen.{pin}
 use Rattle.laws.specs.PlainBits.{handshake}
 

@@ -7,7 +7,7 @@ use Rattle.chip.specs.declared.Chip.{Chip}
 use Rattle.chip.specs.declared.Levels.{Levels}
 use Rattle.chip.specs.State.{no_byte, channel_of}
 use Rattle.chip.specs.Handshakes.{strobed, line_pin}
-use Rattle.ports.specs.Pins.{pins_of}
+use Rattle.chip.specs.Pins.{pins_of}
 use Rattle.laws.specs.Seen.{pin}
 
 -- Each port shows the levels that were named for it, and nothing is driven.

@@ -2,16 +2,16 @@
 use Rattle.std.specs.Prelude.{◌≡◌, Bool, true, false, not, ◌&&◌, List, [], ◌∷◌, ◌-◌, eqb, take, drop}
 use Rattle.control.specs.declared.Group.{Group}
 use Rattle.control.specs.Mode.{mode_of}
-use Rattle.roles.specs.Role.{INTR, number, role_of}
+use Rattle.control.specs.Role.{INTR, number, role_of}
 use Rattle.channel.specs.declared.Side.{Side}
 use Rattle.channel.specs.declared.Side.TheVariants.{Input, Output}
 use Rattle.chip.specs.declared.Chip.{Chip}
 use Rattle.chip.specs.Handshakes.{strobed, line_pin, running, flag_pin}
-use Rattle.status.specs.declared.reasons.Reason.{Reason}
-use Rattle.status.specs.declared.reasons.Reason.TheVariants.{EnableOff, FlagWrong, LineLow, OwnCycle, High}
-use Rattle.status.specs.declared.reasons.Explained.{Explained}
-use Rattle.status.specs.declared.reasons.Explained.TheVariants.{NoGroup, ModeZero, InputHalf, OutputHalf, BothHalves}
-use Rattle.status.specs.Reasons.{in_order, reason_number}
+use Rattle.chip.specs.declared.reasons.Reason.{Reason}
+use Rattle.chip.specs.declared.reasons.Reason.TheVariants.{EnableOff, FlagWrong, LineLow, OwnCycle, High}
+use Rattle.chip.specs.declared.reasons.Explained.{Explained}
+use Rattle.chip.specs.declared.reasons.Explained.TheVariants.{ModeZero, InputHalf, OutputHalf, BothHalves}
+use Rattle.chip.specs.Reasons.{in_order, reason_number}
 use Rattle.laws.specs.Seen.{pin, told, intr_pin}
 
 -- Each answer as it is seen: a read of port C tells, on the pin of STB or ACK, that the enable is off; the pin view shows IBF or OBF at 0;
@@ -44,7 +44,6 @@ pub record TrueOf (c : Chip) (g : Group) (s : Side) (r : Reason) : Type 0 where
 
 -- What is true of a group: mode 0; in mode 1 what is said of one half; in mode 2 what is said of both.
 abbrev pub TrueOfGroup : Chip → Group → Explained → Type 0
-TrueOfGroup c g NoGroup = ⊥
 TrueOfGroup c g ModeZero = mode_of c.core.word g ≡ 0
 TrueOfGroup c g (InputHalf r) = (mode_of c.core.word g ≡ 1) × TrueOf c g Input r
 TrueOfGroup c g (OutputHalf r) = (mode_of c.core.word g ≡ 1) × TrueOf c g Output r

@@ -8,8 +8,8 @@ use Rattle.control.specs.declared.Group.TheVariants.{A, B}
 use Rattle.channel.specs.declared.Side.{Side}
 use Rattle.chip.specs.declared.Chip.{Chip}
 use Rattle.chip.specs.Handshakes.{line_pin}
-use Rattle.ports.specs.Reads.{read_of}
-use Rattle.ports.specs.Pins.{pins_of}
+use Rattle.chip.specs.Reads.{read_of}
+use Rattle.chip.specs.Pins.{pins_of}
 
 -- The level of pin n of port C in the pin view.
 abbrev pub pin : Chip → ℕ → Bool

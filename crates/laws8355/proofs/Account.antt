@@ -9,7 +9,7 @@ use borrow.Author.Tests.{ne_eqb}
 use Rattle.bits.specs.Bit.{bit_of, blend_of}
 use Rattle.bits.specs.Sum.{byte_by}
 use Rattle.bits.proofs.Sum.{byte-same}
-use Rattle.events.specs.Event.{Event}
+use Rattle.bus.specs.Event.{Event}
 use Rattle.bus.specs.declared.Phase.{Phase}
 use Rattle.bus.specs.Device.{Given}
 use Rattle.bus.proofs.Outcomes.{outcomes, number-given}

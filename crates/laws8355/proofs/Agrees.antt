@@ -1,14 +1,14 @@
 -- A device and an account that agree go on agreeing with every event.
--- Rests on Numbers and Ports, on events' ByKind and on the bus's Outcomes.
+-- Rests on Numbers and Ports, on the bus's ByKind and Outcomes.
 use mathlib.Core.Path.{◌≡◌, refl, sym, subst}
 use mathlib.Core.Bool.{cond}
 use Prim.Native.Nat.{ℕ, zero, suc}
 use native.Mathlib.Omega.{arith}
 use lib.Dec.{eqb, lit<}
 use borrow.Author.Tests.{ne_eqb}
-use Rattle.events.specs.Kinds.{is_kind}
-use Rattle.events.specs.Event.{Event, event}
-use Rattle.events.proofs.ByKind.{by_kind}
+use Rattle.bus.specs.Kinds.{is_kind}
+use Rattle.bus.specs.Event.{Event, event}
+use Rattle.bus.proofs.ByKind.{by_kind}
 use Rattle.bus.specs.declared.Phase.{Phase}
 use Rattle.bus.specs.declared.Phase.TheVariants.{Idle, Reading, Writing}
 use Rattle.bus.specs.Refusals.{number_of}

@@ -1,12 +1,12 @@
 -- What an event leaves of a port: of all events only a reset, the end of a write and levels reach it.
--- Rests on Ports, on events' ByKind and on the bus's Outcomes.
+-- Rests on Ports, on the bus's ByKind and Outcomes.
 use mathlib.Core.Path.{◌≡◌, refl, sym, subst}
 use mathlib.Core.List.{[], ◌∷◌}
 use Prim.Native.Nat.{ℕ, ◌<◌}
 use native.Mathlib.Omega.{arith}
-use Rattle.events.specs.Kinds.{is_kind}
-use Rattle.events.specs.Event.{Event}
-use Rattle.events.proofs.ByKind.{by_kind}
+use Rattle.bus.specs.Kinds.{is_kind}
+use Rattle.bus.specs.Event.{Event}
+use Rattle.bus.proofs.ByKind.{by_kind}
 use Rattle.bus.specs.declared.Phase.{Phase}
 use Rattle.bus.specs.declared.Phase.TheVariants.{Idle, Reading, Writing}
 use Rattle.bus.specs.Refusals.{number_of}

@@ -6,8 +6,8 @@ use mathlib.Core.List.{[], ◌∷◌, ◌++◌}
 use Prim.Native.Nat.{ℕ, ◌+◌, ◌<◌}
 use native.Mathlib.Omega.{arith}
 use Rattle.bits.specs.Bit.{bit_of}
-use Rattle.events.specs.Event.{Event}
-use Rattle.events.specs.Histories.{levels}
+use Rattle.bus.specs.Event.{Event}
+use Rattle.bus.specs.Histories.{levels}
 use Rattle.bus.specs.declared.Phase.TheVariants.{Idle, Writing}
 use Rattle.i8355.specs.declared.Port.{Port}
 use Rattle.i8355.specs.declared.Chip8355.{Chip8355}

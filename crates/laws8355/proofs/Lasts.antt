@@ -8,8 +8,8 @@ use lib.Dec.{eqb}
 use borrow.Author.Tests.{ne_eqb}
 use Rattle.bits.specs.Bit.{bit_of}
 use Rattle.bits.proofs.Logic.{either_way}
-use Rattle.events.specs.Event.{Event}
-use Rattle.events.specs.Histories.{write, levels}
+use Rattle.bus.specs.Event.{Event}
+use Rattle.bus.specs.Histories.{write, levels}
 use Rattle.bus.specs.declared.Phase.{Phase}
 use Rattle.bus.specs.declared.Phase.TheVariants.{Idle, Writing}
 use Rattle.i8355.specs.declared.Port.{Port}

@@ -1,13 +1,13 @@
 -- The number of an event of the 8355 is that of its row in the account's table.
--- Rests on events' ByKind.
+-- Rests on the bus's ByKind.
 use mathlib.Core.Path.{◌≡◌, refl}
 use mathlib.Core.Bool.{true, cond}
 use Prim.Native.Nat.{ℕ, zero, suc}
 use native.Mathlib.Omega.{arith}
 use borrow.Author.Tests.{le-ltb}
-use Rattle.events.specs.Kinds.{is_kind, no_kind}
-use Rattle.events.specs.Event.{event}
-use Rattle.events.proofs.ByKind.{by_kind, no_row}
+use Rattle.bus.specs.Kinds.{is_kind, no_kind}
+use Rattle.bus.specs.Event.{event}
+use Rattle.bus.proofs.ByKind.{by_kind, no_row}
 use Rattle.bus.specs.declared.Phase.{Phase}
 use Rattle.bus.specs.declared.Phase.TheVariants.{Idle, Reading, Writing}
 use Rattle.bus.specs.Refusals.{is_busy, number_of}

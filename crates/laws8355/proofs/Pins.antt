@@ -9,15 +9,15 @@ use borrow.Author.Tests.{lt-ltb}
 use Rattle.bits.specs.Bit.{bit_of, value_of}
 use Rattle.bits.proofs.BitLaws.{bit-of-value}
 use Rattle.bits.proofs.MaskLaws.{bit-of-blend}
-use Rattle.events.specs.Kinds.{is_kind}
-use Rattle.events.specs.Event.{Event}
-use Rattle.events.specs.Histories.{write, levels}
+use Rattle.bus.specs.Kinds.{is_kind}
+use Rattle.bus.specs.Event.{Event}
+use Rattle.bus.specs.Histories.{write, levels}
 use Rattle.bus.specs.declared.Phase.TheVariants.{Idle}
 use Rattle.bus.specs.Refusals.{number_of}
 use Rattle.bus.specs.Device.{step_in}
 use Rattle.i8355.specs.declared.Port.{Port}
 use Rattle.i8355.specs.declared.Ports.{Ports}
-use Rattle.i8355.specs.declared.Pins.{Pins}
+use Rattle.bus.specs.declared.Pins.{Pins}
 use Rattle.i8355.specs.declared.Chip8355.{Chip8355}
 use Rattle.i8355.specs.Registers.{with_direction, after_reset, after_write_ends, after_levels}
 use Rattle.i8355.specs.Views.{shown_by}

@@ -6,8 +6,8 @@ use Rattle.bus.specs.declared.Phase.TheVariants.{Idle, Reading, Writing}
 use Rattle.bus.proofs.ByPhase as bus
 use Rattle.i8355.specs.declared.Ports.{Ports}
 use Rattle.i8355.specs.declared.Chip8355.{Chip8355}
-use Rattle.i8355.specs.declared.step.Stepped.{Stepped}
-use Rattle.i8355.specs.Step.{on_bus, device, as_stepped, step_of}
+use Rattle.i8355.specs.Step.{Stepped}
+use Rattle.i8355.specs.Step.{on_bus, device, Stepped, as_stepped, step_of}
 use Rattle.laws8355.proofs.Ports.{written-nowhere}
 
 -- Accepted, with the bus idle and the ports as these.

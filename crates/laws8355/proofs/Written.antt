@@ -6,8 +6,8 @@ use mathlib.Core.List.{List, [], ◌++◌}
 use Prim.Native.Nat.{ℕ, ◌+◌, ◌<◌}
 use native.Mathlib.Omega.{arith}
 use Rattle.bits.specs.Bit.{bit_of}
-use Rattle.events.specs.Event.{Event}
-use Rattle.events.specs.Histories.{write, levels}
+use Rattle.bus.specs.Event.{Event}
+use Rattle.bus.specs.Histories.{write, levels}
 use Rattle.bus.specs.declared.Phase.{Phase}
 use Rattle.bus.specs.declared.Phase.TheVariants.{Idle}
 use Rattle.i8355.specs.declared.Port.{Port}

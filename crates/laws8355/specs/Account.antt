@@ -3,7 +3,7 @@
 use Rattle.std.specs.Prelude.{Bool, cond, ◌&&◌, [], ◌∷◌, ℕ, ◌+◌, eqb, ltb, get_or}
 use Rattle.bits.specs.Bit.{bit_of}
 use Rattle.bits.specs.Sum.{byte_by}
-use Rattle.events.specs.Event.{Event}
+use Rattle.bus.specs.Event.{Event}
 use Rattle.bus.specs.declared.Phase.{Phase}
 use Rattle.bus.specs.declared.Phase.TheVariants.{Idle}
 use Rattle.laws8355.specs.Table.{Act, nothing, reset, written, levels, row_of}

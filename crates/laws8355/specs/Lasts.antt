@@ -1,8 +1,8 @@
 -- What lasts over a history of the 8355: the byte last written to a port, and the levels last put on it ("The 8355 ports").
 use Rattle.std.specs.Prelude.{◌≡◌, true, false, List, [], ◌∷◌, ◌++◌, ℕ}
 use Rattle.bits.specs.Bit.{bit_of}
-use Rattle.events.specs.Event.{Event}
-use Rattle.events.specs.Histories.{write, levels}
+use Rattle.bus.specs.Event.{Event}
+use Rattle.bus.specs.Histories.{write, levels}
 use Rattle.bus.specs.declared.Phase.TheVariants.{Idle, Writing}
 use Rattle.i8355.specs.declared.Chip8355.{Chip8355}
 use Rattle.laws8355.specs.Promise.{run}

@@ -1,6 +1,6 @@
 -- What is promised of the 8355's numbers, bytes and pins, by the account of a history.
 use Rattle.std.specs.Prelude.{◌≡◌, List, [], ◌∷◌, ℕ, get_or}
-use Rattle.events.specs.Event.{Event}
+use Rattle.bus.specs.Event.{Event}
 use Rattle.bus.specs.Device.{run_in}
 use Rattle.i8355.specs.declared.Chip8355.{Chip8355}
 use Rattle.i8355.specs.Views.{pins_of}

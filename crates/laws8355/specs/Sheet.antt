@@ -2,8 +2,8 @@
 -- ("The 8355 ports").
 use Rattle.std.specs.Prelude.{◌≡◌, Bool, true, false, List, [], ◌∷◌, ◌++◌, ℕ, ◌+◌}
 use Rattle.bits.specs.Bit.{bit_of}
-use Rattle.events.specs.Event.{Event, event}
-use Rattle.events.specs.Histories.{write, levels}
+use Rattle.bus.specs.Event.{Event, event}
+use Rattle.bus.specs.Histories.{write, levels}
 use Rattle.bus.specs.declared.Phase.TheVariants.{Writing}
 use Rattle.i8355.specs.declared.Chip8355.{Chip8355}
 use Rattle.i8355.specs.Views.{pins_of}

@@ -1,6 +1,6 @@
 -- The events of the 8355 as a table with a row for each kind, in the account's own words ("The 8355 ports", "Events and numbers").
 use Rattle.std.specs.Prelude.{List, [], ◌∷◌, ℕ, get_or}
-use Rattle.events.specs.Event.{Event}
+use Rattle.bus.specs.Event.{Event}
 use Rattle.bus.specs.declared.Phase.{Phase}
 use Rattle.bus.specs.declared.Phase.TheVariants.{Idle, Reading, Writing}
 

@@ -3,33 +3,28 @@
 use mathlib.Core.Path.{◌≡◌, ◌∙◌, refl, ap, sym}
 use mathlib.Core.Bool.{Bool, true, false, cond}
 use mathlib.Core.List.{List, [], ◌∷◌, ◌++◌, map, flat_map}
-use Prim.Native.Nat.{ℕ, suc, ◌+◌, ◌-◌, ◌≤◌}
+use Prim.Native.Nat.{ℕ, suc, ◌+◌, ◌≤◌}
 use native.Mathlib.Omega.{arith}
-use lib.Dec.{eqb, ltb}
-use lib.ListN.{length, take, drop, length-append}
-use lib.Seq.{append_snoc, length-take-le}
+use lib.Dec.{eqb}
+use lib.ListN.{length, drop, length-append}
+use lib.Seq.{append_snoc}
 use Rattle.text.specs.Lines.{lf, Line, ended, rest, before_lines, lines_of}
-use Rattle.text.specs.LineEnds.{line_between}
+use Rattle.text.specs.declared.line.Line as lent
+use Rattle.text.specs.Answers.{line_of, bytes_lent}
 use Rattle.text.specs.Frames.{is_frame}
 use Rattle.mend.specs.Line.{bytes_of, raised, without_cr, mended, clean_line}
 use Rattle.mend.specs.Mend.{clean_of, in_front}
 use Rattle.mend.proofs.Dropping.{no_longer}
-use Rattle.mend.proofs.Fit.{mended-length, left-raised}
+use Rattle.mend.proofs.Fit.{mended-length}
 
 -- What the clean script has of a line of a text.
 abbrev pub clean_in : Line → List ℕ
 clean_in l = clean_line (bytes_of l)
 
--- The bytes of a line between two places, ended or not.
-pub bytes-between : (text : List ℕ) (start end : ℕ) → take (end - start) (drop start text) ≡ bytes_of (line_between text start end)
-bytes-between text start end = go (ltb (end - start) (length (drop start text)))
-  where
-    bytes : List ℕ
-    bytes = take (end - start) (drop start text)
-
-    go : (t : Bool) → bytes ≡ bytes_of (cond t (ended bytes) (rest bytes))
-    go true = refl
-    go false = refl
+-- The bytes of a line as they are lent.
+pub bytes-lent : (l : lent.Line) → (bytes_lent l).now ≡ bytes_of (line_of l)
+bytes-lent (lent.TheVariants.Ended bytes) = refl
+bytes-lent (lent.TheVariants.Rest bytes) = refl
 
 module _ (line : List ℕ) where
   pub of-a-fit : is_frame (mended line) ≡ true → clean_line line ≡ mended line ++ lf ∷ []
@@ -44,24 +39,12 @@ module _ (line : List ℕ) where
   fit_length is = ap length (of-a-fit is) ∙ length-append (mended line) (lf ∷ []) ∙ ap (λ n. n + 1) (mended-length line)
 
   -- What is put of it: its bytes, raised, and LF.
-  pub fit-if-any : ¬ (length (clean_line line) ≡ 0) → is_frame (mended line) ≡ true
-  fit-if-any some = go (is_frame (mended line)) refl
-    where
-      go : (t : Bool) → is_frame (mended line) ≡ t → is_frame (mended line) ≡ true
-      go true is = is
-      go false is = absurd (some (ap length (of-another is)))
-
-  module _ (is : is_frame (mended line) ≡ true) (width : ℕ) (wide : width + 1 ≡ length (clean_line line)) where
-    width_is : width ≡ length (without_cr line)
-    width_is = omega (arith, wide, fit_length is)
-
-    pub within : width ≤ length line
-    within = omega (arith, width_is, no_longer line)
-
-    pub line-put : (out : List ℕ) → map raised (take width line) ++ lf ∷ drop (suc (length (take width line))) out ≡ in_front (clean_line line) out
-    line-put out =
-        let long : suc (length (take width line)) ≡ length (clean_line line) = omega (arith, wide, length-take-le width line within) in
-        rw (long, left-raised line width width_is, of-a-fit is) (sym (append_snoc (mended line) lf (drop (length (mended line ++ lf ∷ [])) out)))
+  pub line-put : is_frame (mended line) ≡ true → (out : List ℕ)
+      → map raised (without_cr line) ++ lf ∷ drop (suc (length (without_cr line))) out ≡ in_front (clean_line line) out
+  unfolding mended
+  line-put is out =
+      let long : suc (length (without_cr line)) ≡ length (clean_line line) = omega (arith, fit_length is) in
+      rw (long, of-a-fit is) (sym (append_snoc (mended line) lf (drop (length (mended line ++ lf ∷ [])) out)))
 
   clean-at-most : length (clean_line line) ≤ length line + 1
   clean-at-most = go (is_frame (mended line)) refl

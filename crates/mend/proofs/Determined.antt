@@ -1,11 +1,36 @@
--- The contract of the public function of mend leaves no choice: of the answer, and of every byte of both outputs.
+-- The contract of each public function of mend leaves no choice: of the answer, and of every byte of both outputs. What an answer tells, no
+-- other answer tells.
 -- Rests on bits' Determined.
-use mathlib.Core.Path.{◌∙◌, sym}
-use Rattle.bits.proofs.Determined.{Determines}
+use mathlib.Core.Path.{◌≡◌, ◌∙◌, refl, ap, sym}
+use Rattle.std.specs.Prelude.{cond, eqb, Result, Ok, Err}
+use Rattle.bits.proofs.Determined.{Determines, equation-determines}
+use Rattle.mend.specs.declared.Mended.{Mended}
+use Rattle.mend.specs.declared.MendRefusal.{MendRefusal}
+use Rattle.mend.specs.declared.MendRefusal.TheVariants.{TooLong, NoRoom}
+use Rattle.mend.specs.Mend.{Outcome, mend_told}
 use Rattle.mend.specs.contracts as mend_says
 use Rattle.mend.proofs as mend
 
+-- The answer that tells of an outcome.
+abbrev answer_of : Outcome → Result Mended MendRefusal
+answer_of o =
+    cond (eqb o.number 0) (Ok (record { clean = o.clean; report = o.report }))
+    (cond (eqb o.number 6) (Err TooLong) (Err NoRoom))
+
+told-so : (r : Result Mended MendRefusal) → r ≡ answer_of (mend_told r)
+told-so (Ok m) = refl
+told-so (Err TooLong) = refl
+told-so (Err NoRoom) = refl
+
+pub number-determined : Determines mend_says.MendRefusal.number.ended mend.MendRefusal.number.Reads.Learnt
+number-determined c x y = equation-determines
+
 -- Before both outputs stands the text, which is not written.
+pub mend-determined : Determines mend_says.mend.ended mend.mend.Reads.Learnt
+mend-determined c x y p q =
+    let result = told-so x.0 ∙ ap answer_of (p.0 ∙ sym q.0) ∙ sym (told-so y.0) in
+    λ i. (result i, (tt, ((p.1.0 ∙ sym q.1.0) i, ((p.1.1 ∙ sym q.1.1) i, tt))))
+
 pub towanchor-mend-determined : Determines mend_says.towanchor_mend.ended mend.towanchor_mend.Reads.Learnt
 towanchor-mend-determined c x y p q =
     λ i. ((p.0 ∙ sym q.0) i, (tt, ((p.1.0 ∙ sym q.1.0) i, ((p.1.1 ∙ sym q.1.1) i, tt))))

@@ -1,44 +1,40 @@
 -- The CR at the end of a line: what is left of the line without it.
 -- Rests on nothing.
-use mathlib.Core.Path.{◌≡◌, refl, ap}
+use mathlib.Core.Path.{◌≡◌, ◌∙◌, refl, ap, sym}
+use mathlib.Core.Logic.{◌≢◌}
 use mathlib.Core.Bool.{Bool, true, false, cond}
-use mathlib.Core.List.{List, [], ◌∷◌}
-use Prim.Native.Nat.{ℕ, zero, suc, ◌≤◌}
-use native.Mathlib.Nat.{suc_inj}
+use mathlib.Core.List.{List, [], ◌∷◌, ◌++◌}
+use Prim.Native.Nat.{ℕ, ◌≤◌}
 use native.Mathlib.Omega.{arith}
 use lib.Dec.{eqb}
-use lib.ListN.{length, get_or, take}
-use borrow.Author.Tests.{eq-eqb, ne_eqb}
+use lib.ListN.{length}
+use borrow.Author.Tests.{ne_eqb}
+use Rattle.std.proofs.Common.{Option, Some, None, Bor, unwrap_or}
+use Rattle.std.specs.Option.{MatchOption}
 use Rattle.mend.specs.Line.{cr, without_cr}
 
--- By the last byte.
-pub drops-one : (line : List ℕ) (last : ℕ) → length line ≡ suc last → get_or line last 0 ≡ cr → without_cr line ≡ take last line
+-- By what stands before it, or where nothing does.
+drops-one : (front : List ℕ) → without_cr (front ++ (cr ∷ [])) ≡ front
 unfolding without_cr
-drops-one [] last long is = absurd (omega (arith, long))
-drops-one (b ∷ []) zero long is = rw (eq-eqb b cr is)
-drops-one (b ∷ []) (suc last) long is = absurd (omega (arith, long))
-drops-one (b ∷ d ∷ bytes) zero long is = absurd (omega (arith, long))
-drops-one (b ∷ d ∷ bytes) (suc last) long is = ap (λ (l : List ℕ). b ∷ l) (drops-one (d ∷ bytes) last (suc_inj long) is)
+drops-one [] = refl
+drops-one (b ∷ []) = refl
+drops-one (b ∷ d ∷ front) = ap (λ (l : List ℕ). b ∷ l) (drops-one (d ∷ front))
 
-pub drops-none : (line : List ℕ) (last : ℕ) → length line ≡ suc last → ¬ (get_or line last 0 ≡ cr) → without_cr line ≡ line
+drops-none : (line : List ℕ) → ((front : List ℕ) → line ≢ front ++ (cr ∷ [])) → without_cr line ≡ line
 unfolding without_cr
-drops-none [] last long other = absurd (omega (arith, long))
-drops-none (b ∷ []) zero long other = rw (ne_eqb b cr other)
-drops-none (b ∷ []) (suc last) long other = absurd (omega (arith, long))
-drops-none (b ∷ d ∷ bytes) zero long other = absurd (omega (arith, long))
-drops-none (b ∷ d ∷ bytes) (suc last) long other = ap (λ (l : List ℕ). b ∷ l) (drops-none (d ∷ bytes) last (suc_inj long) other)
+drops-none [] none = refl
+drops-none (b ∷ []) none = rw (ne_eqb b cr (λ is. none [] (ap (λ b. b ∷ []) is))) refl
+drops-none (b ∷ d ∷ bytes) none =
+    ap (λ (l : List ℕ). b ∷ l) (drops-none (d ∷ bytes) (λ front is. none (b ∷ front) (ap (λ (l : List ℕ). b ∷ l) is)))
 
--- Either way the front of the line is left.
-pub front-left : (line : List ℕ) → without_cr line ≡ take (length (without_cr line)) line
-unfolding without_cr
-front-left [] = refl
-front-left (b ∷ []) = go (eqb b cr)
-  where
-    go : (t : Bool) → cond t [] (b ∷ []) ≡ take (length (cond t [] (b ∷ []))) (b ∷ [])
-    go true = refl
-    go false = refl
-front-left (b ∷ d ∷ bytes) = ap (λ (l : List ℕ). b ∷ l) (front-left (d ∷ bytes))
+-- So it is dropped by what a suffix leaves of the line.
+pub stripped : (line : Bor (List ℕ)) (left : Option (Bor (List ℕ)))
+    → MatchOption left ((front : List ℕ) → line.now ≢ front ++ (cr ∷ [])) (λ x. line.now ≡ x.now ++ (cr ∷ []))
+    → (unwrap_or left line).now ≡ without_cr line.now
+stripped line None none = sym (drops-none line.now none)
+stripped line (Some x) is = sym (ap without_cr is ∙ drops-one x.now)
 
+-- Either way no byte is added.
 pub no_longer : (line : List ℕ) → length (without_cr line) ≤ length line
 unfolding without_cr
 no_longer [] = omega arith

@@ -13,8 +13,8 @@ use Rattle.bits.specs.Same.{same_bytes}
 use Rattle.bits.proofs.Logic.{both, contrary}
 use Rattle.bits.proofs.Same.{same_lists, same_self}
 use Rattle.bits.proofs.Tested.{bits}
-use Rattle.events.specs.Kinds.{is_kind, operands_of}
-use Rattle.events.specs.Event.{Event}
+use Rattle.bus.specs.Kinds.{is_kind, operands_of}
+use Rattle.bus.specs.Event.{Event}
 use Rattle.text.specs.Digits.{digits, digit_code, in_digits}
 use Rattle.text.specs.Lines.{Line, ended, rest}
 use Rattle.text.specs.Frames.{leading_byte, is_frame, is_event, frame_in}

@@ -1,6 +1,6 @@
 -- What a call comes to, answers and leaves, by its number.
--- Rests on nothing.
-use mathlib.Core.Path.{◌≡◌, ◌∙◌, refl, ap}
+-- Rests on bits' Logic and text's LineCount.
+use mathlib.Core.Path.{◌≡◌, ◌∙◌, refl, ap, sym}
 use mathlib.Core.Bool.{Bool, true, false, cond, ◌||◌}
 use mathlib.Core.List.{List}
 use Prim.Native.Nat.{ℕ, zero, suc, ◌+◌, ◌*◌, ◌/◌, ◌%◌, ◌<◌, ◌≤◌}
@@ -8,12 +8,14 @@ use native.Mathlib.Omega.{arith}
 use lib.Dec.{ltb}
 use lib.ListN.{length, length-map}
 use borrow.Author.Tests.{ltb-false, eq-eqb, ne_eqb}
+use Rattle.std.specs.Prelude.{Ok}
 use Rattle.bits.proofs.Logic.{neither, by-test}
 use Rattle.text.specs.Lines.{lines_of, line_count}
+use Rattle.text.proofs.LineCount.{lines-at-most}
 use Rattle.script.specs.Run.{longest_script, too_long, too_long_number, no_room_number}
-use Rattle.mend.specs.declared.Outcome.{Outcome}
+use Rattle.mend.specs.declared.Mended.{Mended}
 use Rattle.mend.specs.Line.{sign_of}
-use Rattle.mend.specs.Mend.{clean_of, report_of, mend_number, accepted, outcome_by, outcome_of, packed, mend_answer, in_front, clean_left, report_left}
+use Rattle.mend.specs.Mend.{clean_of, report_of, mend_number, Outcome, accepted, outcome_by, outcome_of, mend_told, packed, mend_answer, in_front, clean_left, report_left}
 
 -- The report has as many signs as there are lines.
 pub signs-counted : (text : List ℕ) → length (report_of text) ≡ line_count text
@@ -94,6 +96,17 @@ module _ (text : List ℕ) (clean_room report_room : ℕ) where
 
     pub report-answered : mend_answer text clean_room report_room / 4294967296 ≡ length (report_of text)
     report-answered = taken-apart.2 ∙ ap (λ (o : Outcome). o.report) (lengths-are text clean_room report_room none)
+
+-- An answer tells lengths of a clean script and of a report, which are small: there are no more lines than bytes.
+pub told-small : (text : List ℕ) (clean_room report_room : ℕ) (m : Mended) → mend_told (Ok m) ≡ outcome_of text clean_room report_room
+    → (m.clean ≤ longest_script) × (m.report ≤ longest_script)
+told-small text clean_room report_room m told =
+    let none = sym (number_is text clean_room report_room) ∙ sym (ap (λ (o : Outcome). o.number) told) in
+    let is = told ∙ lengths-are text clean_room report_room none in
+    let accepted = when-accepted text clean_room report_room none in (
+      omega (arith, accepted.short_clean, ap (λ (o : Outcome). o.clean) is),
+      omega (arith, accepted.short, ap (λ (o : Outcome). o.report) is, signs-counted text, lines-at-most text),
+    )
 
 -- What a call answers and leaves: where it is refused, its number alone, and both outputs as they were; where it is accepted, both lengths, and
 -- both outputs with what was written in front.

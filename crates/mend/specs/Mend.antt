@@ -1,10 +1,12 @@
 -- The mending of a captured script: the clean script, the report, the number, the answer, and what both outputs then hold
 -- ("Mending captured scripts").
-use Rattle.std.specs.Prelude.{cond, ◌||◌, ℕ, ◌+◌, ◌*◌, eqb, ltb, length, drop}
+use Rattle.std.specs.Prelude.{cond, ◌||◌, ℕ, ◌+◌, ◌*◌, eqb, ltb, length, drop, Result, Ok, Err}
 use mathlib.Core.List.{List, ◌++◌, map, flat_map}
 use Rattle.text.specs.Lines.{Line, lines_of, line_count}
 use Rattle.script.specs.Run.{too_long, too_long_number, no_room_number}
-use Rattle.mend.specs.declared.Outcome.{Outcome}
+use Rattle.mend.specs.declared.Mended.{Mended}
+use Rattle.mend.specs.declared.MendRefusal.{MendRefusal}
+use Rattle.mend.specs.declared.MendRefusal.TheVariants.{TooLong, NoRoom}
 use Rattle.mend.specs.Line.{bytes_of, sign_of, clean_line}
 
 -- The clean script is what it has of each line, one after the other.
@@ -22,7 +24,17 @@ mend_number text clean_room report_room =
     cond (too_long text || too_long (clean_of text)) too_long_number
     (cond (ltb clean_room (length (clean_of text)) || ltb report_room (line_count text)) no_room_number 0)
 
+-- The number of a refusal.
+abbrev pub mend_refusal_number : MendRefusal → ℕ
+mend_refusal_number TooLong = too_long_number
+mend_refusal_number NoRoom = no_room_number
+
 -- What a call comes to: its number, and both lengths, which are 0 where it is refused.
+pub record Outcome : Type 0 where
+  pub number : ℕ
+  pub clean : ℕ
+  pub report : ℕ
+
 abbrev pub refused_by : ℕ → Outcome
 refused_by n = record { number = n; clean = 0; report = 0 }
 
@@ -35,7 +47,12 @@ outcome_by n text = cond (eqb n 0) (accepted text) (refused_by n)
 abbrev pub outcome_of : List ℕ → ℕ → ℕ → Outcome
 outcome_of text clean_room report_room = outcome_by (mend_number text clean_room report_room) text
 
--- The answer has the length of the clean text above the number, from bit 8 on, and that of the report from bit 32 on.
+-- What the answer of the Rattle function tells of it.
+abbrev pub mend_told : Result Mended MendRefusal → Outcome
+mend_told (Ok m) = record { number = 0; clean = m.clean; report = m.report }
+mend_told (Err r) = refused_by (mend_refusal_number r)
+
+-- The answer for C has the length of the clean text above the number, from bit 8 on, and that of the report from bit 32 on.
 abbrev pub packed : Outcome → ℕ
 packed o = o.number + 256 * o.clean + 4294967296 * o.report
 

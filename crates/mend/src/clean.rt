@@ -1,10 +1,10 @@
-// The clean script: how long it is, and its writing.
+//! The clean script: how long it is, and its writing.
 ghost use Rattle.std.specs.Prelude.{◌≡◌, ◌≤◌, length};
 ghost use Rattle.mend.specs.Line.{clean_line};
 ghost use Rattle.mend.specs.Mend.{clean_of, in_front};
 
-use super::line;
-use text::lines;
+use crate::line;
+use text::lines::Lines;
 
 // How many bytes the clean script has of a line: its own and LF where it is fit, and else none.
 #[tactic(auto, unfolding(crate::specs::Line::clean_line))]
@@ -12,7 +12,7 @@ fn length_of(line: &[u8]) -> usize
     ensures { result ≡ length (clean_line line.now) }
 {
     if line::is_fit(line) {
-        line::width(line) + 1
+        line::without_cr(line).len() + 1
     } else {
         0
     }
@@ -22,12 +22,9 @@ fn length_of(line: &[u8]) -> usize
 pub(super) fn length(text: &[u8]) -> usize
     ensures { result ≡ length (clean_of text.now) }
 {
-    let mut start = 0;
     let mut length = 0;
-    while start < text.len() {
-        let end = lines::end(text, start);
-        length = length + length_of(&text[start..end]);
-        start = end + 1;
+    for line in Lines::new(text) {
+        length += length_of(line.bytes());
     }
     length
 }
@@ -39,13 +36,12 @@ fn put_line(out: &mut [u8], line: &[u8]) -> usize
     ensures value { result ≡ length (clean_line line.now) }
     ensures out_after { out.new ≡ in_front (clean_line line.now) out.old }
 {
-    let length = length_of(line);
-    if length == 0 {
+    if !line::is_fit(line) {
         return 0;
     }
-    let width = length - 1;
-    line::put(out, &line[..width]);
-    length
+    let bytes = line::without_cr(line);
+    line::put(out, bytes);
+    bytes.len() + 1
 }
 
 // Writes the clean script to the front of an output, each line from where the last one stopped.
@@ -54,11 +50,8 @@ pub(super) fn write(text: &[u8], out: &mut [u8])
     requires { length (clean_of text.now) ≤ length out.old }
     ensures { out.new ≡ in_front (clean_of text.now) out.old }
 {
-    let mut start = 0;
     let mut at = 0;
-    while start < text.len() {
-        let end = lines::end(text, start);
-        at = at + put_line(&mut out[at..], &text[start..end]);
-        start = end + 1;
+    for line in Lines::new(text) {
+        at += put_line(&mut out[at..], line.bytes());
     }
 }

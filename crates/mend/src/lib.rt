@@ -1,72 +1,88 @@
-// Mending a captured script: a clean script is made of its lines, and a report has a sign for each of them. include/towanchor.h declares
-// towanchor_mend.
+//! Mending a captured script: a clean script is made of its lines, and a report has a sign for each of them.
 #![tactic(auto)]
 
 ghost use Rattle.std.specs.Prelude.{◌≡◌, length};
-ghost use Rattle.mend.specs.Mend.{refused_by, outcome_of, mend_answer, clean_left, report_left};
+ghost use Rattle.mend.specs.Mend.{mend_refusal_number, mend_told, outcome_of, mend_answer, clean_left, report_left};
 
-use bus::ACCEPTED;
-use script::{LONGEST, NO_ROOM, TOO_LONG};
+use script::LONGEST;
 use text::lines;
 
 mod clean;
 mod line;
 mod report;
 
-// What a call comes to: its number, and the lengths of the clean script and of the report.
-#[derive(Clone, Copy)]
-struct Outcome {
-    number: u8,
-    clean: usize,
-    report: usize,
+/// How long the clean script and the report are.
+#[derive(Clone, Copy, Debug, PartialEq, Eq)]
+pub struct Mended {
+    pub clean: usize,
+    pub report: usize,
 }
 
-// A call that is refused writes nothing.
-fn refuse(number: u8) -> Outcome
-    ensures { result ≡ refused_by number }
-{
-    Outcome {
-        number,
-        clean: 0,
-        report: 0,
+/// Why a call is refused.
+#[derive(Clone, Copy, Debug, PartialEq, Eq)]
+pub enum MendRefusal {
+    /// The text or its clean form is longer than a script may be.
+    TooLong,
+    /// One of the outputs has too little room.
+    NoRoom,
+}
+
+impl MendRefusal {
+    /// The number of the refusal.
+    pub fn number(self) -> u8
+        ensures { result ≡ mend_refusal_number self }
+    {
+        match self {
+            MendRefusal::TooLong => 6,
+            MendRefusal::NoRoom => 7,
+        }
     }
 }
 
 // What a call comes to, by the text and by the room that each output has.
 #[tactic(auto, unfolding(crate::specs::Mend::mend_number, crate::specs::Mend::report_of))]
-fn judge(text: &[u8], clean: usize, report: usize) -> Outcome
-    ensures { result ≡ outcome_of text.now clean report }
+fn judge(text: &[u8], clean: usize, report: usize) -> Result<Mended, MendRefusal>
+    ensures { mend_told result ≡ outcome_of text.now clean report }
 {
     if LONGEST < text.len() {
-        return refuse(TOO_LONG);
+        return Err(MendRefusal::TooLong);
     }
     let length = clean::length(text);
     if LONGEST < length {
-        return refuse(TOO_LONG);
+        return Err(MendRefusal::TooLong);
     }
     let lines = lines::count(text);
-    if (clean < length) | (report < lines) {
-        return refuse(NO_ROOM);
+    if clean < length || report < lines {
+        return Err(MendRefusal::NoRoom);
     }
-    Outcome {
-        number: ACCEPTED,
+    Ok(Mended {
         clean: length,
         report: lines,
-    }
+    })
 }
 
-// Writes the clean script and the report to the front of their outputs, and gives both lengths above the number. A refused call writes nothing.
-#[tactic(auto, unfolding(crate::specs::Mend::mend_answer, crate::specs::Mend::clean_left, crate::specs::Mend::report_left, crate::specs::Mend::mend_number))]
+/// Writes the clean script and the report to the front of their outputs. A refused call leaves both as they were.
+#[tactic(auto, unfolding(crate::specs::Mend::clean_left, crate::specs::Mend::report_left, crate::specs::Mend::mend_number))]
+pub fn mend(text: &[u8], clean: &mut [u8], report: &mut [u8]) -> Result<Mended, MendRefusal>
+    ensures told { mend_told result ≡ outcome_of text.now (length clean.old) (length report.old) }
+    ensures clean_after { clean.new ≡ clean_left text.now clean.old report.old }
+    ensures report_after { report.new ≡ report_left text.now clean.old report.old }
+{
+    let mended = judge(text, clean.len(), report.len())?;
+    clean::write(text, clean);
+    report::write(text, report);
+    Ok(mended)
+}
+
+/// The same for C: it gives both lengths above the number. include/towanchor.h declares it.
+#[tactic(auto, unfolding(crate::specs::Mend::mend_answer))]
 pub fn towanchor_mend(text: &[u8], clean: &mut [u8], report: &mut [u8]) -> u64
     ensures value { result ≡ mend_answer text.now (length clean.old) (length report.old) }
     ensures clean_after { clean.new ≡ clean_left text.now clean.old report.old }
     ensures report_after { report.new ≡ report_left text.now clean.old report.old }
 {
-    let outcome = judge(text, clean.len(), report.len());
-    if outcome.number != ACCEPTED {
-        return outcome.number as u64;
+    match mend(text, clean, report) {
+        Ok(mended) => 256 * (mended.clean as u64) + 4_294_967_296 * (mended.report as u64),
+        Err(refusal) => u64::from(refusal.number()),
     }
-    clean::write(text, clean);
-    report::write(text, report);
-    256 * (outcome.clean as u64) + 4_294_967_296 * (outcome.report as u64)
 }

@@ -9,7 +9,7 @@ use lib.Dec.{eqb}
 use lib.ListN.{length, replicate}
 use lib.Seq.{append_snoc}
 use borrow.Author.Tests.{eqb-true, ne_eqb}
-use Rattle.events.specs.Event.{Event}
+use Rattle.bus.specs.Event.{Event}
 use Rattle.text.specs.Lines.{lf, Line, ended, rest, before_lines, lines_of}
 use Rattle.text.specs.Frames.{is_frame, frame_of, frame_in}
 use Rattle.text.specs.History.{event_of}

@@ -2,7 +2,7 @@
 -- Rests on nothing.
 use mathlib.Core.Path.{◌≡◌, refl}
 use mathlib.Core.List.{flat_map}
-use Rattle.events.specs.Kinds.{is_kind, operands_of}
+use Rattle.bus.specs.Kinds.{is_kind, operands_of}
 use Rattle.text.specs.Digits.{digit_value, pair_value}
 use Rattle.text.specs.Lines.{lines_of}
 use Rattle.text.specs.Frames.{leading_byte, is_frame}

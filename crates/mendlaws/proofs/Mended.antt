@@ -8,13 +8,16 @@ use native.Mathlib.Omega.{arith}
 use lib.Dec.{ltb}
 use lib.ListN.{length, length-map}
 use borrow.Author.Tests.{lt-ltb, le-ltb}
-use Rattle.events.specs.Event.{Event}
+use Rattle.bus.specs.Event.{Event}
+use Rattle.chip.specs.Pins.{pins_of}
+use Rattle.chip.specs.Step.{device}
+use Rattle.i8355.specs.Views.{pins_of as pins_of_8355}
+use Rattle.i8355.specs.Step.{device as device8355}
 use Rattle.text.specs.Lines.{Line, lines_of, line_count}
 use Rattle.text.specs.Frames.{frame_in}
 use Rattle.text.specs.History.{event_of, history_of}
 use Rattle.script.proofs.History.{history-answered}
 use Rattle.script.specs.Run.{longest_script, too_long}
-use Rattle.script.specs.Answers.{as_8255a, as8355}
 use Rattle.script.specs.History.{answers_to}
 use Rattle.mend.specs.Line.{sign_of}
 use Rattle.mend.specs.Mend.{clean_of, report_of, mend_number}
@@ -139,8 +142,8 @@ module _ (text clean report : List ℕ) (accepted : answer_of text clean report 
     none_malformed = none-malformed;
     read = read;
     one_line_each = sym (length-map (lines_of (clean_text text clean report)) (λ (l : Line). event_of (frame_in l))) ∙ ap length read ∙ sym (fit_all become);
-    answered = λ c. history-answered (as_8255a c) (clean_text text clean report) ∙ ap (answers_to (as_8255a c)) read;
-    answered8355 = λ c. history-answered (as8355 c) (clean_text text clean report) ∙ ap (answers_to (as8355 c)) read;
+    answered = λ c. history-answered device pins_of c (clean_text text clean report) ∙ ap (answers_to device pins_of c) read;
+    answered8355 = λ c. history-answered device8355 pins_of_8355 c (clean_text text clean report) ∙ ap (answers_to device8355 pins_of_8355 c) read;
     again = λ clean' report' room room'.
         stays (clean_text text clean report) clean' report' none-malformed
         (omega (arith, ap length (clean_is text clean report zero), (fits text clean report zero).short_clean)) room room';

@@ -9,7 +9,7 @@ use lib.Dec.{eqb}
 use lib.ListN.{length}
 use borrow.Author.Tests.{eqb-true}
 use Rattle.bits.proofs.Logic.{contrary}
-use Rattle.events.specs.Event.{Event}
+use Rattle.bus.specs.Event.{Event}
 use Rattle.text.specs.Lines.{Line, ended, rest}
 use Rattle.text.specs.Frames.{is_frame, frame_of, is_event, frame_in}
 use Rattle.text.specs.History.{event_of}

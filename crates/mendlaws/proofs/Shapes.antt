@@ -1,5 +1,5 @@
 -- A line is a frame exactly where it says an event in plain codes.
--- Rests on bits' Tested, events' ByKind and text's WrittenBack.
+-- Rests on bits' Tested, the bus's ByKind and text's WrittenBack.
 use mathlib.Core.Path.{◌≡◌, ◌∙◌, refl, ap, sym, subst}
 use mathlib.Core.Bool.{Bool, true, false}
 use mathlib.Core.List.{List, [], ◌∷◌}
@@ -10,12 +10,11 @@ use lib.ListN.{get_or}
 use borrow.Author.Tests.{lt-ltb, ltb-true, ltb-false}
 use Rattle.bits.proofs.Logic.{contrary}
 use Rattle.bits.proofs.Tested.{numbers}
-use Rattle.events.specs.Kinds.{is_kind, no_kind, operands_of}
-use Rattle.events.specs.Event.{Event, event}
-use Rattle.events.proofs.ByKind.{by_kind}
-use Rattle.text.specs.declared.Frame.TheVariants.{Event as Frame-as-Event}
+use Rattle.bus.specs.Kinds.{is_kind, no_kind, operands_of}
+use Rattle.bus.specs.Event.{Event, event}
+use Rattle.bus.proofs.ByKind.{by_kind}
 use Rattle.text.specs.Digits.{digits, digit_value, digit_code, in_digits, no_byte, pair_value}
-use Rattle.text.specs.Frames.{leading_byte, is_frame, frame_of}
+use Rattle.text.specs.Frames.{Event as Frame-as-Event, leading_byte, is_frame, frame_of}
 use Rattle.text.specs.Written.{written_out, Exact}
 use Rattle.text.proofs.WrittenBack.{event_in, exact-event, written_back}
 use Rattle.mendlaws.specs.Says.{Digit, figure, letter, Byte, Says, reset, begin_read, end_cycle, begin_write, levels}

@@ -9,7 +9,7 @@ use lib.Dec.{eqb, ltb}
 use lib.ListN.{get_or, drop}
 use borrow.Author.Tests.{eqb-true, ne_eqb, ltb-true, ltb-false}
 use Rattle.bits.proofs.Tested.{numbers}
-use Rattle.events.specs.Event.{Event}
+use Rattle.bus.specs.Event.{Event}
 use Rattle.text.specs.Digits.{digits}
 use Rattle.text.proofs.WrittenBack.{no_place}
 use Rattle.mend.specs.Line.{cr, small_digits, without_cr, raised, mended}

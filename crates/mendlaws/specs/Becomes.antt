@@ -1,7 +1,7 @@
 -- What becomes of the lines of a captured script, as a relation ("Mending captured scripts"): of each its sign, what the clean script has of it,
 -- and the event that it says.
 use Rattle.std.specs.Prelude.{◌≡◌, List, [], ◌∷◌, ◌++◌, ℕ}
-use Rattle.events.specs.Event.{Event}
+use Rattle.bus.specs.Event.{Event}
 use Rattle.text.specs.Lines.{Line, ended, rest}
 use Rattle.mendlaws.specs.Says.{Says}
 use Rattle.mendlaws.specs.Spells.{Spells, Blank}

@@ -1,12 +1,16 @@
 -- What is promised of a call that mends a captured script: of its number, of both outputs, and of what the clean script means
 -- ("Mending captured scripts").
 use Rattle.std.specs.Prelude.{◌≡◌, cond, ◌||◌, List, [], ◌∷◌, ℕ, suc, ◌+◌, ◌/◌, ◌%◌, ◌<◌, ◌≤◌, eqb, length, take, drop, replicate}
-use Rattle.events.specs.Event.{Event}
+use Rattle.bus.specs.Event.{Event}
 use Rattle.chip.specs.declared.Chip.{Chip}
+use Rattle.chip.specs.Pins.{pins_of}
+use Rattle.chip.specs.Step.{device}
 use Rattle.i8355.specs.declared.Chip8355.{Chip8355}
+use Rattle.i8355.specs.Views.{pins_of as pins_of_8355}
+use Rattle.i8355.specs.Step.{device as device8355}
 use Rattle.text.specs.Lines.{lines_of, line_count}
 use Rattle.text.specs.History.{history_of}
-use Rattle.script.specs.Answers.{as_8255a, as8355, answers_of}
+use Rattle.script.specs.Answers.{by_device, answers_of}
 use Rattle.script.specs.History.{answers_to}
 use Rattle.mend.specs.Mend.{mend_answer, clean_left, report_left}
 use Rattle.mendlaws.specs.Says.{AllSay}
@@ -60,8 +64,9 @@ pub record Mended (text clean report : List ℕ) : Type 0 where
   pub read : history_of (clean_text text clean report) ≡ events
   pub one_line_each : line_count (clean_text text clean report) ≡ fit_signs (signs text clean report)
   -- Whoever answers the clean script, a chip of either edition or an 8355, in any state, answers these events, in order.
-  pub answered : (c : Chip) → answers_of (as_8255a c) (clean_text text clean report) ≡ answers_to (as_8255a c) events
-  pub answered8355 : (c : Chip8355) → answers_of (as8355 c) (clean_text text clean report) ≡ answers_to (as8355 c) events
+  pub answered : (c : Chip) → answers_of (by_device device pins_of) c (clean_text text clean report) ≡ answers_to device pins_of c events
+  pub answered8355 : (c : Chip8355)
+      → answers_of (by_device device8355 pins_of_8355) c (clean_text text clean report) ≡ answers_to device8355 pins_of_8355 c events
   -- Mended again, it stays as it is.
   pub again : (clean' report' : List ℕ) → length (clean_text text clean report) ≤ length clean'
       → line_count (clean_text text clean report) ≤ length report' → Stays (clean_text text clean report) clean' report'

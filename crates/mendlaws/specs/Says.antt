@@ -1,6 +1,6 @@
 -- Which line of a script says which event, in plain codes ("Script and program", "Mending captured scripts").
 use Rattle.std.specs.Prelude.{◌≡◌, List, [], ◌∷◌, ℕ, ◌+◌, ◌*◌, ◌<◌, ◌≤◌}
-use Rattle.events.specs.Event.{Event, event}
+use Rattle.bus.specs.Event.{Event, event}
 use Rattle.text.specs.Lines.{Line, ended}
 
 -- The digit that is worth n: 0 to 9 have the codes from 48 on, and A to F those from 65 on.

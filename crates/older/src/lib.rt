@@ -1,8 +1,8 @@
-// A chip in 64 bytes, as earlier versions saved it: whether bytes are such an image (good), and the image that they become
-// (convert). Nothing is saved so any more. All but the bus is put where an image of today has it, and is then the crate image's to judge.
+//! A chip in 64 bytes, the older image: whether bytes are one (good), and the image that they become (convert). Nothing writes an older
+//! image. All but its bus is put where an image has it, and is then the crate image's to judge.
 #![tactic(auto)]
 
-ghost use Rattle.std.specs.Prelude.{◌≡◌, ◌+◌, ◌-◌, ◌≤◌, length, take, drop};
+ghost use Rattle.std.specs.Prelude.{◌≡◌, ◌+◌, ◌≤◌, length};
 ghost use Rattle.std.proofs.lemmas.List.Edits.{sets};
 ghost use Rattle.older.specs.Places as places;
 ghost use Rattle.image.specs.Places as now;
@@ -16,13 +16,12 @@ use bus::Phase;
 use image::places as now;
 use places::{ADDRESS, BUS, CHANNEL_TALLIES, LENGTH, LEVELS_A, TALLIES, UNUSED, WRITTEN};
 
-fn put(moved: &mut [u8], at: usize, older: &[u8], from: usize, end: usize)
-    requires in_order { from ≤ end }
-    requires in_older { end ≤ length older.now }
-    requires in_moved { at + (end - from) ≤ length moved.old }
-    ensures { moved.new ≡ sets moved.old at (take (end - from) (drop from older.now)) }
+// The bytes from a place on become those of a part.
+fn put(moved: &mut [u8], at: usize, part: &[u8])
+    requires { at + length part.now ≤ length moved.old }
+    ensures { moved.new ≡ sets moved.old at part.now }
 {
-    moved[at..at + (end - from)].copy_from_slice(&older[from..end]);
+    moved[at..at + part.len()].copy_from_slice(part);
 }
 
 // The bytes at the places of an image of the older edition, on an idle bus. The two tallies that an older image lacks are 0.
@@ -33,30 +32,24 @@ fn moved(older: &[u8]) -> [u8; now::LENGTH]
     let mut moved = [0u8; now::LENGTH];
     moved[now::BUS] = now::IDLE;
     moved[now::EDITION] = now::OLDER;
-    put(&mut moved, now::TALLIES, older, TALLIES, CHANNEL_TALLIES);
+    put(&mut moved, now::TALLIES, &older[TALLIES..CHANNEL_TALLIES]);
     put(
         &mut moved,
         now::CHANNEL_TALLIES,
-        older,
-        CHANNEL_TALLIES,
-        2 * CHANNEL_TALLIES,
+        &older[CHANNEL_TALLIES..2 * CHANNEL_TALLIES],
     );
     put(
         &mut moved,
         2 * now::CHANNEL_TALLIES,
-        older,
-        2 * CHANNEL_TALLIES,
-        3 * CHANNEL_TALLIES,
+        &older[2 * CHANNEL_TALLIES..3 * CHANNEL_TALLIES],
     );
     put(
         &mut moved,
         3 * now::CHANNEL_TALLIES,
-        older,
-        3 * CHANNEL_TALLIES,
-        LEVELS_A,
+        &older[3 * CHANNEL_TALLIES..LEVELS_A],
     );
-    put(&mut moved, now::LEVELS_A, older, LEVELS_A, BUS);
-    put(&mut moved, now::UNUSED, older, UNUSED, LENGTH);
+    put(&mut moved, now::LEVELS_A, &older[LEVELS_A..BUS]);
+    put(&mut moved, now::UNUSED, &older[UNUSED..LENGTH]);
     moved
 }
 
@@ -79,7 +72,7 @@ fn fits(image: &[u8]) -> bool
     cycle(image[BUS], image[ADDRESS], image[WRITTEN]) & image::check::good(&moved)
 }
 
-// Whether the bytes are an older image of a state. Those of another length are none.
+/// Whether the bytes are an older image of a state. Those of another length are none.
 #[tactic(auto, unfolding(crate::specs::Good::is_older))]
 pub fn good(image: &[u8]) -> bool
     ensures { result ≡ is_older image.now }
@@ -111,8 +104,8 @@ fn whole(older: &[u8], image: &mut [u8])
     image::save::bus(image, phase);
 }
 
-// The image that the bytes become, written over those of image; of an older image it is the image of the same state. Where there are more
-// or fewer bytes than an older image has, or an image, nothing is written.
+/// The image that the bytes become, written over those of image; of an older image it is the image of the same state. Where there are more
+/// or fewer bytes than an older image has, or an image, nothing is written.
 #[tactic(auto, unfolding(crate::specs::Slices::converted_in))]
 pub fn convert(older: &[u8], image: &mut [u8])
     ensures { image.new ≡ converted_in older.now image.old }

@@ -1,4 +1,4 @@
-// The places of an older image: where each of its parts begins, and how long it is. specs/Places.antt has the same list for the definitions.
+//! The places of an older image: where each of its parts begins, and how long it is. specs/Places.antt has the same list for the definitions.
 
 // Of each channel, A in, A out, B in and B out, five tallies of two bytes.
 pub const TALLIES: usize = 0;

@@ -1,5 +1,4 @@
 pub mod InBases
 pub mod Places
-pub mod OnCard
-pub mod Aims
 pub mod Stays
+pub mod Determined

@@ -3,3 +3,4 @@ pub mod State
 pub mod Targets
 pub mod Step
 pub mod Views
+pub mod Answers

@@ -1,5 +1,5 @@
 -- A rack: the registers of its cards, what it is when it is built, and each card as a chip ("A rack of cards").
-use Rattle.std.specs.Prelude.{cond, List, [], ◌++◌, ℕ, ◌+◌, ◌-◌, ◌*◌, ◌/◌, ◌%◌, eqb, length, get_or, set, replicate}
+use Rattle.std.specs.Prelude.{cond, List, ◌++◌, ℕ, ◌+◌, ◌-◌, ◌*◌, ◌/◌, ◌%◌, eqb, length, get_or, set, replicate, Result, Ok, Err}
 use Rattle.bus.specs.declared.Phase.{Phase}
 use Rattle.bus.specs.declared.Phase.TheVariants.{Idle, Reading, Writing}
 use Rattle.chip.specs.declared.Core.{Core}
@@ -7,10 +7,10 @@ use Rattle.chip.specs.declared.Edition.{Edition}
 use Rattle.chip.specs.declared.Edition.TheVariants.{Older}
 use Rattle.chip.specs.declared.Chip.{Chip}
 use Rattle.chip.specs.State.{no_enables, fresh_port, power_up}
-use Rattle.step.specs.Step.{on_bus}
+use Rattle.chip.specs.Step.{on_bus}
 use Rattle.rack.specs.declared.Rack.{Rack}
-use Rattle.rack.specs.declared.Built.{Built}
-use Rattle.rack.specs.Bases.{bad_rack_number, most_cards, makes_rack}
+use Rattle.rack.specs.declared.refusals.BadRack.{BadRack}
+use Rattle.rack.specs.Bases.{most_cards, makes_rack}
 
 -- One bus runs through the rack, and its registers are numbered through: first register 0 of the eight places in turn, then register 1, 2
 -- and 3. So those that can be read come before those that cannot.
@@ -41,7 +41,7 @@ cards_of r = record { count = r.count; bases = r.bases; cores = r.cores }
 
 -- A rack is a phase of the bus and the cards.
 abbrev pub rack_on : Phase → Cards → Rack
-rack_on ph s = record { bus = record { phase = ph }; count = s.count; bases = s.bases; cores = s.cores }
+rack_on ph s = record { phase = ph; count = s.count; bases = s.bases; cores = s.cores }
 
 -- What is at a place. There are eight places, and what stands for any other, all zeros, is not asked.
 abbrev pub no_core : Core
@@ -57,7 +57,7 @@ card_edition = Older
 
 -- The card at a place, as a chip alone would be.
 unfoldable pub chip_at : Rack → ℕ → Chip
-chip_at r i = on_bus (seen_at i r.bus.phase) card_edition (core_in r.cores i)
+chip_at r i = on_bus (seen_at i r.phase) card_edition (core_in r.cores i)
 
 -- The cards with that at a place made anew.
 abbrev pub with_core : Cards → ℕ → Core → Cards
@@ -66,16 +66,12 @@ with_core s i c = record { count = s.count; bases = s.bases; cores = set s.cores
 -- A rack of cards with these bases, in their order, each at its power-up. The places behind the last hold the same, and have no card.
 unfoldable pub rack_of : List ℕ → Rack
 rack_of bs = record {
-  bus = record { phase = Idle };
+  phase = Idle;
   count = length bs;
   bases = bs ++ replicate (most_cards - length bs) 0;
   cores = replicate most_cards power_up.core;
 }
 
--- The rack of no cards.
-abbrev pub no_cards : Rack
-no_cards = rack_of []
-
--- What the building of a rack gives: 0 and the rack; or 9, and then there is no card.
-unfoldable pub built_of : List ℕ → Built
-built_of bs = cond (makes_rack bs) (record { number = 0; rack = rack_of bs }) (record { number = bad_rack_number; rack = no_cards })
+-- What the building of a rack gives: the rack, where the bases make one.
+unfoldable pub built_of : List ℕ → Result Rack BadRack
+built_of bs = cond (makes_rack bs) (Ok (rack_of bs)) (Err (record {}))

@@ -1,22 +1,18 @@
 -- The rack as a device on the bus, and its step ("A rack of cards", "Events and numbers").
-use Rattle.std.specs.Prelude.{refl, cond, map, ℕ, ◌*◌, eqb}
-use Rattle.events.specs.Kinds as kinds
+use Rattle.std.specs.Prelude.{refl, cond, map, ℕ, ◌*◌, eqb, Option, Some, None}
+use Rattle.bus.specs.Kinds as kinds
 use Rattle.bus.specs.declared.Phase.{Phase}
 use Rattle.bus.specs.declared.Phase.TheVariants.{Idle, Reading, Writing}
 use Rattle.bus.specs.declared.Limits.{Limits}
-use Rattle.bus.specs.Refusals.{limits_of, number_of}
+use Rattle.bus.specs.Refusals.{limits_of}
 use Rattle.bus.specs.Device.{Device, Given, step_in}
 use Rattle.bus.specs.Cycles.{refused_in}
 use Rattle.chip.specs.declared.Core.{Core}
-use Rattle.step.specs.Step as card
+use Rattle.chip.specs.Step as card
 use Rattle.rack.specs.declared.Rack.{Rack}
-use Rattle.rack.specs.declared.targets.Target.{Target}
-use Rattle.rack.specs.declared.targets.Target.TheVariants.{NoCard, At}
-use Rattle.rack.specs.declared.event.Aim.{Aim}
-use Rattle.rack.specs.declared.event.Stepped.{Stepped}
 use Rattle.rack.specs.Bases.{no_card_number, most_cards}
 use Rattle.rack.specs.State.{number_at, place_of, register_of, seen_at, Cards, cards_of, rack_on, core_in, card_edition, chip_at, with_core}
-use Rattle.rack.specs.Targets.{target_of}
+use Rattle.rack.specs.Targets.{Target, target_of}
 
 -- Each register of a card is there at eight places: the first three can be read, and have levels.
 abbrev pub limits : Limits
@@ -27,16 +23,6 @@ abbrev pub runs_at : Phase → ℕ
 runs_at Idle = 0
 runs_at (Reading x) = place_of x
 runs_at (Writing x d) = place_of x
-
--- The place that an event of kind k reaches, where it is for the card at a place: an end goes to the card on which the cycle runs.
-abbrev pub reached_by : Phase → ℕ → ℕ → ℕ
-reached_by ph k place = cond (eqb k kinds.end_cycle) (runs_at ph) place
-
--- What is found out of an event of kind k before anything is done: its number, and the place and the register that it reaches.
-abbrev pub aim_of : Phase → ℕ → Target → Aim
-aim_of ph k NoCard = record { number = no_card_number; place = 0; register = 0 }
-aim_of ph k (At place register) =
-    record { number = number_of (card.limits card_edition) ph k register; place = reached_by ph k place; register = register }
 
 -- What is in a place, as the rest of a card; and what a reset makes of it.
 abbrev pub card_rest : Core → card.Rest
@@ -49,7 +35,7 @@ core_reset c = ((card.device).after_reset (card_rest c)).core
 -- to that whose register they name, an end to that on which the cycle runs.
 abbrev pub device : Device Rack Cards
 device = record {
-  phase = λ r. r.bus.phase;
+  phase = λ r. r.phase;
   rest = cards_of;
   on = rack_on;
   limits = λ s. limits;
@@ -71,11 +57,16 @@ abbrev pub byte_of : ℕ → ℕ → ℕ → ℕ
 byte_of k y z = cond (eqb k kinds.outside_levels) z y
 
 -- An event that is for no card is refused with 10; any other is one of the device, at the number of its card and register.
-abbrev pub step_at : Rack → Target → ℕ → ℕ → Given Rack
-step_at r NoCard k d = refused_in r no_card_number
-step_at r (At place register) k d = step_in device r k (number_at place register) d
+abbrev pub step_at : Rack → Option Target → ℕ → ℕ → Given Rack
+step_at r None k d = refused_in r no_card_number
+step_at r (Some t) k d = step_in device r k (number_at t.0 t.1) d
 
--- What an event gives, as the step's struct.
+-- What an event gives: the rack, the number and the byte.
+pub record Stepped : Type 0 where
+  pub rack : Rack
+  pub number : ℕ
+  pub byte : ℕ
+
 abbrev pub as_stepped : Given Rack → Stepped
 as_stepped o = record { rack = o.state; number = o.number; byte = o.byte }
 

@@ -1,22 +1,27 @@
-// A rack of up to eight cards on one bus, and how it is built.
+//! A rack of up to eight cards on one bus: how it is built, what each card shows, and what an event makes of it.
 #![tactic(auto)]
 
-ghost use Rattle.std.specs.Prelude.{◌≡◌, ◌++◌, ◌≤◌, ◌-◌, length, replicate};
-ghost use Rattle.rack.specs.Bases.{is_base, is_among, are_bases, makes_rack, most_cards};
+ghost use Rattle.std.specs.Prelude.{◌≡◌, []};
+ghost use Rattle.rack.specs.Bases.{is_base, is_among, are_bases};
 ghost use Rattle.rack.specs.State.{rack_of, built_of};
 
-use bus::{ACCEPTED, Phase};
-use chip::{Core, Edition};
+mod device;
+pub mod events;
+pub mod refusals;
+mod steps;
+mod targets;
+mod views;
 
-pub mod event;
-pub mod targets;
-pub mod views;
+use bus::Phase;
+use chip::{Chip, Core, Edition};
+use refusals::BadRack;
 
-// How many cards a rack has room for, each in a place of its own; how many byte locations a card has, and how many registers.
+/// How many cards a rack has room for, each in a place of its own.
 pub const MOST_CARDS: usize = 8;
 
 const PLACES: u8 = 8;
 
+// How many byte locations a card has, and how many registers.
 const CARD_WIDTH: u16 = 8;
 
 const REGISTERS: u16 = 4;
@@ -26,39 +31,22 @@ const LAST_BASE: u16 = 0x7f8;
 // The edition of every card: where none is named it is the older, and the building of a rack names none.
 const CARD_EDITION: Edition = Edition::Older;
 
-// The numbers that a rack has beside those of a device: the bases make no rack; there is no card at this address or place.
-pub const BAD_RACK: u8 = 9;
-
-pub const NO_CARD: u8 = 10;
-
-// The one bus of a rack, which numbers the registers through: register r of the card at place p is 8 x r + p. So there is no rack on
-// which two cycles run.
-#[derive(Clone, Copy)]
-pub struct Bus {
-    pub phase: Phase,
-}
-
-// The bus, how many cards there are, their bases, and what is in each of the eight places.
-#[derive(Clone, Copy)]
+/// A rack: what runs on its one bus, how many cards there are, their bases, and what is in each of the eight places. The bus numbers the
+/// registers through: register r of the card at place p is 8 x r + p. So there is no rack on which two cycles run.
+/// It asks for no heap: the places are an array, with a count beside it.
+#[derive(Clone, Copy, Debug, PartialEq, Eq)]
 pub struct Rack {
-    pub bus: Bus,
+    pub phase: Phase,
     pub count: u8,
-    pub bases: [u16; 8],
-    pub cores: [Core; 8],
-}
-
-// The number of a building, and the rack; where it is refused the rack has no card.
-#[derive(Clone, Copy)]
-pub struct Built {
-    pub number: u8,
-    pub rack: Rack,
+    pub bases: [u16; MOST_CARDS],
+    pub cores: [Core; MOST_CARDS],
 }
 
 #[tactic(auto, unfolding(crate::specs::Bases::is_base))]
 fn is_base(base: u16) -> bool
     ensures { result ≡ is_base base }
 {
-    (base % CARD_WIDTH == 0) & (base <= LAST_BASE)
+    base % CARD_WIDTH == 0 && base <= LAST_BASE
 }
 
 // Whether the base is one of those.
@@ -74,66 +62,44 @@ fn are_bases(bases: &[u16]) -> bool
     ensures { result ≡ are_bases bases.now }
 {
     for (at, base) in bases.iter().enumerate() {
-        if !is_base(*base) | among(*base, &bases[at + 1..]) {
+        if !is_base(*base) || among(*base, &bases[at + 1..]) {
             return false;
         }
     }
     true
 }
 
-#[tactic(auto, unfolding(crate::specs::Bases::makes_rack))]
-fn makes_rack(bases: &[u16]) -> bool
-    ensures { result ≡ makes_rack bases.now }
-{
-    if MOST_CARDS < bases.len() {
-        return false;
-    }
-    are_bases(bases)
-}
-
-// The bases from the first place on; 0 stands behind the last.
-fn in_places(bases: &[u16]) -> [u16; 8]
-    requires { length bases.now ≤ most_cards }
-    ensures { result ≡ bases.now ++ replicate (most_cards - length bases.now) 0 }
-{
-    let mut places = [0; 8];
-    places[..bases.len()].copy_from_slice(bases);
-    places
-}
-
-// A rack of cards with these bases, each at its power-up.
-#[tactic(auto, unfolding(crate::specs::State::rack_of))]
-fn stand(bases: &[u16]) -> Rack
-    requires { length bases.now ≤ most_cards }
-    ensures { result ≡ rack_of bases.now }
-{
-    let count = bases.len() as u8;
-    let places = in_places(bases);
-    let chip = chip::power_up();
-    let core = chip.core;
-    let cores = [core; 8];
-    let bus = Bus { phase: Phase::Idle };
-    Rack {
-        bus,
-        count,
-        bases: places,
-        cores,
+impl Rack {
+    /// A rack of cards in the order of their bases, each at its power-up. It is refused where two bases are equal, where a number is no
+    /// base, and where there are too many.
+    #[tactic(auto, unfolding(crate::specs::State::built_of, crate::specs::State::rack_of, crate::specs::Bases::makes_rack))]
+    pub fn new(bases: &[u16]) -> Result<Self, BadRack>
+        ensures { result ≡ built_of bases.now }
+    {
+        if bases.len() > MOST_CARDS || !are_bases(bases) {
+            return Err(BadRack);
+        }
+        let mut places = [0; MOST_CARDS];
+        places[..bases.len()].copy_from_slice(bases);
+        Ok(Rack {
+            count: bases.len() as u8,
+            bases: places,
+            ..Rack::default()
+        })
     }
 }
 
-// A rack of cards in the order of their bases. It is refused where two are equal, where a number is no base, and where there are too many.
-#[tactic(auto, unfolding(crate::specs::State::built_of, crate::specs::Bases::makes_rack))]
-pub fn build(bases: &[u16]) -> Built
-    ensures { result ≡ built_of bases.now }
-{
-    if makes_rack(bases) {
-        return Built {
-            number: ACCEPTED,
-            rack: stand(bases),
-        };
-    }
-    Built {
-        number: BAD_RACK,
-        rack: stand(&bases[..0]),
+impl Default for Rack {
+    /// A rack of no cards.
+    #[tactic(auto, unfolding(crate::specs::State::rack_of))]
+    fn default() -> Self
+        ensures { result ≡ rack_of [] }
+    {
+        Rack {
+            phase: Phase::Idle,
+            count: 0,
+            bases: [0; MOST_CARDS],
+            cores: [Chip::default().core; MOST_CARDS],
+        }
     }
 }

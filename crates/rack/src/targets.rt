@@ -1,67 +1,50 @@
-// The card that an event is for: by its address, or by its place.
-ghost use Rattle.std.specs.Prelude.{◌≡◌, ◌<◌};
-ghost use Rattle.rack.specs.Targets.{answers_at, target_from, bases_in, is_place, target_at, target_of};
+//! The card that an event is for: by its address, or by its place.
+ghost use Rattle.std.specs.Prelude.{◌≡◌, ◌<◌, IfSome};
+ghost use Rattle.rack.specs.Bases.{most_cards};
+ghost use Rattle.rack.specs.Targets.{answers_at, target_from, bases_in, is_place, target_at};
 
-use super::{CARD_WIDTH, PLACES, REGISTERS};
-
-// The place of a card, and a register or port there; or no card.
-#[derive(Clone, Copy)]
-pub enum Target {
-    NoCard,
-    At(u8, u8),
-}
+use super::{CARD_WIDTH, PLACES, REGISTERS, Rack};
 
 #[tactic(auto, unfolding(crate::specs::Targets::answers_at))]
 fn answers(base: u16, address: u16) -> bool
     ensures { result ≡ answers_at base address }
 {
-    if base <= address {
-        return address - base < CARD_WIDTH;
-    }
-    false
+    base <= address && address - base < CARD_WIDTH
 }
 
-// The first card that answers at the address, and its register there: the four registers are seen twice.
-fn at_address(count: u8, bases: [u16; 8], address: u16) -> Target
-    ensures { result ≡ target_from 0 (bases_in count bases) address }
-{
-    for place in 0..count.min(PLACES) {
-        let base = bases[place as usize];
-        if answers(base, address) {
-            return Target::At(place, ((address - base) % REGISTERS) as u8);
+impl Rack {
+    // The place of the first card that answers at the address, and its register there: the four registers are seen twice.
+    pub(super) fn at_address(&self, address: u16) -> Option<(u8, u8)>
+        ensures first { result ≡ target_from 0 (bases_in self.now.count self.now.bases) address }
+        ensures inside { IfSome result (λ target. (target.0 < most_cards) × (target.1 < 4)) }
+    {
+        // By places, since the place is what is looked for.
+        for place in 0..self.count.min(PLACES) {
+            let base = self.bases[place as usize];
+            if answers(base, address) {
+                return Some((place, ((address - base) % REGISTERS) as u8));
+            }
         }
+        None
     }
-    Target::NoCard
-}
 
-// Whether there is a card at the place.
-#[tactic(auto, unfolding(crate::specs::Targets::is_place))]
-pub(super) fn is_place(count: u8, place: u16) -> bool
-    ensures { result ≡ is_place count place }
-{
-    (place < count as u16) & (place < PLACES as u16)
-}
-
-// The card at the place, and its port.
-#[tactic(auto, unfolding(crate::specs::Targets::target_at, crate::specs::Targets::is_place))]
-fn at_place(count: u8, place: u16, port: u8) -> Target
-    ensures { result ≡ target_at count place port }
-{
-    if is_place(count, place) {
-        return Target::At(place as u8, port);
+    // Whether there is a card at the place.
+    #[tactic(auto, unfolding(crate::specs::Targets::is_place))]
+    pub(super) fn has_card(&self, place: u16) -> bool
+        ensures { result ≡ is_place self.now.count place }
+    {
+        place < self.count as u16 && place < PLACES as u16
     }
-    Target::NoCard
-}
 
-// What an event of the kind is for. A reset and an end name no card, and what is given for them is not asked.
-#[tactic(auto, unfolding(crate::specs::Targets::target_of))]
-pub(super) fn find(kind: u8, count: u8, bases: [u16; 8], first: u16, second: u8) -> Target
-    ensures { result ≡ target_of count bases kind first second }
-{
-    match kind {
-        events::BEGIN_READ => at_address(count, bases, first),
-        events::BEGIN_WRITE => at_address(count, bases, first),
-        events::OUTSIDE_LEVELS => at_place(count, first, second),
-        _ => Target::At(0, 0),
+    // The card at the place, and its port.
+    #[tactic(auto, unfolding(crate::specs::Targets::target_at, crate::specs::Targets::is_place))]
+    pub(super) fn at_place(&self, place: u16, port: u8) -> Option<(u8, u8)>
+        ensures there { result ≡ target_at self.now.count place port }
+        ensures inside { IfSome result (λ target. target.0 < most_cards) }
+    {
+        if !self.has_card(place) {
+            return None;
+        }
+        Some((place as u8, port))
     }
 }

@@ -1,41 +1,24 @@
-// The rounds on a chip alone.
-use super::round;
-use super::round::Handed;
+//! The rounds on a chip alone.
+use super::round::{self, Answering, Handed};
+use bus::devices;
+use bus::events::Event;
 use channel::Side;
 use chip::Chip;
 use control::Group;
 
-fn start() -> Chip {
-    let chip = chip::power_up();
-    let stepped = step::step(chip, events::OUTSIDE_LEVELS, chip::PORT_C, round::LINES);
-    let stepped = step::step(
-        stepped.chip,
-        events::BEGIN_WRITE,
-        chip::CONTROL,
-        round::MODE_WORD,
-    );
-    let stepped = step::step(stepped.chip, events::END_CYCLE, 0, 0);
-    stepped.chip
-}
-
-fn round(mut chip: Chip) -> Chip {
-    for event in &round::EVENTS {
-        chip = step::step(chip, event.kind, event.first, event.byte).chip;
-    }
-    chip
-}
-
-fn handed(chip: Chip) -> Handed {
-    Handed {
-        digits: chip::channels::tally(chip, Group::A, Side::Input).handed,
-        signs: chip::channels::tally(chip, Group::B, Side::Output).handed,
+impl Answering for Chip {
+    // An event stays a call of its own, as programs have it.
+    #[inline(never)]
+    fn answer(&mut self, event: Event) {
+        let _ = devices::step(self, event);
     }
 }
 
 pub(super) fn rounds(count: usize) -> Handed {
-    let mut chip = start();
-    for _ in 0..count {
-        chip = round(chip);
+    let mut chip = Chip::default();
+    round::rounds(&mut chip, count);
+    Handed {
+        digits: chip.tally(Group::A, Side::Input).handed,
+        signs: chip.tally(Group::B, Side::Output).handed,
     }
-    handed(chip)
 }

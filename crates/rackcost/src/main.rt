@@ -1,5 +1,5 @@
-// Lets a chip alone, or the last card of a full rack, answer a scale and a printer for as many rounds as are asked for, so that the
-// instructions of either can be counted (bench/measure). With no argument each has three rounds.
+//! Lets a chip alone, or the last card of a full rack, answer a scale and a printer for as many rounds as are asked for, so that the
+//! instructions of either can be counted (bench/measure). With no argument each has three rounds.
 #![tactic(auto)]
 
 mod alone;
@@ -23,7 +23,10 @@ fn on_a_chip(rt: &impl Print, rounds: usize) -> io::Result<()> {
 }
 
 fn on_a_card(rt: &impl Print, rounds: usize) -> io::Result<()> {
-    tell(rt, "a card of a full rack", in_a_rack::rounds(rounds))
+    match in_a_rack::rounds(rounds) {
+        Some(handed) => tell(rt, "a card of a full rack", handed),
+        None => println!(rt; "the bases make no rack"),
+    }
 }
 
 // An argument, which is as none where there is no room for it.

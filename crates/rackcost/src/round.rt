@@ -1,81 +1,49 @@
-// The events of a round, and what is told after all rounds.
+//! The rounds: their events, who answers them, and what is told after all of them.
+use bus::events::Event;
+use chip::{CONTROL, PORT_A, PORT_B, PORT_C};
 
-// How many bytes were handed over: from the scale on port A, and to the printer on port B.
+/// How many bytes were handed over: from the scale on port A, and to the printer on port B.
 #[derive(Clone, Copy)]
 pub(super) struct Handed {
     pub(super) digits: u16,
     pub(super) signs: u16,
 }
 
-// An event of a chip: its kind, an address or a port, and a byte.
-#[derive(Clone, Copy)]
-pub(super) struct Event {
-    pub(super) kind: u8,
-    pub(super) first: u8,
-    pub(super) byte: u8,
-}
-
-pub(super) static EVENTS: [Event; 11] = [
+static EVENTS: [Event; 11] = [
     // Levels on A, STB falls and rises, a read of A.
-    Event {
-        kind: 5,
-        first: 0,
-        byte: 0x41,
-    },
-    Event {
-        kind: 5,
-        first: 2,
-        byte: 0xef,
-    },
-    Event {
-        kind: 5,
-        first: 2,
-        byte: 0xff,
-    },
-    Event {
-        kind: 1,
-        first: 0,
-        byte: 0,
-    },
-    Event {
-        kind: 2,
-        first: 0,
-        byte: 0,
-    },
+    Event::OutsideLevels(PORT_A, 0x41),
+    Event::OutsideLevels(PORT_C, 0xef),
+    Event::OutsideLevels(PORT_C, 0xff),
+    Event::BeginRead(PORT_A),
+    Event::EndCycle,
     // A write to B, ACK falls and rises, a read of C.
-    Event {
-        kind: 3,
-        first: 1,
-        byte: 0x54,
-    },
-    Event {
-        kind: 2,
-        first: 0,
-        byte: 0,
-    },
-    Event {
-        kind: 5,
-        first: 2,
-        byte: 0xfb,
-    },
-    Event {
-        kind: 5,
-        first: 2,
-        byte: 0xff,
-    },
-    Event {
-        kind: 1,
-        first: 2,
-        byte: 0,
-    },
-    Event {
-        kind: 2,
-        first: 0,
-        byte: 0,
-    },
+    Event::BeginWrite(PORT_B, 0x54),
+    Event::EndCycle,
+    Event::OutsideLevels(PORT_C, 0xfb),
+    Event::OutsideLevels(PORT_C, 0xff),
+    Event::BeginRead(PORT_C),
+    Event::EndCycle,
 ];
 
-// A takes bytes by STB, and B gives them by ACK; and the lines are high.
-pub(super) const MODE_WORD: u8 = 0xb4;
+// The lines are high, and A takes bytes by STB, and B gives them by ACK.
+static START: [Event; 3] = [
+    Event::OutsideLevels(PORT_C, 0xff),
+    Event::BeginWrite(CONTROL, 0xb4),
+    Event::EndCycle,
+];
 
-pub(super) const LINES: u8 = 0xff;
+/// Whoever answers the events of the rounds.
+pub(super) trait Answering {
+    fn answer(&mut self, event: Event);
+}
+
+pub(super) fn rounds(subject: &mut impl Answering, count: usize) {
+    for event in &START {
+        subject.answer(*event);
+    }
+    for _ in 0..count {
+        for event in &EVENTS {
+            subject.answer(*event);
+        }
+    }
+}

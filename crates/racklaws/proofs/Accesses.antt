@@ -1,5 +1,5 @@
 -- What a rack gives for a cycle that begins or ends, or for levels, is told by whom the event reaches.
--- Rests on OneCard, on the rack's Aims and Places, on the chip's facts about cycles, and on the fates' Accepted.
+-- Rests on Seek, Inside, Targets and OneCard, on the bus's Numbering, on the chip's facts about cycles, and on the fates' Accepted.
 use mathlib.Core.Path.{◌≡◌, refl, sym, ap, ◌∙◌}
 use mathlib.Core.Bool.{Bool, true, false, cond}
 use mathlib.Core.List.{List, [], ◌∷◌}
@@ -8,44 +8,42 @@ use native.Mathlib.Omega.{arith}
 use lib.Dec.{ltb}
 use borrow.Author.Tests.{lt-ltb}
 use Rattle.bits.proofs.Logic.{by-test}
-use Rattle.events.specs.Kinds as kinds
-use Rattle.events.specs.Event.{Event, event}
+use Rattle.bus.specs.Kinds as kinds
+use Rattle.bus.specs.Event.{Event, event}
 use Rattle.bus.specs.declared.Phase.{Phase}
 use Rattle.bus.specs.declared.Phase.TheVariants.{Idle, Reading, Writing}
 use Rattle.bus.proofs.Numbering.{row-refuses}
 use Rattle.chip.specs.declared.Core.{Core}
 use Rattle.chip.specs.declared.Chip.{Chip}
-use Rattle.step.specs.Step as card
-use Rattle.step.specs.declared.Stepped.{Stepped as CardStepped}
-use Rattle.step.specs.Step.{stepped}
+use Rattle.chip.specs.Step as card
+use Rattle.chip.specs.Step.{Stepped as CardStepped}
+use Rattle.chip.specs.Step.{stepped}
 use Rattle.laws.proofs.Cycles.{facts}
 use Rattle.fates.proofs.Accepted.{accepted-number}
 use Rattle.rack.specs.declared.Rack.{Rack}
-use Rattle.rack.specs.declared.event.Stepped.{Stepped}
-use Rattle.rack.specs.declared.targets.Target.{Target}
-use Rattle.rack.specs.declared.targets.Target.TheVariants.{NoCard, At}
+use Rattle.std.specs.Prelude.{Option, Some, None}
 use Rattle.rack.specs.Bases.{most_cards}
 use Rattle.rack.specs.State.{place_of, chip_at, card_edition}
-use Rattle.rack.specs.Targets.{answers_at, register_at, target_from}
-use Rattle.rack.specs.Step.{aim_of, as_stepped, step_at}
-use Rattle.rack.proofs.OnCard.{rack_in, place-numbered}
-use Rattle.rack.proofs.Places.{InRack}
-use Rattle.rack.proofs.Aims.{refused-at}
+use Rattle.rack.specs.Targets.{Target, answers_at, register_at, target_from}
+use Rattle.rack.specs.Step.{Stepped, as_stepped, step_at}
+use Rattle.racklaws.proofs.OnCard.{rack_in, place-numbered}
+use Rattle.racklaws.proofs.Inside.{InRack}
+use Rattle.racklaws.proofs.Targets.{number_for, refused-at}
 use Rattle.racklaws.specs.Whom.{cycle_ended, read_at, write_at, levels_on, Bus, free, taken_by, nobody, card as to_card, read_reaches, write_reaches, end_reaches, bus_after}
 use Rattle.racklaws.specs.Promise.{Whole, Follows, bus_of}
 use Rattle.racklaws.proofs.Seek.{as_found}
 use Rattle.racklaws.proofs.OneCard.{card-follows}
 
 -- A register that an address is, is one of four.
-abbrev pub OfFour : Target → Type 0
-OfFour NoCard = Unit {0}
-OfFour (At place register) = register < 4
+abbrev pub OfFour : Option Target → Type 0
+OfFour None = Unit {0}
+OfFour (Some t) = t.1 < 4
 
 pub of_four : (i address : ℕ) (bases : List ℕ) → OfFour (target_from i bases address)
 unfolding target_from
 of_four i address [] = tt
 of_four i address (base ∷ later) =
-    by-test OfFour (answers_at base address) (At i (register_at base address)) (target_from (suc i) later address)
+    by-test OfFour (answers_at base address) (Some (i, register_at base address)) (target_from (suc i) later address)
     (λ e. omega arith)
     (λ e. of_four (suc i) address later)
 
@@ -77,7 +75,7 @@ renamed {r} {given} {i} {own} {own'} f same bus = record {
 
 module _ (count : ℕ) (bases : List ℕ) (cores : List Core) where
   -- What is refused reaches nobody.
-  pub refused-follows : (ph : Phase) → Whole (rack_in count bases cores ph) → (k d : ℕ) (t : Target) → InRack t → ¬ ((aim_of ph k t).number ≡ 0)
+  pub refused-follows : (ph : Phase) → Whole (rack_in count bases cores ph) → (k d : ℕ) (t : Option Target) → InRack t → ¬ (number_for ph k t ≡ 0)
       → Follows (rack_in count bases cores ph) (as_stepped (step_at (rack_in count bases cores ph) t k d)) nobody (bus_of ph)
   refused-follows ph whole k d t inside n = rw (refused-at count bases cores ph k d t inside n) record {
     reached = record { refused = n; unchanged = refl; byte = refl };
@@ -88,44 +86,46 @@ module _ (count : ℕ) (bases : List ℕ) (cores : List Core) where
 
   -- The beginning of a read, on a free bus at a register that can be read or that cannot.
   read-begins : (whole : Whole (rack_in count bases cores Idle)) (d x i r : ℕ) → i < most_cards → (t : Bool) → ltb r 3 ≡ t
-      → Follows (rack_in count bases cores Idle) (as_stepped (step_at (rack_in count bases cores Idle) (At i r) kinds.begin_read d))
+      → Follows (rack_in count bases cores Idle) (as_stepped (step_at (rack_in count bases cores Idle) (Some (i, r)) kinds.begin_read d))
       (cond t (to_card i (event kinds.begin_read r 0)) nobody) (bus_after free (read_at x) (cond t (to_card i (event kinds.begin_read r 0)) nobody))
   read-begins whole d x i r h true e =
       let accepted = accepted-number card_edition Idle kinds.begin_read r d (rw e) in
       let follows = card-follows count bases cores Idle whole i r d kinds.begin_read h (λ n. omega (arith, n)) accepted in
       renamed follows (read-alone (chip_at (rack_in count bases cores Idle) i) r d) (ap taken_by (place-numbered i r h))
   read-begins whole d x i r h false e =
-      refused-follows Idle whole kinds.begin_read d (At i r) h (row-refuses (card.limits card_edition) Idle kinds.begin_read r 2 (rw e))
+      refused-follows Idle whole kinds.begin_read d (Some (i, r)) h (row-refuses (card.limits card_edition) Idle kinds.begin_read r 2 (rw e))
 
-  pub read-follows : (ph : Phase) → Whole (rack_in count bases cores ph) → (d x : ℕ) (t : Target) → InRack t
+  pub read-follows : (ph : Phase) → Whole (rack_in count bases cores ph) → (d x : ℕ) (t : Option Target) → InRack t
       → Follows (rack_in count bases cores ph) (as_stepped (step_at (rack_in count bases cores ph) t kinds.begin_read d)) (read_reaches (bus_of ph) (as_found t))
       (bus_after (bus_of ph) (read_at x) (read_reaches (bus_of ph) (as_found t)))
-  read-follows ph whole d x NoCard inside = refused-follows ph whole kinds.begin_read d NoCard inside (λ n. omega (arith, n))
-  read-follows Idle whole d x (At i r) inside = read-begins whole d x i r inside (ltb r 3) refl
-  read-follows (Reading y) whole d x (At i r) inside =
-      refused-follows (Reading y) whole kinds.begin_read d (At i r) inside (row-refuses (card.limits card_edition) (Reading y) kinds.begin_read r 3 refl)
-  read-follows (Writing y b) whole d x (At i r) inside =
-      refused-follows (Writing y b) whole kinds.begin_read d (At i r) inside (row-refuses (card.limits card_edition) (Writing y b) kinds.begin_read r 3 refl)
+  read-follows ph whole d x None inside = refused-follows ph whole kinds.begin_read d None inside (λ n. omega (arith, n))
+  read-follows Idle whole d x (Some t) inside = read-begins whole d x t.0 t.1 inside (ltb t.1 3) refl
+  read-follows (Reading y) whole d x (Some t) inside =
+      refused-follows (Reading y) whole kinds.begin_read d (Some t) inside (row-refuses (card.limits card_edition) (Reading y) kinds.begin_read t.1 3 refl)
+  read-follows (Writing y b) whole d x (Some t) inside =
+      refused-follows (Writing y b) whole kinds.begin_read d (Some t) inside (row-refuses (card.limits card_edition) (Writing y b) kinds.begin_read t.1 3 refl)
 
   -- That of a write, which is at one of the four registers.
-  pub write-follows : (ph : Phase) → Whole (rack_in count bases cores ph) → (d x : ℕ) (t : Target) → InRack t → OfFour t
+  pub write-follows : (ph : Phase) → Whole (rack_in count bases cores ph) → (d x : ℕ) (t : Option Target) → InRack t → OfFour t
       → Follows (rack_in count bases cores ph) (as_stepped (step_at (rack_in count bases cores ph) t kinds.begin_write d)) (write_reaches (bus_of ph) (as_found t) d)
       (bus_after (bus_of ph) (write_at x d) (write_reaches (bus_of ph) (as_found t) d))
-  write-follows ph whole d x NoCard inside four = refused-follows ph whole kinds.begin_write d NoCard inside (λ n. omega (arith, n))
-  write-follows Idle whole d x (At i r) inside four =
+  write-follows ph whole d x None inside four = refused-follows ph whole kinds.begin_write d None inside (λ n. omega (arith, n))
+  write-follows Idle whole d x (Some t) inside four =
+      let i = t.0 in
+      let r = t.1 in
       let accepted = accepted-number card_edition Idle kinds.begin_write r d (rw (lt-ltb r 4 four)) in
       let follows = card-follows count bases cores Idle whole i r d kinds.begin_write inside (λ n. omega (arith, n)) accepted in
       renamed follows refl (ap taken_by (place-numbered i r inside))
-  write-follows (Reading y) whole d x (At i r) inside four =
-      refused-follows (Reading y) whole kinds.begin_write d (At i r) inside (row-refuses (card.limits card_edition) (Reading y) kinds.begin_write r 3 refl)
-  write-follows (Writing y b) whole d x (At i r) inside four =
-      refused-follows (Writing y b) whole kinds.begin_write d (At i r) inside (row-refuses (card.limits card_edition) (Writing y b) kinds.begin_write r 3 refl)
+  write-follows (Reading y) whole d x (Some t) inside four =
+      refused-follows (Reading y) whole kinds.begin_write d (Some t) inside (row-refuses (card.limits card_edition) (Reading y) kinds.begin_write t.1 3 refl)
+  write-follows (Writing y b) whole d x (Some t) inside four =
+      refused-follows (Writing y b) whole kinds.begin_write d (Some t) inside (row-refuses (card.limits card_edition) (Writing y b) kinds.begin_write t.1 3 refl)
 
   -- The end of a cycle, of which the event names no card.
   pub end-follows : (ph : Phase) → Whole (rack_in count bases cores ph) → (d : ℕ)
-      → Follows (rack_in count bases cores ph) (as_stepped (step_at (rack_in count bases cores ph) (At 0 0) kinds.end_cycle d)) (end_reaches (bus_of ph))
+      → Follows (rack_in count bases cores ph) (as_stepped (step_at (rack_in count bases cores ph) (Some (0, 0)) kinds.end_cycle d)) (end_reaches (bus_of ph))
       (bus_after (bus_of ph) cycle_ended (end_reaches (bus_of ph)))
-  end-follows Idle whole d = refused-follows Idle whole kinds.end_cycle d (At 0 0) (omega arith) (row-refuses (card.limits card_edition) Idle kinds.end_cycle 0 4 refl)
+  end-follows Idle whole d = refused-follows Idle whole kinds.end_cycle d (Some (0, 0)) (omega arith) (row-refuses (card.limits card_edition) Idle kinds.end_cycle 0 4 refl)
   end-follows (Reading y) whole d =
       let accepted = accepted-number card_edition (Reading y) kinds.end_cycle 0 d refl in
       let follows = card-follows count bases cores (Reading y) whole 0 0 d kinds.end_cycle (omega arith) (λ n. omega (arith, n)) accepted in
@@ -137,10 +137,10 @@ module _ (count : ℕ) (bases : List ℕ) (cores : List Core) where
 
   -- Levels, on a port or on none.
   pub levels-on : (ph : Phase) → Whole (rack_in count bases cores ph) → (x y d : ℕ) → x < most_cards → (t : Bool) → ltb y 3 ≡ t
-      → Follows (rack_in count bases cores ph) (as_stepped (step_at (rack_in count bases cores ph) (At x y) kinds.outside_levels d))
+      → Follows (rack_in count bases cores ph) (as_stepped (step_at (rack_in count bases cores ph) (Some (x, y)) kinds.outside_levels d))
       (cond t (to_card x (event kinds.outside_levels y d)) nobody)
       (bus_after (bus_of ph) (levels_on x y d) (cond t (to_card x (event kinds.outside_levels y d)) nobody))
   levels-on ph whole x y d h true e =
       card-follows count bases cores ph whole x y d kinds.outside_levels h (λ n. omega (arith, n)) (accepted-number card_edition ph kinds.outside_levels y d e)
   levels-on ph whole x y d h false e =
-      refused-follows ph whole kinds.outside_levels d (At x y) h (row-refuses (card.limits card_edition) ph kinds.outside_levels y 1 (rw e))
+      refused-follows ph whole kinds.outside_levels d (Some (x, y)) h (row-refuses (card.limits card_edition) ph kinds.outside_levels y 1 (rw e))

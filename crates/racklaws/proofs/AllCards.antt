@@ -1,25 +1,24 @@
 -- A reset: each card does as a chip alone.
--- Rests on the step's Outcome.
+-- Rests on OnCard and on the chip's Outcome.
 use mathlib.Core.Path.{◌≡◌, refl, ◌∙◌}
 use mathlib.Core.List.{List}
 use Prim.Native.Nat.{ℕ, ◌<◌}
 use native.Mathlib.Omega.{arith}
 use Rattle.std.proofs.lemmas.List.{get_or-map, length-map}
-use Rattle.events.specs.Kinds.{is_kind}
-use Rattle.events.specs.Event.{event}
+use Rattle.bus.specs.Kinds.{is_kind}
+use Rattle.bus.specs.Event.{event}
 use Rattle.bus.specs.declared.Phase.{Phase}
 use Rattle.bus.specs.Refusals.{number_of}
 use Rattle.bus.specs.Device.{gives, reset_in}
 use Rattle.chip.specs.declared.Core.{Core}
-use Rattle.step.specs.Step as card
-use Rattle.step.specs.Step.{stepped}
-use Rattle.step.proofs.Outcome.{step-accepts}
+use Rattle.chip.specs.Step as card
+use Rattle.chip.specs.Step.{stepped}
+use Rattle.chip.proofs.Outcome.{step-accepts}
 use Rattle.rack.specs.declared.Rack.{Rack}
-use Rattle.rack.specs.declared.event.Stepped.{Stepped}
 use Rattle.rack.specs.Bases.{most_cards}
 use Rattle.rack.specs.State.{seen_at, no_core, chip_at, card_edition}
-use Rattle.rack.specs.Step.{core_reset, device, as_stepped}
-use Rattle.rack.proofs.OnCard.{rack_in}
+use Rattle.rack.specs.Step.{core_reset, Stepped, device, as_stepped}
+use Rattle.racklaws.proofs.OnCard.{rack_in}
 use Rattle.racklaws.specs.Whom.{free, everybody}
 use Rattle.racklaws.specs.Promise.{Whole, Follows}
 

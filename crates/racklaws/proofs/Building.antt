@@ -1,4 +1,4 @@
--- Which bases make a rack, in plain numbers; and that any others are refused with 9, and give no card.
+-- Which bases make a rack, in plain numbers; and that any others are refused, and give none.
 -- Rests on the laws of truth values.
 use mathlib.Core.Path.{◌≡◌, refl, sym, ap}
 use mathlib.Core.Bool.{Bool, true, false, not, ◌&&◌, ◌||◌}
@@ -8,6 +8,7 @@ use native.Mathlib.Omega.{arith}
 use native.Mathlib.Nat.{le_of_suc-le-suc}
 use lib.Dec.{eqb, leb}
 use lib.ListN.{length}
+use Rattle.std.specs.Prelude.{Ok, Err}
 use borrow.Author.Tests.{leb-true, le-leb, eqb-true, eq-eqb, ne_eqb, not-true}
 use Rattle.bits.proofs.Logic.{contrary, both}
 use Rattle.rack.specs.Bases.{is_base, is_among, are_bases, makes_rack}
@@ -86,15 +87,15 @@ pub good-made : (bs : List ℕ) → GoodBases bs → makes_rack bs ≡ true
 unfolding makes_rack
 good-made bs g = rw (le-leb (length bs) 8 g.few, are-bases bs g.multiples g.last_base g.apart)
 
--- So the number of a building is 0 for good bases, and then the rack is theirs; and 9 for any others, and then the rack is that of none.
-pub built-good : (bs : List ℕ) → GoodBases bs → built_of bs ≡ record { number = 0; rack = rack_of bs }
+-- So good bases are accepted, and the rack is theirs; and any others are refused.
+pub built-good : (bs : List ℕ) → GoodBases bs → built_of bs ≡ Ok (rack_of bs)
 unfolding built_of
 built-good bs g = rw (good-made bs g)
 
-pub built-bad : (bs : List ℕ) → ¬ GoodBases bs → built_of bs ≡ record { number = 9; rack = rack_of [] }
+pub built-bad : (bs : List ℕ) → ¬ GoodBases bs → built_of bs ≡ Err (record {})
 unfolding built_of
 built-bad bs n = go (makes_rack bs) refl
   where
-    go : (t : Bool) → makes_rack bs ≡ t → built_of bs ≡ record { number = 9; rack = rack_of [] }
+    go : (t : Bool) → makes_rack bs ≡ t → built_of bs ≡ Err (record {})
     go true e = absurd (n (made-good bs e))
     go false e = rw e

@@ -12,12 +12,12 @@ use borrow.Author.Tests.{lt-ltb, le-ltb}
 use Rattle.bus.specs.declared.Phase.TheVariants.{Idle}
 use Rattle.chip.specs.declared.Core.{Core}
 use Rattle.chip.specs.State.{all_low, power_up}
-use Rattle.step.specs.Step.{on_bus}
+use Rattle.chip.specs.Step.{on_bus}
 use Rattle.rack.specs.declared.Rack.{Rack}
 use Rattle.rack.specs.Bases.{most_cards}
 use Rattle.rack.specs.State.{no_core, chip_at, rack_of, card_edition}
 use Rattle.rack.specs.Targets.{is_place}
-use Rattle.rack.specs.Views.{card_of, card_pins, card_tally, card_explained}
+use Rattle.rack.specs.Views.{card_of, card_pins, card_tally, card_explained, card_explained_numbered}
 use Rattle.fates.specs.Promise.{run}
 use Rattle.fates.proofs.Demand.{fates-from, fates, disciplined}
 use Rattle.fates.proofs.Discipline.{disciplined-from}
@@ -58,10 +58,16 @@ module _ (bs : List ℕ) (few : length bs ≤ most_cards) where
         placed after.count after.bases on.whole.bases i ∙ ap (λ (l : List ℕ). ltb i (length l)) (on.bases ∙ built-bases)
 
     pub none-there : (i : ℕ) → length bs ≤ i → NoneThere after i
-    unfolding card_of card_pins card_tally card_explained
+    unfolding card_of card_pins card_tally card_explained card_explained_numbered
     none-there i h =
         let none = placed-after i ∙ le-ltb i (length bs) h in
-        record { card = rw none; pins = λ p. rw none; tally = λ g s. rw none; explains = λ g. rw none }
+        record {
+          card = rw none;
+          pins = λ p. rw none;
+          tally = λ g s. rw none;
+          explains = λ g. rw none;
+          explains_numbered = λ n. rw none;
+        }
 
   -- The card at place i, after any history.
   module _ (es : List RackEvent) (i : ℕ) (there : i < length bs) where
@@ -79,13 +85,14 @@ module _ (bs : List ℕ) (few : length bs ≤ most_cards) where
     is-there = placed-after es i ∙ lt-ltb i (length bs) there
 
     pub as-alone : AsAlone bs es i (events_for i bs free es)
-    unfolding card_of card_pins card_tally card_explained
+    unfolding card_of card_pins card_tally card_explained card_explained_numbered
     as-alone = record {
       state = alone;
       card = rw (is-there, alone);
       pins = λ p. rw (is-there, alone);
       tally = λ g s. rw (is-there, alone);
       explains = λ g. rw (is-there, alone);
+      explains_numbered = λ n. rw (is-there, alone);
       fates = λ g s. fates g s card_edition all_low (events_for i bs free es);
       discipline = λ g. disciplined g card_edition all_low (events_for i bs free es);
       unforced = λ g s. unforced g s card_edition all_low (events_for i bs free es);
@@ -103,13 +110,14 @@ module _ (r : Rack) (whole : Whole r) (es : List RackEvent) (i : ℕ) (h : i < m
       ∙ ap (λ (l : List ℕ). ltb i (length l)) after-from.bases ∙ sym (placed r.count r.bases whole.bases i)
 
   pub as-alone-from : AsAloneFrom r es i (chip_at r i) (events_in i r es)
-  unfolding card_of card_pins card_tally card_explained
+  unfolding card_of card_pins card_tally card_explained card_explained_numbered
   as-alone-from = record {
     state = after-from.card i h;
     card = λ there. rw (still-there ∙ there, after-from.card i h);
     pins = λ there p. rw (still-there ∙ there, after-from.card i h);
     tally = λ there g s. rw (still-there ∙ there, after-from.card i h);
     explains = λ there g. rw (still-there ∙ there, after-from.card i h);
+    explains_numbered = λ there n. rw (still-there ∙ there, after-from.card i h);
     fates = λ g s bits. fates-from g s (chip_at r i) bits (events_in i r es);
     discipline = λ g found. disciplined-from g (chip_at r i) found (events_in i r es);
     unforced = λ g s. unforced-from g s (chip_at r i) (events_in i r es);

@@ -4,18 +4,17 @@
 use mathlib.Core.Path.{◌≡◌, refl, ap, ◌∙◌}
 use mathlib.Core.List.{List, [], ◌∷◌, map}
 use Prim.Native.Nat.{ℕ}
-use Rattle.events.specs.Kinds.{is_kind}
-use Rattle.events.specs.Event.{Event, event}
+use Rattle.bus.specs.Kinds.{is_kind}
+use Rattle.bus.specs.Event.{Event, event}
 use Rattle.bus.specs.Refusals.{limits_of}
 use Rattle.bus.specs.Device.{step_in, run_in}
 use Rattle.bus.specs.Facts.{Facts}
 use Rattle.bus.proofs.Facts as bus
 use Rattle.bus.proofs.Numbering.{no-kind-refused}
 use Rattle.rack.specs.declared.Rack.{Rack}
-use Rattle.rack.specs.declared.targets.Target.{Target}
-use Rattle.rack.specs.declared.targets.Target.TheVariants.{NoCard, At}
+use Rattle.std.specs.Prelude.{Option, Some, None}
 use Rattle.rack.specs.State.{number_at}
-use Rattle.rack.specs.Targets.{target_of}
+use Rattle.rack.specs.Targets.{Target, target_of}
 use Rattle.rack.specs.Step.{limits, device, byte_of, step_at, step_of}
 use Rattle.rack.proofs.Stays.{target-stays}
 use Rattle.racklaws.specs.Whom.{RackEvent}
@@ -26,17 +25,17 @@ pub facts : (r : Rack) → Facts device (limits_of 32 24 24) r
 facts r = bus.facts device limits r refl
 
 -- What a rack's event is to the device.
-abbrev pub as_event : Target → ℕ → ℕ → Event
-as_event NoCard k d = event 0xff 0 0
-as_event (At place register) k d = event k (number_at place register) d
+abbrev pub as_event : Option Target → ℕ → ℕ → Event
+as_event None k d = event 0xff 0 0
+as_event (Some t) k d = event k (number_at t.0 t.1) d
 
 abbrev pub event_by : ℕ → List ℕ → RackEvent → Event
 event_by count bases e = as_event (target_of count bases e.kind e.first e.second) e.kind (byte_of e.kind e.second e.third)
 
-as-device : (r : Rack) (t : Target) (k d : ℕ) → let e = as_event t k d in (step_at r t k d).state ≡ (step_in device r e.kind e.first e.second).state
+as-device : (r : Rack) (t : Option Target) (k d : ℕ) → let e = as_event t k d in (step_at r t k d).state ≡ (step_in device r e.kind e.first e.second).state
 unfolding is_kind
-as-device r NoCard k d = rw (no-kind-refused device r 0xff 0 0 refl)
-as-device r (At i x) k d = refl
+as-device r None k d = rw (no-kind-refused device r 0xff 0 0 refl)
+as-device r (Some t) k d = refl
 
 run-from : (count : ℕ) (bases : List ℕ) (r : Rack) → r.count ≡ count → r.bases ≡ bases → (es : List RackEvent)
     → rack_run r es ≡ run_in device r (map (event_by count bases) es)

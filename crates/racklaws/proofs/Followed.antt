@@ -1,5 +1,5 @@
 -- What a rack gives for any event is told by whom it reaches.
--- Rests on Seek, AllCards and Accesses, and on the rack's Aims and Places.
+-- Rests on Seek, Inside, Targets, AllCards and Accesses, and on the bus's ByKind and Numbering.
 use mathlib.Core.Path.{◌≡◌, refl, sym, ap, ◌∙◌}
 use mathlib.Core.Bool.{Bool, true, false, cond, ◌&&◌}
 use mathlib.Core.List.{List}
@@ -9,24 +9,23 @@ use lib.Dec.{ltb}
 use lib.ListN.{length, take, length-take}
 use borrow.Author.Tests.{ltb-true, ltb-false, lt-ltb, le-ltb}
 use Rattle.bits.proofs.Logic.{both}
-use Rattle.events.specs.Kinds as kinds
-use Rattle.events.specs.Kinds.{no_kind}
-use Rattle.events.specs.Event.{event}
-use Rattle.events.proofs.ByKind.{by_kind, no_row}
+use Rattle.bus.specs.Kinds as kinds
+use Rattle.bus.specs.Kinds.{no_kind}
+use Rattle.bus.specs.Event.{event}
+use Rattle.bus.proofs.ByKind.{by_kind, no_row}
 use Rattle.bus.specs.declared.Phase.{Phase}
 use Rattle.bus.proofs.Numbering.{row-refuses}
 use Rattle.chip.specs.declared.Core.{Core}
-use Rattle.step.specs.Step as card
+use Rattle.chip.specs.Step as card
 use Rattle.rack.specs.declared.Rack.{Rack}
-use Rattle.rack.specs.declared.targets.Target.{Target}
-use Rattle.rack.specs.declared.targets.Target.TheVariants.{NoCard, At}
+use Rattle.std.specs.Prelude.{Option, Some, None}
 use Rattle.rack.specs.Bases.{most_cards}
 use Rattle.rack.specs.State.{card_edition}
-use Rattle.rack.specs.Targets.{target_from, bases_in, is_place, target_at, target_of}
-use Rattle.rack.specs.Step.{aim_of, byte_of, as_stepped, step_at, step_of}
-use Rattle.rack.proofs.OnCard.{rack_in}
-use Rattle.rack.proofs.Places.{place-below, target-inside}
-use Rattle.rack.proofs.Aims.{reset-at}
+use Rattle.rack.specs.Targets.{Target, target_from, bases_in, is_place, target_at, target_of}
+use Rattle.rack.specs.Step.{byte_of, as_stepped, step_at, step_of}
+use Rattle.racklaws.proofs.OnCard.{rack_in}
+use Rattle.racklaws.proofs.Inside.{place-below, target-inside}
+use Rattle.racklaws.proofs.Targets.{number_for, reset-at}
 use Rattle.racklaws.specs.Whom.{RackEvent, rack_event, reset, cycle_ended, unknown, read_at, write_at, levels_on, nobody, card as to_card, bus_after, bus_next}
 use Rattle.racklaws.specs.Promise.{rack_stepped, Whole, Follows, bus_of, bases_of, whom_in}
 use Rattle.racklaws.proofs.Seek.{sought}
@@ -53,16 +52,16 @@ placed count bases eight x = go (ltb x count && ltb x most_cards) refl
 
 module _ (count : ℕ) (bases : List ℕ) (cores : List Core) where
   levels-follow : (ph : Phase) → Whole (rack_in count bases cores ph) → (x y d : ℕ) (t : Bool) → is_place count x ≡ t
-      → Follows (rack_in count bases cores ph) (as_stepped (step_at (rack_in count bases cores ph) (cond t (At x y) NoCard) kinds.outside_levels d))
+      → Follows (rack_in count bases cores ph) (as_stepped (step_at (rack_in count bases cores ph) (cond t (Some (x, y)) None) kinds.outside_levels d))
       (cond (t && ltb y 3) (to_card x (event kinds.outside_levels y d)) nobody)
       (bus_after (bus_of ph) (levels_on x y d) (cond (t && ltb y 3) (to_card x (event kinds.outside_levels y d)) nobody))
   levels-follow ph whole x y d true e = levels-on count bases cores ph whole x y d (place-below count x e) (ltb y 3) refl
-  levels-follow ph whole x y d false e = refused-follows count bases cores ph whole kinds.outside_levels d NoCard tt (λ n. omega (arith, n))
+  levels-follow ph whole x y d false e = refused-follows count bases cores ph whole kinds.outside_levels d None tt (λ n. omega (arith, n))
 
   -- What is no kind is refused, whatever it names.
-  unknown-refused : (ph : Phase) (k : ℕ) → no_kind k ≡ true → (t : Target) → ¬ ((aim_of ph k t).number ≡ 0)
-  unknown-refused ph k none NoCard n = omega (arith, n)
-  unknown-refused ph k none (At i r) n = row-refuses (card.limits card_edition) ph k r 0 none n
+  unknown-refused : (ph : Phase) (k : ℕ) → no_kind k ≡ true → (t : Option Target) → ¬ (number_for ph k t ≡ 0)
+  unknown-refused ph k none None n = omega (arith, n)
+  unknown-refused ph k none (Some t) n = row-refuses (card.limits card_edition) ph k t.1 0 none n
 
   followed-in : (ph : Phase) → Whole (rack_in count bases cores ph) → (x y z k : ℕ)
       → Follows (rack_in count bases cores ph) (rack_stepped (rack_in count bases cores ph) (rack_event k x y z))
@@ -72,7 +71,7 @@ module _ (count : ℕ) (bases : List ℕ) (cores : List Core) where
   followed-in ph whole x y z =
       by_kind (λ k. Follows (rack_in count bases cores ph) (rack_stepped (rack_in count bases cores ph) (rack_event k x y z))
       (whom_in (rack_in count bases cores ph) (rack_event k x y z)) (bus_next (bases_in count bases) (bus_of ph) (rack_event k x y z)))
-      (rw (reset-at count bases cores ph 0 y (At 0 0) (omega arith) (always ph) refl) (reset-follows count bases cores ph whole))
+      (rw (reset-at count bases cores ph 0 y (Some (0, 0)) (omega arith) (always ph) refl) (reset-follows count bases cores ph whole))
       (rw (sought 0 x (bases_in count bases)) (read-follows count bases cores ph whole y x (target_from 0 (bases_in count bases) x) (target-inside count bases kinds.begin_read x y)))
       (end-follows count bases cores ph whole y)
       (rw (sought 0 x (bases_in count bases)) (write-follows count bases cores ph whole y x (target_from 0 (bases_in count bases) x) (target-inside count bases kinds.begin_write x y)
@@ -81,5 +80,5 @@ module _ (count : ℕ) (bases : List ℕ) (cores : List Core) where
       (λ k none. rw (no_row reset (read_at x) cycle_ended (write_at x y) unknown (levels_on x y z) k none)
       (refused-follows count bases cores ph whole k (byte_of k y z) (target_of count bases k x y) (target-inside count bases k x y) (unknown-refused ph k none (target_of count bases k x y))))
 
-pub followed : (r : Rack) → Whole r → (e : RackEvent) → Follows r (rack_stepped r e) (whom_in r e) (bus_next (bases_of r) (bus_of r.bus.phase) e)
-followed r whole e = followed-in r.count r.bases r.cores r.bus.phase whole e.first e.second e.third e.kind
+pub followed : (r : Rack) → Whole r → (e : RackEvent) → Follows r (rack_stepped r e) (whom_in r e) (bus_next (bases_of r) (bus_of r.phase) e)
+followed r whole e = followed-in r.count r.bases r.cores r.phase whole e.first e.second e.third e.kind

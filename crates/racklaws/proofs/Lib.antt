@@ -1,3 +1,6 @@
+pub mod Inside
+pub mod OnCard
+pub mod Targets
 pub mod Seek
 pub mod Seen
 pub mod OneCard
@@ -12,4 +15,3 @@ pub mod Locations
 pub mod Numbers
 pub mod Cycles
 pub mod Examples
-pub mod Determined

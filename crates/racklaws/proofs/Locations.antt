@@ -10,9 +10,8 @@ use lib.Dec.{ltb, leb}
 use lib.ListN.{length}
 use borrow.Author.Tests.{leb-true, ltb-true, le-leb, lt-ltb}
 use Rattle.bits.proofs.Logic.{both, by-test}
-use Rattle.rack.specs.declared.targets.Target.{Target}
-use Rattle.rack.specs.declared.targets.Target.TheVariants.{NoCard, At}
-use Rattle.rack.specs.Targets.{answers_at, register_at, target_from}
+use Rattle.std.specs.Prelude.{Option, Some, None}
+use Rattle.rack.specs.Targets.{Target, answers_at, register_at, target_from}
 use Rattle.racklaws.specs.Whom.{Found, no_card, found, seek}
 use Rattle.racklaws.specs.Bases.{base_at, GoodBases, Located}
 use Rattle.racklaws.proofs.Seek.{as_found, sought}
@@ -29,7 +28,7 @@ within b a e = let two = both (leb b a) (ltb a (b + 8)) e in (leb-true b a two.0
 
 -- The card at a place is the first to answer there, where no other has the location.
 target-here : (i : ℕ) (bs : List ℕ) (j n : ℕ) → j < length bs → n < 8
-    → ((k : ℕ) → k < length bs → answers_at (base_at bs k) (base_at bs j + n) ≡ true → k ≡ j) → target_from i bs (base_at bs j + n) ≡ At (i + j) (n % 4)
+    → ((k : ℕ) → k < length bs → answers_at (base_at bs k) (base_at bs j + n) ≡ true → k ≡ j) → target_from i bs (base_at bs j + n) ≡ Some (i + j, n % 4)
 unfolding target_from
 target-here i [] j n h m only = absurd (omega (arith, h))
 target-here i (b ∷ bs) zero n h m only =
@@ -41,13 +40,13 @@ target-here i (b ∷ bs) (suc j) n h m only = go (answers_at b (base_at bs j + n
     later : (k : ℕ) → k < length bs → answers_at (base_at bs k) (base_at bs j + n) ≡ true → k ≡ j
     later k g e = omega (arith, only (suc k) (omega (arith, g)) e)
 
-    go : (t : Bool) → answers_at b (base_at bs j + n) ≡ t → target_from (suc i) bs (base_at bs j + n) ≡ At (suc i + j) (n % 4)
-        → cond (answers_at b (base_at bs j + n)) (At i (register_at b (base_at bs j + n))) (target_from (suc i) bs (base_at bs j + n)) ≡ At (i + suc j) (n % 4)
+    go : (t : Bool) → answers_at b (base_at bs j + n) ≡ t → target_from (suc i) bs (base_at bs j + n) ≡ Some (suc i + j, n % 4)
+        → cond (answers_at b (base_at bs j + n)) (Some (i, register_at b (base_at bs j + n))) (target_from (suc i) bs (base_at bs j + n)) ≡ Some (i + suc j, n % 4)
     go true e behind = absurd (omega (arith, only 0 (omega arith) e))
     go false e behind = let place : suc i + j ≡ i + suc j = omega arith in rw (e, behind, place)
 
 -- Where no card has the location, none is found.
-target-nowhere : (i : ℕ) (bs : List ℕ) (a : ℕ) → ((k : ℕ) → k < length bs → answers_at (base_at bs k) a ≡ false) → target_from i bs a ≡ NoCard
+target-nowhere : (i : ℕ) (bs : List ℕ) (a : ℕ) → ((k : ℕ) → k < length bs → answers_at (base_at bs k) a ≡ false) → target_from i bs a ≡ None
 unfolding target_from
 target-nowhere i [] a none = refl
 target-nowhere i (b ∷ bs) a none = rw (none 0 (omega arith)) (target-nowhere (suc i) bs a (λ k h. none (suc k) (omega (arith, h))))
@@ -61,7 +60,7 @@ by_address : (i : ℕ) (bs : List ℕ) (a : ℕ) → ((k : ℕ) → k < length b
 unfolding target_from
 by_address i [] a multiples = tt
 by_address i (b ∷ bs) a multiples =
-    by-test (λ (t : Target). ByAddress a (as_found t)) (answers_at b a) (At i (register_at b a)) (target_from (suc i) bs a)
+    by-test (λ (t : Option Target). ByAddress a (as_found t)) (answers_at b a) (Some (i, register_at b a)) (target_from (suc i) bs a)
     (λ e. let two = within b a e in omega (arith, multiples 0 (omega arith), two.0, two.1))
     (λ e. by_address (suc i) bs a (λ k h. multiples (suc k) (omega (arith, h))))
 

@@ -1,12 +1,12 @@
 -- An accepted event that reaches one card: that card does as a chip alone, and every other is as it was.
--- Rests on Seen, on the rack's OnCard, the step's Outcome and laws' Editions.
+-- Rests on Seen and OnCard, on the chip's Outcome and on laws' Editions.
 use mathlib.Core.Path.{◌≡◌, refl, sym, ap, ◌∙◌}
 use mathlib.Core.List.{List}
 use Prim.Native.Nat.{ℕ, ◌<◌}
 use native.Mathlib.Omega.{arith}
 use lib.ListN.{length, length-set}
 use lib.Seq.{get_or-set_same, get_or-set_other}
-use Rattle.events.specs.Event.{Event, event}
+use Rattle.bus.specs.Event.{Event, event}
 use Rattle.bus.specs.declared.Phase.{Phase}
 use Rattle.bus.specs.Refusals.{number_of}
 use Rattle.bus.specs.Device.{step_in}
@@ -14,16 +14,15 @@ use Rattle.bus.specs.Cycles.{phase_after}
 use Rattle.bus.proofs.Phases.{phase-goes}
 use Rattle.chip.specs.declared.Core.{Core}
 use Rattle.chip.specs.declared.Edition.{Edition}
-use Rattle.step.specs.Step as card
-use Rattle.step.specs.Step.{stepped}
-use Rattle.step.proofs.Outcome.{step-accepts, step-number}
+use Rattle.chip.specs.Step as card
+use Rattle.chip.specs.Step.{stepped}
+use Rattle.chip.proofs.Outcome.{step-accepts, step-number}
 use Rattle.laws.proofs.Editions.{edition-stays}
 use Rattle.rack.specs.declared.Rack.{Rack}
-use Rattle.rack.specs.declared.event.Stepped.{Stepped}
 use Rattle.rack.specs.Bases.{most_cards}
 use Rattle.rack.specs.State.{number_at, seen_at, no_core, chip_at, card_edition}
-use Rattle.rack.specs.Step.{reached_by, device, as_stepped}
-use Rattle.rack.proofs.OnCard.{rack_in, card_stepped, accepted-there, reached-below, one-card}
+use Rattle.rack.specs.Step.{Stepped, device, as_stepped}
+use Rattle.racklaws.proofs.OnCard.{reached_by, rack_in, card_stepped, accepted-there, reached-below, one-card}
 use Rattle.racklaws.specs.Whom.{card as to_card}
 use Rattle.racklaws.specs.Promise.{ForOne, Whole, Follows, bus_of}
 use Rattle.racklaws.proofs.Seen.{seen-own, seen-others}

@@ -6,12 +6,12 @@ use mathlib.Core.List.{List, [], ◌∷◌, ◌++◌}
 use Prim.Native.Nat.{ℕ, ◌<◌}
 use lib.Dec.{eqb}
 use borrow.Author.Tests.{eqb-true, eqb-false}
-use Rattle.events.specs.Event.{Event}
+use Rattle.bus.specs.Event.{Event}
 use Rattle.chip.specs.declared.Chip.{Chip}
 use Rattle.rack.specs.declared.Rack.{Rack}
-use Rattle.rack.specs.declared.event.Stepped.{Stepped}
 use Rattle.rack.specs.Bases.{most_cards}
 use Rattle.rack.specs.State.{chip_at}
+use Rattle.rack.specs.Step.{Stepped}
 use Rattle.fates.specs.Promise.{run}
 use Rattle.racklaws.specs.Whom.{RackEvent, Whom, nobody, everybody, card, part, bus_next}
 use Rattle.racklaws.specs.Promise.{rack_stepped, bus_of, bases_of, whom_in, Reached, Whole, Follows, GoesOn}
@@ -33,7 +33,7 @@ goes-on r whole [] = record { whole = whole; bases = refl; bus = refl; card = λ
 goes-on r whole (e ∷ es) = next r e es (followed r whole e) (goes-on (rack_stepped r e).rack (followed r whole e).whole es)
   where
     next : (r : Rack) (e : RackEvent) (es : List RackEvent)
-        → Follows r (rack_stepped r e) (whom_in r e) (bus_next (bases_of r) (bus_of r.bus.phase) e) → GoesOn (rack_stepped r e).rack es → GoesOn r (e ∷ es)
+        → Follows r (rack_stepped r e) (whom_in r e) (bus_next (bases_of r) (bus_of r.phase) e) → GoesOn (rack_stepped r e).rack es → GoesOn r (e ∷ es)
     next r e es f later = record {
       whole = later.whole;
       bases = later.bases ∙ f.bases;

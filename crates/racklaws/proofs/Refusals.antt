@@ -3,10 +3,10 @@
 use mathlib.Core.Path.{◌≡◌, refl, ap, subst, ◌∙◌}
 use mathlib.Core.List.{[]}
 use Prim.Native.Nat.{ℕ}
-use Rattle.events.specs.Event.{Event}
+use Rattle.bus.specs.Event.{Event}
 use Rattle.rack.specs.declared.Rack.{Rack}
-use Rattle.rack.specs.declared.event.Stepped.{Stepped}
 use Rattle.rack.specs.State.{chip_at}
+use Rattle.rack.specs.Step.{Stepped}
 use Rattle.racklaws.specs.Whom.{RackEvent, Whom, nobody, everybody, card, part}
 use Rattle.racklaws.specs.Promise.{rack_stepped, whom_in, Reached, Whole}
 use Rattle.racklaws.proofs.Followed.{followed}

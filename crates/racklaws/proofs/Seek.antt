@@ -9,15 +9,14 @@ use lib.Dec.{eqb, ltb, leb}
 use lib.ListN.{length, get_or}
 use borrow.Author.Tests.{ltb-true, lt-ltb, le-ltb, leb-true, leb-false, le-leb, lt-leb, eqb-true, eqb-false}
 use Rattle.bits.proofs.Logic.{both}
-use Rattle.rack.specs.declared.targets.Target.{Target}
-use Rattle.rack.specs.declared.targets.Target.TheVariants.{NoCard, At}
-use Rattle.rack.specs.Targets.{answers_at, register_at, target_from}
+use Rattle.std.specs.Prelude.{Option, Some, None}
+use Rattle.rack.specs.Targets.{Target, answers_at, register_at, target_from}
 use Rattle.racklaws.specs.Whom.{Found, no_card, found, shown, among, seek}
 
 -- The rack's target in those words.
-abbrev pub as_found : Target → Found
-as_found NoCard = no_card
-as_found (At i register) = found i register
+abbrev pub as_found : Option Target → Found
+as_found None = no_card
+as_found (Some t) = found t.0 t.1
 
 -- The register at location l, or what those behind it say, in numbers.
 module _ (i a l r : ℕ) (rs : List ℕ) (others : Found) where
@@ -75,7 +74,7 @@ here i a b others true e =
     rw (e, shown-by (a - b) (omega (arith, leb-true b a there.0, ltb-true a (b + 8) there.1)))
 here i a b others false e = rw e
 
-either : (t : Bool) (x y : Target) → as_found (cond t x y) ≡ cond t (as_found x) (as_found y)
+either : (t : Bool) (x y : Option Target) → as_found (cond t x y) ≡ cond t (as_found x) (as_found y)
 either true x y = refl
 either false x y = refl
 
@@ -86,5 +85,5 @@ sought i a (b ∷ bs) = rw (
   among-by i a b shown (seek (suc i) a bs),
   here i a b (seek (suc i) a bs) (answers_at b a) refl,
   sought (suc i) a bs,
-  either (answers_at b a) (At i (register_at b a)) (target_from (suc i) bs a),
+  either (answers_at b a) (Some (i, register_at b a)) (target_from (suc i) bs a),
 )

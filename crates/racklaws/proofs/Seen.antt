@@ -1,23 +1,23 @@
 -- What the cards see of the bus after an accepted event: the one that it reaches what a chip alone has, and every other what it saw
 -- before.
--- Rests on the rack's OnCard.
+-- Rests on OnCard, and on the bus's ByKind and Numbering.
 use mathlib.Core.Path.{◌≡◌, refl, sym}
 use mathlib.Core.Bool.{true}
 use Prim.Native.Nat.{ℕ, ◌<◌}
 use borrow.Author.Tests.{eq-eqb, ne_eqb}
-use Rattle.events.specs.Kinds as kinds
-use Rattle.events.specs.Kinds.{begins}
-use Rattle.events.proofs.ByKind.{by_kind}
+use Rattle.bus.specs.Kinds as kinds
+use Rattle.bus.specs.Kinds.{begins}
+use Rattle.bus.proofs.ByKind.{by_kind}
 use Rattle.bus.specs.declared.Phase.{Phase}
 use Rattle.bus.specs.declared.Phase.TheVariants.{Idle, Reading, Writing}
 use Rattle.bus.specs.Refusals.{number_of}
 use Rattle.bus.specs.Cycles.{phase_after}
 use Rattle.bus.proofs.Numbering.{row-refuses}
-use Rattle.step.specs.Step as card
+use Rattle.chip.specs.Step as card
 use Rattle.rack.specs.Bases.{most_cards}
 use Rattle.rack.specs.State.{number_at, place_of, seen_at, card_edition}
-use Rattle.rack.specs.Step.{runs_at, reached_by}
-use Rattle.rack.proofs.OnCard.{place-numbered, register-numbered}
+use Rattle.rack.specs.Step.{runs_at}
+use Rattle.racklaws.proofs.OnCard.{reached_by, place-numbered, register-numbered}
 
 module _ (i r d : ℕ) (h : i < most_cards) where
   pub seen-own : (ph : Phase) (k : ℕ) → ¬ (k ≡ 0) → number_of (card.limits card_edition) ph k r ≡ 0

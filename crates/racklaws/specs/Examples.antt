@@ -1,6 +1,6 @@
 -- Racks, addresses and a history in numbers ("A rack of cards").
 use Rattle.std.specs.Prelude.{List, [], ◌∷◌, ℕ}
-use Rattle.events.specs.Event.{Event, event}
+use Rattle.bus.specs.Event.{Event, event}
 use Rattle.racklaws.specs.Whom.{RackEvent, rack_event, Access, reset, cycle_ended, unknown, read_at, write_at, levels_on, Found, no_card, found}
 
 -- A store with two cards: the scale's at 778, the printer's at 300.

@@ -1,6 +1,6 @@
 -- What is promised of a rack over any history: each card is a chip alone under the events that reach it ("A rack of cards").
-use Rattle.std.specs.Prelude.{◌≡◌, true, List, [], ◌∷◌, ◌++◌, ℕ, ◌<◌, length}
-use Rattle.events.specs.Event.{Event}
+use Rattle.std.specs.Prelude.{◌≡◌, true, List, [], ◌∷◌, ◌++◌, ℕ, ◌<◌, length, Some, None}
+use Rattle.bus.specs.Event.{Event}
 use Rattle.bus.specs.declared.Phase.{Phase}
 use Rattle.bus.specs.declared.Phase.TheVariants.{Idle, Reading, Writing}
 use Rattle.control.specs.declared.Group.{Group}
@@ -9,17 +9,15 @@ use Rattle.channel.specs.declared.Side.TheVariants.{Input}
 use Rattle.chip.specs.declared.Edition.TheVariants.{Older}
 use Rattle.chip.specs.declared.Chip.{Chip}
 use Rattle.chip.specs.State.{all_low, power_up, no_tally, tally_of}
-use Rattle.status.specs.declared.reasons.Explained.TheVariants.{NoGroup}
-use Rattle.status.specs.Reasons.{explained_of}
-use Rattle.ports.specs.Pins.{pins_of}
-use Rattle.step.specs.Step.{stepped}
+use Rattle.chip.specs.Reasons.{explained_in, explained_of}
+use Rattle.chip.specs.Pins.{pins_of}
+use Rattle.chip.specs.Step.{stepped}
 use Rattle.rack.specs.declared.Rack.{Rack}
-use Rattle.rack.specs.declared.event.Stepped.{Stepped}
 use Rattle.rack.specs.Bases.{most_cards}
 use Rattle.rack.specs.State.{place_of, chip_at, rack_of}
 use Rattle.rack.specs.Targets.{bases_in, is_place}
-use Rattle.rack.specs.Step.{step_of}
-use Rattle.rack.specs.Views.{card_of, card_pins, card_tally, card_explained}
+use Rattle.rack.specs.Step.{Stepped, step_of}
+use Rattle.rack.specs.Views.{card_of, card_pins, card_tally, card_explained, card_explained_numbered}
 use Rattle.fates.specs.Surroundings.{at_power_up}
 use Rattle.fates.specs.Bytes.{bytes_of}
 use Rattle.fates.specs.Promise.{run, surroundings_of, new_bytes, old_byte, Fates, SixteenBits}
@@ -46,10 +44,10 @@ abbrev pub bases_of : Rack → List ℕ
 bases_of r = bases_in r.count r.bases
 
 abbrev pub whom_in : Rack → RackEvent → Whom
-whom_in r e = whom (bases_of r) (bus_of r.bus.phase) e
+whom_in r e = whom (bases_of r) (bus_of r.phase) e
 
 abbrev pub events_in : ℕ → Rack → List RackEvent → List Event
-events_in i r es = events_for i (bases_of r) (bus_of r.bus.phase) es
+events_in i r es = events_for i (bases_of r) (bus_of r.phase) es
 
 -- What the rack r gave for an event that reaches nobody: a refusal. It changes nothing in any card, nor on the bus, and its byte is 00.
 pub record Refused (r : Rack) (given : Stepped) : Type 0 where
@@ -86,7 +84,7 @@ pub record Whole (r : Rack) : Type 0 where
 -- What a rack with eight places gives for any event: what it does is told by whom it reaches, and so is the bus after it; the bases stay.
 pub record Follows (r : Rack) (given : Stepped) (w : Whom) (after : Bus) : Type 0 where
   pub reached : Reached r given w
-  pub bus : bus_of given.rack.bus.phase ≡ after
+  pub bus : bus_of given.rack.phase ≡ after
   pub bases : bases_of given.rack ≡ bases_of r
   pub whole : Whole given.rack
 
@@ -95,18 +93,19 @@ pub record Follows (r : Rack) (given : Stepped) (w : Whom) (after : Bus) : Type 
 pub record GoesOn (r : Rack) (es : List RackEvent) : Type 0 where
   pub whole : Whole (rack_run r es)
   pub bases : bases_of (rack_run r es) ≡ bases_of r
-  pub bus : bus_of (rack_run r es).bus.phase ≡ bus_over (bases_of r) (bus_of r.bus.phase) es
+  pub bus : bus_of (rack_run r es).phase ≡ bus_over (bases_of r) (bus_of r.phase) es
   pub card : (i : ℕ) → i < most_cards → chip_at (rack_run r es) i ≡ run (chip_at r i) (events_in i r es)
 
 -- What a card of a rack is promised, the rack having been built with these bases, where `events` are those of the history es that reach
--- it: after the history the card is a chip alone after these events from power-up, and shows, counts and explains what that does; and so
--- demand 3, the discipline and the account hold of it over them.
+-- it: after the history the card is a chip alone after these events from power-up, and shows, counts and explains what that does, of a group
+-- and of any number that is to name one; and so demand 3, the discipline and the account hold of it over them.
 pub record AsAlone (bs : List ℕ) (es : List RackEvent) (i : ℕ) (events : List Event) : Type 0 where
   pub state : chip_at (rack_run (rack_of bs) es) i ≡ run power_up events
-  pub card : card_of (rack_run (rack_of bs) es) i ≡ record { number = 0; chip = run power_up events }
-  pub pins : (p : ℕ) → card_pins (rack_run (rack_of bs) es) i p ≡ record { number = 0; pins = pins_of (run power_up events) p }
-  pub tally : (g : Group) (s : Side) → card_tally (rack_run (rack_of bs) es) i g s ≡ record { number = 0; tally = tally_of (run power_up events) g s }
-  pub explains : (g : ℕ) → card_explained (rack_run (rack_of bs) es) i g ≡ record { number = 0; explained = explained_of (run power_up events) g }
+  pub card : card_of (rack_run (rack_of bs) es) i ≡ Some (run power_up events)
+  pub pins : (p : ℕ) → card_pins (rack_run (rack_of bs) es) i p ≡ Some (pins_of (run power_up events) p)
+  pub tally : (g : Group) (s : Side) → card_tally (rack_run (rack_of bs) es) i g s ≡ Some (tally_of (run power_up events) g s)
+  pub explains : (g : Group) → card_explained (rack_run (rack_of bs) es) i g ≡ Some (explained_in (run power_up events) g)
+  pub explains_numbered : (n : ℕ) → card_explained_numbered (rack_run (rack_of bs) es) i n ≡ explained_of (run power_up events) n
   pub fates : (g : Group) (s : Side) → Fates g s power_up events no_tally (bytes_of g s Older all_low events) (bytes_of g s Older all_low events)
   pub discipline : (g : Group) → Disciplined g (at_power_up Older all_low) power_up events → NoneLost (bytes_of g Input Older all_low events)
   pub unforced : (g : Group) (s : Side) → NeverForced g s (at_power_up Older all_low) events → NoneForced (bytes_of g s Older all_low events) (bytes_of g s Older all_low events)
@@ -115,12 +114,14 @@ pub record AsAlone (bs : List ℕ) (es : List RackEvent) (i : ℕ) (events : Lis
 -- The same of a card of any rack, from whatever it is there: a byte that waits in it counts as offered already.
 pub record AsAloneFrom (r : Rack) (es : List RackEvent) (i : ℕ) (c : Chip) (events : List Event) : Type 0 where
   pub state : chip_at (rack_run r es) i ≡ run c events
-  pub card : is_place r.count i ≡ true → card_of (rack_run r es) i ≡ record { number = 0; chip = run c events }
-  pub pins : is_place r.count i ≡ true → (p : ℕ) → card_pins (rack_run r es) i p ≡ record { number = 0; pins = pins_of (run c events) p }
+  pub card : is_place r.count i ≡ true → card_of (rack_run r es) i ≡ Some (run c events)
+  pub pins : is_place r.count i ≡ true → (p : ℕ) → card_pins (rack_run r es) i p ≡ Some (pins_of (run c events) p)
   pub tally : is_place r.count i ≡ true → (g : Group) (s : Side)
-      → card_tally (rack_run r es) i g s ≡ record { number = 0; tally = tally_of (run c events) g s }
-  pub explains : is_place r.count i ≡ true → (g : ℕ)
-      → card_explained (rack_run r es) i g ≡ record { number = 0; explained = explained_of (run c events) g }
+      → card_tally (rack_run r es) i g s ≡ Some (tally_of (run c events) g s)
+  pub explains : is_place r.count i ≡ true → (g : Group)
+      → card_explained (rack_run r es) i g ≡ Some (explained_in (run c events) g)
+  pub explains_numbered : is_place r.count i ≡ true → (n : ℕ)
+      → card_explained_numbered (rack_run r es) i n ≡ explained_of (run c events) n
   pub fates : (g : Group) (s : Side) → SixteenBits (tally_of c g s)
       → Fates g s c events (tally_of c g s) (new_bytes g s c events) (old_byte g s c events ++ new_bytes g s c events)
   pub discipline : (g : Group) → HasFound g c → Disciplined g (surroundings_of c) c events → NoneLost (old_byte g Input c events ++ new_bytes g Input c events)
@@ -128,9 +129,10 @@ pub record AsAloneFrom (r : Rack) (es : List RackEvent) (i : ℕ) (c : Chip) (ev
       → NoneForced (new_bytes g s c events) (old_byte g s c events ++ new_bytes g s c events)
   pub account : Accounted c (account_of c) events
 
--- Where there is no card, each view is 10, and shows nothing.
+-- Where there is no card, no view shows anything, of whatever group or number.
 pub record NoneThere (r : Rack) (i : ℕ) : Type 0 where
-  pub card : card_of r i ≡ record { number = 10; chip = power_up }
-  pub pins : (p : ℕ) → card_pins r i p ≡ record { number = 10; pins = record { levels = 0; driven = 0 } }
-  pub tally : (g : Group) (s : Side) → card_tally r i g s ≡ record { number = 10; tally = no_tally }
-  pub explains : (g : ℕ) → card_explained r i g ≡ record { number = 10; explained = NoGroup }
+  pub card : card_of r i ≡ None
+  pub pins : (p : ℕ) → card_pins r i p ≡ None
+  pub tally : (g : Group) (s : Side) → card_tally r i g s ≡ None
+  pub explains : (g : Group) → card_explained r i g ≡ None
+  pub explains_numbered : (n : ℕ) → card_explained_numbered r i n ≡ None

@@ -1,6 +1,6 @@
 -- Whom an event of a rack reaches, worked out from the bases and the events alone ("A rack of cards").
 use Rattle.std.specs.Prelude.{cond, ◌&&◌, List, [], ◌∷◌, ◌++◌, ℕ, suc, eqb, ltb, length, get_or}
-use Rattle.events.specs.Event.{Event, event}
+use Rattle.bus.specs.Event.{Event, event}
 
 -- An event of the rack: a kind and three operands, whatever their numbers.
 pub record RackEvent : Type 0 where

@@ -1,2 +1,2 @@
-// Theorems about a rack of cards, in specs/ and proofs/. This crate has no function.
+//! Theorems about a rack of cards, in specs/ and proofs/. This crate has no function.
 #![tactic(auto)]

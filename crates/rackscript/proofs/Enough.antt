@@ -1,41 +1,34 @@
 -- What a caller of a run can count on: the answers have as many bytes as it says, lie within the output, and leave what stands behind
 -- them; and with enough room no text is refused for want of it.
--- Rests on Cards and Room.
-use mathlib.Core.Path.{◌≡◌, ◌∙◌, refl, ap, sym}
+-- Rests on script's Pieces and on Room.
+use mathlib.Core.Path.{◌≡◌, refl}
 use mathlib.Core.Bool.{Bool, true, false, cond, not}
-use mathlib.Core.List.{List, [], ◌∷◌}
-use Prim.Native.Nat.{ℕ, ◌*◌, ◌≤◌}
-use native.Mathlib.Nat.{add_comm, mul-zero, mul-suc}
+use mathlib.Core.List.{List}
+use Prim.Native.Nat.{ℕ, ◌≤◌}
 use native.Mathlib.Omega.{arith}
 use lib.Dec.{ltb}
-use lib.ListN.{length, drop, length-append}
+use lib.ListN.{length, drop}
 use lib.Seq.{drop_at}
 use borrow.Author.Tests.{ltb-true, ltb-false}
 use Rattle.rack.specs.declared.Rack.{Rack}
 use Rattle.rack.specs.Bases.{bad_rack_number}
+use Rattle.script.specs.Answers.{answers_from}
 use Rattle.script.specs.Run.{longest_script, too_long, too_long_number, no_room_number}
+use Rattle.script.proofs.Pieces.{width-each}
 use Rattle.text.specs.Lines.{Line}
-use Rattle.rackscript.specs.declared.Ran.{Ran}
-use Rattle.rackscript.specs.Answers.{at_line, line_text, line_width, answers_from}
-use Rattle.rackscript.specs.Run.{names_rack, rack_named, to_answer, room_for, room_for_text, run_number, ran_by, ran_of, output_left}
-use Rattle.rackscript.proofs.Cards.{count-stays, line-length}
+use Rattle.rackscript.specs.Answers.{answering}
+use Rattle.rackscript.specs.Run.{names_rack, rack_named, to_answer, room_for, room_for_text, run_number, Ran, ran_by, ran_of, output_left}
 use Rattle.rackscript.proofs.Room.{most_room, most-room}
 
 -- One width to a line.
-pub answers-length : (r : Rack) (ls : List Line) → length (answers_from r ls) ≡ room_for r ls
-unfolding answers_from
-answers-length r [] = sym (mul-zero (line_width r.count))
-answers-length r (l ∷ ls) =
-    let first = line-length (at_line r l) ∙ ap line_width (count-stays r l) in
-    let later = answers-length (at_line r l).rack ls ∙ ap (λ (n : ℕ). line_width n * length ls) (count-stays r l) in
-    length-append (line_text (at_line r l)) (answers_from (at_line r l).rack ls)
-    ∙ rw (first, later, mul-suc (line_width r.count) (length ls)) (add_comm (line_width r.count) (line_width r.count * length ls))
+pub answers-length : (r : Rack) (ls : List Line) → length (answers_from answering r ls) ≡ room_for r ls
+answers-length r ls = width-each answering r ls
 
 -- An accepted run leaves every byte behind its answers.
 pub behind-stays : (text out : List ℕ) → run_number text (length out) ≡ 0
     → drop (room_for_text text) (output_left text out) ≡ drop (room_for_text text) out
 behind-stays text out e =
-    let answers : List ℕ = answers_from (rack_named text) (to_answer text) in
+    let answers : List ℕ = answers_from answering (rack_named text) (to_answer text) in
     rw (e) (drop_at answers (drop (room_for_text text) out) (room_for_text text) (answers-length (rack_named text) (to_answer text)))
 
 -- The number of a run by its three tests.

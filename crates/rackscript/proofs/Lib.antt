@@ -1,14 +1,10 @@
+pub mod Naming
 pub mod Leading
 pub mod Placing
-pub mod Naming
+pub mod Said
 pub mod FirstLine
-pub mod Stores
-pub mod Levels
-pub mod Cards
-pub mod Answering
-pub mod Outcome
 pub mod Room
 pub mod Opened
 pub mod Enough
-pub mod Determined
 pub mod Written
+pub mod Determined

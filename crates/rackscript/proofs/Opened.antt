@@ -1,64 +1,80 @@
--- A text whose first line is a rack: what a run knows of it there, and what it works out of that.
--- Rests on FirstLine and on Room.
-use mathlib.Core.Path.{◌≡◌, ◌∙◌, ap, ap₂, sym}
-use mathlib.Core.List.{List}
-use Prim.Native.Nat.{ℕ, ◌+◌, ◌-◌, ◌*◌, ◌≤◌, ◌<◌}
+-- What stands behind the first line of a text, where that is a rack, is given to the run of one who answers scripts: what that run tells and leaves is
+-- what the rack's run does.
+-- Rests on script's Numbers and on FirstLine.
+use mathlib.Core.Path.{◌≡◌, ◌∙◌, refl, ap, sym}
+use mathlib.Core.List.{List, ◌∷◌}
+use Prim.Native.Nat.{ℕ, ◌*◌, ◌≤◌}
 use native.Mathlib.Omega.{arith}
-use lib.ListN.{length, take, drop}
-use borrow.Author.Rules.{part_to_end}
-use Rattle.rack.specs.declared.Built.{Built}
-use Rattle.rack.specs.Bases.{most_cards}
-use Rattle.script.specs.Run.{longest_script}
+use lib.ListN.{length}
+use borrow.Author.Tests.{le-ltb}
+use Rattle.std.specs.Prelude.{Result, Ok, Err, IsErrAnd}
+use Rattle.rack.specs.declared.Rack.{Rack}
+use Rattle.script.specs.Run as scripts
+use Rattle.script.specs.Run.{longest_script, width_of}
+use Rattle.script.specs.declared.RunRefusal.{RunRefusal}
+use Rattle.script.specs.declared.RunRefusal.TheVariants.{TooLong, NoRoom}
+use Rattle.script.proofs.Numbers.{number-given, has-room}
 use Rattle.text.specs.Lines.{Line, lines_of, line_count}
-use Rattle.text.specs.LineEnds.{line_end, line_between}
-use Rattle.rackscript.specs.Bases.{rack_of_line, rack_for}
-use Rattle.rackscript.specs.Answers.{line_width}
-use Rattle.rackscript.specs.Run.{rack_named, to_answer, room_for_text, accepted_run, filled}
-use Rattle.rackscript.proofs.FirstLine.{few-cards, rack-found, others-behind, ends-inside}
-use Rattle.rackscript.proofs.Room.{most_room, most-room}
+use Rattle.rackscript.specs.declared.Ran as counts
+use Rattle.rackscript.specs.declared.RackRunRefusal.{RackRunRefusal}
+use Rattle.rackscript.specs.Bases.{rack_of_line, rack_for, further_lines}
+use Rattle.rackscript.specs.Answers.{answering}
+use Rattle.rackscript.specs.Run.{to_answer, run_number, run_refusal_number, run_told, refused_run, ran_of, output_left}
+use Rattle.rackscript.proofs.FirstLine.{no-longer}
 
--- The part of a text behind its first line, as it is lent.
-abbrev pub part_behind : List ℕ → ℕ → List ℕ
-part_behind text end = take (length text - (end + 1)) (drop (end + 1) text)
+-- What an error tells, by its number.
+pub told-as : (r : Result counts.Ran RackRunRefusal) (n : ℕ) → IsErrAnd r (λ given. run_refusal_number given ≡ n) → run_told r ≡ refused_run n
+told-as (Ok ran) n none = absurd none
+told-as (Err given) n is = ap refused_run is
 
--- The first line ends there, and b is the rack.
-pub record Opened (text : List ℕ) (end : ℕ) (b : Built) : Type 0 where
-  pub inside : end < length text
-  pub rack : rack_for (lines_of text) ≡ b
-  pub named : (rack_for (lines_of text)).number ≡ 0
-  pub cards : b.rack.count ≤ most_cards
-  pub others : to_answer text ≡ lines_of (part_behind text end)
+module _ (text left out : List ℕ) (l : Line) (r : Rack) (short : length text ≤ longest_script) (is : lines_of text ≡ l ∷ lines_of left)
+    (made : rack_of_line l ≡ Ok r) where
+  found : rack_for (lines_of text) ≡ Ok r
+  unfolding rack_for
+  found = ap rack_for is ∙ made
 
-pub opened : (text : List ℕ) (end : ℕ) (b : Built) → end ≡ line_end text 0 → b ≡ rack_of_line (line_between text 0 end) → b.number ≡ 0
-    → Opened text end b
-opened text end b is made accepted =
-    let found : rack_for (lines_of text) ≡ b = rack-found text end is ∙ sym made in
-    let within = ends-inside text end is (ap (λ (b : Built). b.number) (sym made) ∙ accepted) in
-    record {
-      inside = within;
-      rack = found;
-      named = ap (λ (b : Built). b.number) found ∙ accepted;
-      cards = rw (found) at (few-cards (lines_of text));
-      others = others-behind text end is within ∙ ap lines_of (sym (part_to_end text (end + 1)));
-    }
+  behind : to_answer text ≡ lines_of left
+  unfolding further_lines
+  behind = ap further_lines is
 
--- The width of a line and the count of lines, as they are worked out.
-module _ (text : List ℕ) (end : ℕ) (b : Built) (so : Opened text end b) (w n : ℕ) (wide : w ≡ line_width b.rack.count)
-    (lines : n ≡ line_count (part_behind text end)) where
-  lines_are : length (to_answer text) ≡ n
-  lines_are = ap (λ (ls : List Line). length ls) so.others ∙ sym lines
+  -- The numbers of the two runs: what is left is no longer than the text.
+  abbrev number : ℕ
+  number = scripts.run_number (width_of answering r) left (length out)
 
-  pub room-is : room_for_text text ≡ w * n
-  room-is = ap₂ (λ (w n : ℕ). w * n) (ap (λ (b : Built). line_width b.rack.count) so.rack ∙ sym wide) lines_are
+  same-number : run_number text (length out) ≡ number
+  unfolding run_number scripts.run_number
+  same-number =
+      rw (
+        le-ltb longest_script (length text) short,
+        le-ltb longest_script (length left) (omega (arith, short, no-longer text left l is)),
+        found,
+        behind,
+      )
+      refl
 
-  pub given_back : record { number = 0; lines = n; length = w * n } ≡ accepted_run text
-  given_back = ap₂ (λ (n m : ℕ). record { number = 0; lines = n; length = m }) (sym lines_are) (sym room-is)
+  pub same-output : scripts.output_left answering r left out ≡ output_left text out
+  same-output = rw (same-number, found, behind) refl
 
-  pub length-fits : length text ≤ longest_script → w * n ≤ most_room
-  length-fits short = omega (arith, room-is, most-room text short)
+  -- Where the one is refused, so is the other.
+  pub not-run : (why : RunRefusal) → scripts.run_told (Err why) ≡ scripts.ran_of (width_of answering r) left (length out)
+      → refused_run (scripts.run_refusal_number why) ≡ ran_of text (length out)
+  not-run why told = go why (same-number ∙ sym (number-given (width_of answering r) left (length out) (scripts.run_told (Err why)) told))
+    where
+      go : (why : RunRefusal) → run_number text (length out) ≡ scripts.run_refusal_number why
+          → refused_run (scripts.run_refusal_number why) ≡ ran_of text (length out)
+      go TooLong number = rw (number) refl
+      go NoRoom number = rw (number) refl
 
--- The output that the rack has filled is that of the run.
-pub filled_is : (text : List ℕ) (end : ℕ) (b : Built) → Opened text end b → (out : List ℕ)
-    → filled b.rack (lines_of (part_behind text end)) out ≡ filled (rack_named text) (to_answer text) out
-filled_is text end b so out =
-    ap₂ (λ (b : Built) (ls : List Line). filled b.rack ls out) (sym so.rack) (sym so.others)
+  -- Where it is accepted, it has answered every line behind the first, and the answers lie within the output.
+  module _ (n : ℕ) (told : scripts.run_told (Ok n) ≡ scripts.ran_of (width_of answering r) left (length out)) where
+    accepted : number ≡ 0
+    accepted = sym (number-given (width_of answering r) left (length out) (scripts.run_told (Ok n)) told)
+
+    every-line : n ≡ line_count left
+    every-line = ap (λ (ran : scripts.Ran). ran.lines) (rw (accepted) at told)
+
+    pub has-run : record { number = 0; lines = n; length = width_of answering r * n } ≡ ran_of text (length out)
+    has-run = rw (same-number, accepted, found, behind, every-line) refl
+
+    pub fits : width_of answering r * n ≤ length out
+    fits = rw (every-line) (has-room (width_of answering r) left (length out) accepted)

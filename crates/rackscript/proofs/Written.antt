@@ -8,15 +8,14 @@ use native.Mathlib.Omega.{arith}
 use lib.Dec.{eqb, leb}
 use borrow.Author.Tests.{lt-ltb, leb-true}
 use Rattle.bits.proofs.Logic.{both}
-use Rattle.events.specs.Kinds as kinds
-use Rattle.events.specs.Kinds.{is_kind}
+use Rattle.bus.specs.Kinds as kinds
+use Rattle.bus.specs.Kinds.{is_kind}
 use Rattle.rack.specs.Bases.{card_width, last_base, is_base, is_among, are_bases}
 use Rattle.text.specs.Digits.{no_byte, digit_code, pair_value, in_digits}
 use Rattle.text.specs.Frames.{leading_byte}
 use Rattle.text.proofs.Written.{pair-written}
-use Rattle.rackscript.specs.declared.frames.RackFrame.TheVariants.{Event}
 use Rattle.rackscript.specs.Bases.{base_of, leading_base, bases_of_line}
-use Rattle.rackscript.specs.Frames.{operand_bytes, is_rack_frame, event_of, rack_frame_of}
+use Rattle.rackscript.specs.Frames.{Event, operand_bytes, is_rack_frame, event_of, rack_frame_of}
 
 -- An address, or a base, in four digits.
 abbrev pub in_four : ℕ → List ℕ

@@ -1,8 +1,8 @@
 -- The rack that the first line of a text names ("A rack of cards").
-use Rattle.std.specs.Prelude.{cond, ◌&&◌, List, [], ◌∷◌, ℕ, ◌+◌, ◌*◌, ltb}
-use Rattle.rack.specs.declared.Built.{Built}
-use Rattle.rack.specs.Bases.{bad_rack_number}
-use Rattle.rack.specs.State.{no_cards, built_of}
+use Rattle.std.specs.Prelude.{cond, ◌&&◌, List, [], ◌∷◌, ℕ, ◌+◌, ◌*◌, ltb, Result, Err}
+use Rattle.rack.specs.declared.Rack.{Rack}
+use Rattle.rack.specs.declared.refusals.BadRack.{BadRack}
+use Rattle.rack.specs.State.{built_of}
 use Rattle.text.specs.Digits.{no_byte, pair_value}
 use Rattle.text.specs.Lines.{Line, ended, rest}
 
@@ -34,17 +34,17 @@ bases_of_line (a ∷ b ∷ []) = no_base ∷ []
 bases_of_line (a ∷ b ∷ c ∷ []) = no_base ∷ []
 bases_of_line (a ∷ b ∷ c ∷ d ∷ later) = leading_base (a ∷ b ∷ c ∷ d ∷ later) ∷ bases_of_line later
 
--- What is no rack: its number, and then there is no card.
-abbrev pub no_rack : Built
-no_rack = record { number = bad_rack_number; rack = no_cards }
+-- What is no rack.
+abbrev pub no_rack : Result Rack BadRack
+no_rack = Err (record {})
 
 -- The rack that a line names. A rest without LF names none, however well it is formed.
-unfoldable pub rack_of_line : Line → Built
+unfoldable pub rack_of_line : Line → Result Rack BadRack
 rack_of_line (ended bytes) = built_of (bases_of_line bytes)
 rack_of_line (rest bytes) = no_rack
 
 -- The rack that some lines are for, which the first of them names; and the lines behind it, which are to be answered.
-unfoldable pub rack_for : List Line → Built
+unfoldable pub rack_for : List Line → Result Rack BadRack
 rack_for [] = no_rack
 rack_for (l ∷ ls) = rack_of_line l
 

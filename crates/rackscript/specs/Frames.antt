@@ -1,12 +1,17 @@
 -- Frames: what a further line of a rack's script says ("A rack of cards", "Script and program").
-use Rattle.std.specs.Prelude.{Bool, cond, ◌&&◌, ◌||◌, List, ℕ, ◌+◌, ◌*◌, eqb, ltb, length, drop}
-use Rattle.events.specs.Kinds as kinds
-use Rattle.events.specs.Kinds.{is_kind, begins}
+use Rattle.std.specs.Prelude.{Bool, cond, ◌&&◌, ◌||◌, List, ℕ, ◌+◌, ◌*◌, eqb, ltb, length, drop, Option, Some, None}
+use Rattle.bus.specs.Kinds as kinds
+use Rattle.bus.specs.Kinds.{is_kind, begins}
+use Rattle.rack.specs.declared.events.RackEvent.{RackEvent}
+use Rattle.rack.specs.declared.events.RackEvent.TheVariants.{Reset, BeginRead, EndCycle, BeginWrite, OutsideLevels}
 use Rattle.text.specs.Digits.{no_byte}
 use Rattle.text.specs.Frames.{leading_byte, kind_in, first_in, second_in}
 use Rattle.text.specs.Lines.{Line, ended, rest}
-use Rattle.rackscript.specs.declared.frames.RackFrame.{RackFrame}
-use Rattle.rackscript.specs.declared.frames.RackFrame.TheVariants.{Event, NoFrame}
+
+-- What a line says: an event, by its kind and three operands, of which the first may be an address; or no frame.
+pub data RackFrame : Type 0 where
+  Event : ℕ → ℕ → ℕ → ℕ → RackFrame
+  NoFrame : RackFrame
 
 -- The third byte behind the kind.
 abbrev pub third_in : List ℕ → ℕ
@@ -38,3 +43,12 @@ rack_frame_of line = cond (is_rack_frame line) (event_of (kind_in line) (first_i
 unfoldable pub rack_frame_in : Line → RackFrame
 rack_frame_in (ended bytes) = rack_frame_of bytes
 rack_frame_in (rest bytes) = NoFrame
+
+-- What an answer tells of a line: an event by its numbers, with zeros for the operands that its kind lacks; or that the line is no frame.
+abbrev pub rack_frame_told : Option RackEvent → RackFrame
+rack_frame_told None = NoFrame
+rack_frame_told (Some Reset) = Event kinds.reset 0 0 0
+rack_frame_told (Some (BeginRead a)) = Event kinds.begin_read a 0 0
+rack_frame_told (Some EndCycle) = Event kinds.end_cycle 0 0 0
+rack_frame_told (Some (BeginWrite a d)) = Event kinds.begin_write a d 0
+rack_frame_told (Some (OutsideLevels i p d)) = Event kinds.outside_levels i p d

@@ -1,83 +1,50 @@
-// The first line of a rack's script: the bases that it has, and the rack that they make.
-ghost use Rattle.std.specs.Prelude.{◌≡◌, ◌-◌, ◌*◌, ◌≤◌, ◌<◌, length, take, drop};
-ghost use Rattle.rack.specs.Bases.{most_cards};
-ghost use Rattle.text.specs.LineEnds.{line_between};
-ghost use Rattle.rackscript.specs.Bases.{base_digits, base_of, leading_base, bases_of_line, no_rack, rack_of_line};
+//! The first line of a rack's script: the bases that it has, and the rack that they make.
+ghost use Rattle.std.specs.Prelude.{◌≡◌, unwrap_or};
+ghost use Rattle.rack.specs.State.{built_of};
+ghost use Rattle.text.specs.Answers.{line_of};
+ghost use Rattle.rackscript.specs.Bases.{no_base, leading_base, bases_of_line, rack_of_line};
 
-use rack::{Built, MOST_CARDS};
-use text::digits::NO_BYTE;
-use text::line;
+use rack::refusals::BadRack;
+use rack::{MOST_CARDS, Rack};
+use text::line::{Line, byte_at};
 
 // How many digits a base has.
 const BASE_DIGITS: usize = 4;
 
-// What stands where no four digits were written: it is no base.
-const NO_BASE: u16 = 0xffff;
-
-// The bases of a line, from the first place on, and how many they are.
-#[derive(Clone, Copy)]
-struct Named {
-    bases: [u16; 8],
-    count: usize,
-}
-
-// The number of four digits, by the bytes that two and two of them write.
-#[tactic(auto, unfolding(crate::specs::Bases::base_of))]
-fn base(high: u16, low: u16) -> u16
-    ensures { result ≡ base_of high low }
+// The base that digits write: none where they are fewer than four, or one of them is no digit.
+fn base(digits: &[u8]) -> Option<u16>
+    ensures { unwrap_or result no_base ≡ leading_base digits.now }
 {
-    if (high < NO_BYTE) & (low < NO_BYTE) {
-        return low + 256 * high;
+    if digits.len() < BASE_DIGITS {
+        return None;
     }
-    NO_BASE
+    Some(u16::from_be_bytes([byte_at(digits, 0)?, byte_at(digits, 2)?]))
 }
 
-// The base at that place of the line.
-#[tactic(auto, using(crate::proofs::Leading::few_left, crate::proofs::Leading::four_left))]
-fn base_at(line: &[u8], at: usize) -> u16
-    requires { at < length line.now }
-    ensures { result ≡ leading_base (drop at line.now) }
+// The rack of the bases that an ended line names.
+fn named(line: &[u8]) -> Result<Rack, BadRack>
+    ensures { result ≡ built_of (bases_of_line line.now) }
 {
-    if line.len() - at < BASE_DIGITS {
-        return NO_BASE;
-    }
-    base(line::byte_at(line, at), line::byte_at(line, at + 2))
-}
-
-// The bases of a line that has not too many digits for a rack.
-fn bases(line: &[u8]) -> Named
-    requires { length line.now ≤ base_digits * most_cards }
-    ensures { (result.count ≤ length result.bases) × (take result.count result.bases ≡ bases_of_line line.now) }
-{
-    let mut bases = [0; 8];
+    // An array with a count: there is no heap here, and a line may name fewer than eight.
+    let mut bases = [0; MOST_CARDS];
     let mut count = 0;
-    while BASE_DIGITS * count < line.len() {
-        bases[count] = base_at(line, BASE_DIGITS * count);
-        count = count + 1;
+    for digits in line.chunks(BASE_DIGITS) {
+        if count == MOST_CARDS {
+            return Err(BadRack);
+        }
+        bases[count] = base(digits).ok_or(BadRack)?;
+        count += 1;
     }
-    Named { bases, count }
+    Rack::new(&bases[..count])
 }
 
-// What is no rack, as a building says it of a number that is no base.
-#[tactic(auto, unfolding(rack::specs::Bases::is_base, rack::specs::Bases::are_bases, rack::specs::Bases::makes_rack, rack::specs::State::built_of))]
-fn none() -> Built
-    ensures { result ≡ no_rack }
+// The rack that a line names. A rest names none, however well it is formed.
+#[tactic(auto, unfolding(crate::specs::Bases::rack_of_line))]
+pub(super) fn rack(line: Line<'_>) -> Result<Rack, BadRack>
+    ensures { result ≡ rack_of_line (line_of line.entry) }
 {
-    rack::build(&[NO_BASE])
-}
-
-// The rack that the text's line up to a place names; none where the text ends there, and not the line.
-pub(super) fn rack(text: &[u8], end: usize) -> Built
-    ensures { result ≡ rack_of_line (line_between text.now 0 end) }
-{
-    if text.len() <= end {
-        return none();
+    match line {
+        Line::Ended(bytes) => named(bytes),
+        Line::Rest(_) => Err(BadRack),
     }
-    if BASE_DIGITS * MOST_CARDS < end {
-        return none();
-    }
-    let named = bases(&text[..end]);
-    let bases = named.bases;
-    let count = named.count;
-    rack::build(&bases[..count])
 }

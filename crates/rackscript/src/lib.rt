@@ -1,84 +1,89 @@
-// The run of a rack's script: a text whose first line has the bases of the cards, and each further line a frame, which the rack answers.
+//! The run of a rack's script: a text whose first line has the bases of the cards, and each further line a frame, which the rack answers.
 #![tactic(auto)]
 
-ghost use Rattle.std.specs.Prelude.{◌≡◌, ◌≤◌, length};
-ghost use Rattle.rack.specs.Bases.{most_cards};
-ghost use Rattle.text.specs.Lines.{lines_of};
-ghost use Rattle.rackscript.specs.Run.{room_for, refused_run, ran_of, filled, output_left};
+ghost use Rattle.std.specs.Prelude.{◌≡◌, length};
+ghost use Rattle.rack.specs.Bases.{bad_rack_number};
+ghost use Rattle.rackscript.specs.Run.{run_refusal_number, run_told, ran_of, output_left};
+ghost use Rattle.script.specs.Run as scripts;
 
-use bus::ACCEPTED;
-use rack::{BAD_RACK, Rack};
-use script::{LONGEST, NO_ROOM, TOO_LONG};
-use text::lines;
-
+mod answers;
 mod first;
 mod frames;
-mod writer;
 
-// The room that is enough for the answers to any script: 4,096 lines, each as wide as with eight cards, 53 bytes.
+use answers::Answering;
+use rack::refusals::BadRack;
+use script::{LONGEST, RunRefusal, Scripted};
+use text::lines::Lines;
+
+/// The room that is enough for the answers to any script: 4,096 lines, each as wide as with eight cards, 53 bytes.
 pub const MOST_ROOM: usize = 217_088;
 
-// The number of a run, how many lines were answered, and how many bytes the answers have.
-#[derive(Clone, Copy)]
+/// What an accepted run has written: the answers to so many lines, in so many bytes.
+#[derive(Clone, Copy, Debug, PartialEq, Eq)]
 pub struct Ran {
-    pub number: u8,
     pub lines: usize,
     pub length: usize,
 }
 
-// A run that is refused answers no line.
-fn refuse(number: u8) -> Ran
-    ensures { result ≡ refused_run number }
-{
-    Ran {
-        number,
-        lines: 0,
-        length: 0,
+/// Why a run is refused.
+#[derive(Clone, Copy, Debug, PartialEq, Eq)]
+pub enum RackRunRefusal {
+    /// The text is longer than a script may be.
+    TooLong,
+    /// The first line is no rack.
+    BadRack,
+    /// The output has no room for the answers.
+    NoRoom,
+}
+
+impl RackRunRefusal {
+    /// The number of the refusal.
+    pub fn number(self) -> u8
+        ensures { result ≡ run_refusal_number self }
+    {
+        match self {
+            RackRunRefusal::TooLong => 6,
+            RackRunRefusal::BadRack => 9,
+            RackRunRefusal::NoRoom => 7,
+        }
     }
 }
 
-// Answers every line of a text, each from where the last answer stopped.
-fn answer_all(mut rack: Rack, text: &[u8], out: &mut [u8])
-    requires { (rack.count ≤ most_cards) × (room_for rack (lines_of text.now) ≤ length out.old) }
-    ensures { out.new ≡ filled rack (lines_of text.now) out.old }
-{
-    let width = writer::width(rack.count);
-    let mut start = 0;
-    let mut at = 0;
-    while start < text.len() {
-        let end = lines::end(text, start);
-        let stepped = frames::act(rack, frames::in_text(text, start, end));
-        start = end + 1;
-        writer::write(&mut out[at..], stepped);
-        rack = stepped.rack;
-        at = at + width;
+impl From<BadRack> for RackRunRefusal {
+    ghost from_gives = { λ _ given. run_refusal_number given ≡ bad_rack_number };
+
+    fn from(_refusal: BadRack) -> Self {
+        RackRunRefusal::BadRack
     }
 }
 
-// Runs a text on the rack that its first line names, and leaves the output where the run is refused.
-#[tactic(auto, unfolding(crate::specs::Run::run_number))]
-pub fn run(text: &[u8], out: &mut [u8]) -> Ran
-    ensures { (result ≡ ran_of text.now (length out.old)) × (out.new ≡ output_left text.now out.old) }
+impl From<RunRefusal> for RackRunRefusal {
+    ghost from_gives = { λ refusal given. run_refusal_number given ≡ scripts.run_refusal_number refusal };
+
+    fn from(refusal: RunRefusal) -> Self {
+        match refusal {
+            RunRefusal::TooLong => RackRunRefusal::TooLong,
+            RunRefusal::NoRoom => RackRunRefusal::NoRoom,
+        }
+    }
+}
+
+/// Runs a text on the rack that its first line names, and leaves the output where the run is refused.
+#[tactic(auto, unfolding(crate::specs::Run::run_number, crate::specs::Bases::rack_for))]
+pub fn run(text: &[u8], out: &mut [u8]) -> Result<Ran, RackRunRefusal>
+    ensures told { run_told result ≡ ran_of text.now (length out.old) }
+    ensures output { out.new ≡ output_left text.now out.old }
 {
     if LONGEST < text.len() {
-        return refuse(TOO_LONG);
+        return Err(RackRunRefusal::TooLong);
     }
-    let end = lines::end(text, 0);
-    let built = first::rack(text, end);
-    if built.number != ACCEPTED {
-        return refuse(BAD_RACK);
-    }
-    let rack = built.rack;
-    let further = &text[end + 1..];
-    let lines = lines::count(further);
-    let length = writer::width(rack.count) * lines;
-    if out.len() < length {
-        return refuse(NO_ROOM);
-    }
-    answer_all(rack, further, out);
-    Ran {
-        number: ACCEPTED,
+    let mut lines = Lines::new(text);
+    let first = lines.next().ok_or(BadRack)?;
+    let mut subject = Answering(first::rack(first)?);
+    let width = script::line_width(subject.cards());
+    let lines = script::run(&mut subject, lines.text, out)?;
+    Ok(Ran {
         lines,
-        length,
-    }
+        length: width * lines,
+    })
 }

@@ -13,7 +13,7 @@ use Rattle.bus.proofs.Facts as bus
 use Rattle.chip.specs.declared.Edition.{Edition}
 use Rattle.chip.specs.declared.Edition.TheVariants.{Older, Newer}
 use Rattle.chip.specs.declared.Chip.{Chip}
-use Rattle.step.specs.Step.{readable, limits, device, step_of}
+use Rattle.chip.specs.Step.{readable, limits, device, step_of}
 use Rattle.image.specs.Loaded.{state_of}
 use Rattle.image.specs.Good.{can_be_read, names_its_place, is_image, Bytes}
 use Rattle.image.proofs.OneImage.{tells-such}

@@ -6,15 +6,15 @@ use mathlib.Core.List.{List, [], ◌∷◌}
 use Prim.Native.Nat.{ℕ, ◌*◌}
 use lib.Dec.{ltb}
 use lib.ListN.{length}
-use Rattle.events.specs.Event.{Event}
+use Rattle.bus.specs.Event.{Event}
 use Rattle.chip.specs.declared.Edition.{Edition}
 use Rattle.chip.specs.declared.Edition.TheVariants.{Older, Newer}
 use Rattle.chip.specs.declared.Chip.{Chip}
 use Rattle.chip.specs.declared.Levels.{Levels}
 use Rattle.chip.specs.State.{power_up_as, tally_of}
-use Rattle.status.specs.Reasons.{explained_of, numbers_of}
-use Rattle.ports.specs.Pins.{pins_of}
-use Rattle.step.specs.Step.{stepped}
+use Rattle.chip.specs.Reasons.{explained_of, numbers_of}
+use Rattle.chip.specs.Pins.{pins_of}
+use Rattle.chip.specs.Step.{stepped}
 use Rattle.fates.specs.Promise.{run}
 use Rattle.fates.proofs.Followed.{after}
 use Rattle.image.specs.Places as places

@@ -7,11 +7,11 @@ use Prim.Native.Nat.{ℕ, ◌/◌, ◌%◌, ◌<◌}
 use native.Mathlib.Omega.{arith}
 use Rattle.bits.specs.Bit.{num}
 use Rattle.bits.specs.Sum.{byte_by}
-use Rattle.events.specs.Event.{Event}
+use Rattle.bus.specs.Event.{Event}
 use Rattle.control.specs.declared.Group.{Group}
 use Rattle.channel.specs.declared.Side.TheVariants.{Input}
 use Rattle.chip.specs.declared.Chip.{Chip}
-use Rattle.ports.specs.Pins.{pins_of}
+use Rattle.chip.specs.Pins.{pins_of}
 use Rattle.fates.specs.Surroundings.{Surroundings, surroundings_next}
 use Rattle.fates.specs.Effects.{effect}
 use Rattle.fates.specs.Discipline.{ibf, Minds, Disciplined}

@@ -1,6 +1,6 @@
 -- A host that keeps a chip as an image, and what is promised of a chip that it restores or powers up.
 use Rattle.std.specs.Prelude.{◌≡◌, true, List, [], ◌∷◌, ◌++◌, ℕ}
-use Rattle.events.specs.Event.{Event, event}
+use Rattle.bus.specs.Event.{Event, event}
 use Rattle.bus.specs.declared.Phase.TheVariants.{Idle, Reading, Writing}
 use Rattle.control.specs.declared.Group.{Group}
 use Rattle.channel.specs.declared.Side.{Side}
@@ -9,7 +9,7 @@ use Rattle.chip.specs.declared.Edition.{Edition}
 use Rattle.chip.specs.declared.Chip.{Chip}
 use Rattle.chip.specs.declared.Levels.{Levels}
 use Rattle.chip.specs.State.{power_up_as, tally_of}
-use Rattle.step.specs.Step.{on_bus, stepped}
+use Rattle.chip.specs.Step.{on_bus, stepped}
 use Rattle.fates.specs.Surroundings.{at_power_up}
 use Rattle.fates.specs.Promise.{run, surroundings_of, new_bytes, old_byte, HeldInTheLatch, Fates}
 use Rattle.fates.specs.Discipline.{Disciplined, NoneLost, NeverForced, NoneForced}

@@ -1,2 +1,2 @@
-// No code: what holds of a chip that a host keeps as an image, saves and restores, as theorems (proofs/).
+//! No code: what holds of a chip that a host keeps as an image, saves and restores, as theorems (proofs/).
 #![tactic(auto)]

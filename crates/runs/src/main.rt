@@ -1,4 +1,4 @@
-// Runs the compiled library over texts and outputs of chosen lengths, and shows what each run gave back and left in the output.
+//! Runs the compiled library over texts and outputs of chosen lengths, and shows what each run gave back and left in the output.
 #![tactic(auto)]
 
 mod long;

@@ -1,4 +1,4 @@
-// A script of the 8355: nine lines, 99 bytes of answers. Port B is loaded before its direction is set, and read; then come three refusals.
+//! A script of the 8355: nine lines, 99 bytes of answers. Port B is loaded before its direction is set, and read; then come three refusals.
 use super::show;
 use std::io;
 

@@ -1,25 +1,40 @@
-// One run, shown: its number, the lines that it counts, and the output, which was full of dots.
-use script::{Device, Ran};
+//! One run, shown: its number, the lines that it counts, and the output, which was full of dots.
+use chip::{Chip, Edition, Levels};
+use i8355::Chip8355;
+use script::{RunRefusal, Scripted};
 use std::io;
 
 pub(super) fn title(rt: &impl Print, text: &str) -> io::Result<()> {
     println!(rt; "\n== {text}")
 }
 
-pub(super) fn ran(rt: &impl Print, ran: Ran) -> io::Result<()> {
-    println!(rt; "number {}, lines {}", ran.number, ran.lines)
+/// The chip that the scripts here are for: an 8255A just powered up, on lines that idle high.
+pub(super) fn chip() -> Chip {
+    Chip::new(Edition::Older, Levels::HIGH)
+}
+
+pub(super) fn ran(rt: &impl Print, ran: Result<usize, RunRefusal>) -> io::Result<()> {
+    match ran {
+        Ok(lines) => println!(rt; "number 0, lines {lines}"),
+        Err(refusal) => println!(rt; "number {}, lines 0", refusal.number()),
+    }
 }
 
 // A text run into an output of that size.
-fn on(rt: &(impl Print + AllocGlobal), device: Device, text: &[u8], size: usize) -> io::Result<()> {
+fn on<S: Scripted>(
+    rt: &(impl Print + AllocGlobal),
+    subject: &mut S,
+    text: &[u8],
+    size: usize,
+) -> io::Result<()> {
     let mut out = vec![in rt.alloc(); b'.'; size]?;
-    ran(rt, script::run(device, text, &mut out))?;
+    ran(rt, script::run(subject, text, &mut out))?;
     rt.write_all(&out)?;
     println!(rt; "|")
 }
 
 pub(super) fn run(rt: &(impl Print + AllocGlobal), text: &[u8], size: usize) -> io::Result<()> {
-    on(rt, Device::I8255A, text, size)
+    on(rt, &mut chip(), text, size)
 }
 
 pub(super) fn run_8355(
@@ -27,5 +42,5 @@ pub(super) fn run_8355(
     text: &[u8],
     size: usize,
 ) -> io::Result<()> {
-    on(rt, Device::I8355, text, size)
+    on(rt, &mut Chip8355::new(), text, size)
 }

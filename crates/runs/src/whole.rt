@@ -1,4 +1,4 @@
-// The rules' own script: twelve lines, 132 bytes of answers.
+//! The rules' own script: twelve lines, 132 bytes of answers.
 use super::show;
 use std::io;
 

@@ -3,51 +3,39 @@
 use mathlib.Core.Path.{◌≡◌, refl, ap, sym}
 use mathlib.Core.List.{List, [], ◌∷◌, ◌++◌, map}
 use Prim.Native.Nat.{ℕ}
-use Rattle.events.specs.Kinds.{is_kind}
-use Rattle.bus.specs.Device.{Device, step_in}
+use Rattle.bus.specs.Kinds.{is_kind}
+use Rattle.bus.specs.Device.{Device, run_in}
+use Rattle.bus.specs.Begun.{given_in}
+use Rattle.bus.specs.declared.Pins.{Pins}
 use Rattle.bus.proofs.Numbering.{no-kind-refused}
-use Rattle.chip.specs.declared.Chip.{Chip}
-use Rattle.step.specs.Step.{device, as_stepped, step_of, stepped}
-use Rattle.i8355.specs.declared.Chip8355.{Chip8355}
-use Rattle.i8355.specs.Step as i8355
-use Rattle.text.specs.declared.Frame.{Frame}
-use Rattle.text.specs.declared.Frame.TheVariants.{Event, NoFrame}
 use Rattle.text.specs.Lines.{Line, lines_of}
-use Rattle.text.specs.Frames.{frame_in}
+use Rattle.text.specs.Frames.{Frame, Event, NoFrame, frame_in}
 use Rattle.text.specs.History.{event_of, history_of}
-use Rattle.script.specs.declared.Answerer.{Answerer}
-use Rattle.script.specs.declared.Answerer.TheVariants.{I8255A, I8355}
-use Rattle.script.specs.Answers.{acted_in, acted, acted8355, by_8255a, by8355, acted_by, shown_after, line_text, answers_from, answers_of}
-use Rattle.script.specs.History.{stepped_by, answers_to}
+use Rattle.script.specs.Answers.{acted_in, by_device, line_after, answers_from, state_after, answers_of, left_after}
+use Rattle.script.specs.History.{answers_to}
 
--- So it is on any device.
-acted-in-is : {S R : Type 0} (dev : Device S R) (s : S) (f : Frame)
-    → acted_in dev s f ≡ step_in dev s (event_of f).kind (event_of f).first (event_of f).second
-unfolding acted_in is_kind
-acted-in-is dev s (Event k x d) = refl
-acted-in-is dev s NoFrame = sym (no-kind-refused dev s 0xff 0 0 refl)
+module _ {S R : Type 0} (dev : Device S R) where
+  pub acted-in-is : (s : S) (f : Frame) → acted_in dev s f ≡ given_in dev s (event_of f)
+  unfolding acted_in is_kind
+  acted-in-is s (Event k x d) = refl
+  acted-in-is s NoFrame = sym (no-kind-refused dev s 0xff 0 0 refl)
 
--- On the 8255A, for those who follow a chip; and on the 8355.
-pub acted-is : (c : Chip) (f : Frame) → acted c f ≡ stepped c (event_of f)
-unfolding acted step_of
-acted-is c f = ap as_stepped (acted-in-is device c f)
+  module _ (pins : S → ℕ → Pins) where
+    answers-are : (s : S) (ls : List Line) → answers_from (by_device dev pins) s ls ≡ answers_to dev pins s (map (λ (l : Line). event_of (frame_in l)) ls)
+    unfolding answers_from
+    answers-are s [] = refl
+    answers-are s (l ∷ ls) =
+        rw (acted-in-is s (frame_in l))
+        (ap (λ (t : List ℕ). line_after (by_device dev pins) (given_in dev s (event_of (frame_in l))) ++ t)
+        (answers-are (given_in dev s (event_of (frame_in l))).state ls))
 
-acted-8355-is : (c : Chip8355) (f : Frame) → acted8355 c f ≡ i8355.stepped c (event_of f)
-unfolding acted8355 i8355.step_of
-acted-8355-is c f = ap i8355.as_stepped (acted-in-is i8355.device c f)
+    states-are : (s : S) (ls : List Line) → state_after (by_device dev pins) s ls ≡ run_in dev s (map (λ (l : Line). event_of (frame_in l)) ls)
+    states-are s [] = refl
+    states-are s (l ∷ ls) = rw (acted-in-is s (frame_in l)) (states-are (given_in dev s (event_of (frame_in l))).state ls)
 
-acted-by-is : (m : Answerer) (f : Frame) → acted_by m f ≡ stepped_by m (event_of f)
-acted-by-is (I8255A c) f = ap by_8255a (acted-is c f)
-acted-by-is (I8355 c) f = ap by8355 (acted-8355-is c f)
+    -- The answers of a device to a text are those that its history is given, whatever the device; and the text leaves what the history leaves.
+    pub history-answered : (s : S) (text : List ℕ) → answers_of (by_device dev pins) s text ≡ answers_to dev pins s (history_of text)
+    history-answered s text = answers-are s (lines_of text)
 
-answers-are : (m : Answerer) (ls : List Line) → answers_from m ls ≡ answers_to m (map (λ (l : Line). event_of (frame_in l)) ls)
-unfolding answers_from
-answers-are m [] = refl
-answers-are m (l ∷ ls) =
-    rw (acted-by-is m (frame_in l))
-    (ap (λ (t : List ℕ). line_text (shown_after (stepped_by m (event_of (frame_in l)))) ++ t)
-    (answers-are (stepped_by m (event_of (frame_in l))).answerer ls))
-
--- The answers to a text are those that its history is given, whoever answers.
-pub history-answered : (m : Answerer) (text : List ℕ) → answers_of m text ≡ answers_to m (history_of text)
-history-answered m text = answers-are m (lines_of text)
+    pub history-left : (s : S) (text : List ℕ) → left_after (by_device dev pins) s text ≡ run_in dev s (history_of text)
+    history-left s text = states-are s (lines_of text)

@@ -1,6 +1,8 @@
-pub mod Walking
 pub mod Filling
+pub mod Stores
+pub mod Levels
 pub mod Answering
+pub mod Walking
 pub mod Numbers
 pub mod Pieces
 pub mod Outcome

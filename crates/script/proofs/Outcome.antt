@@ -1,40 +1,54 @@
--- A run as a whole: what it leaves of the output, and an empty text.
+-- A run as a whole: what it leaves, and an empty text.
 -- Rests on text's LineCount, on Numbers and on Pieces.
 use mathlib.Core.Path.{◌≡◌, ◌∙◌, sym}
 use mathlib.Core.List.{List, []}
 use Prim.Native.Nat.{ℕ, ◌*◌, ◌≤◌}
+use native.Mathlib.Nat.{mul-zero}
 use native.Mathlib.Omega.{arith}
 use lib.ListN.{length, drop}
 use lib.Seq.{drop_at}
 use borrow.Author.Tests.{le-ltb, ne_eqb}
-use Rattle.text.specs.Lines.{lines_of}
+use Rattle.std.proofs.Math.Nat.{mul-le-mul_left}
+use Rattle.text.specs.Lines.{lines_of, line_count}
 use Rattle.text.proofs.LineCount.{lines-at-most}
-use Rattle.script.specs.declared.Answerer.{Answerer}
-use Rattle.script.specs.declared.Ran.{Ran}
-use Rattle.script.specs.Answers.{answer_width, answers_of, answers_from}
-use Rattle.script.specs.Run.{longest_script, room_for, run_number, ran_of, output_left}
+use Rattle.script.specs.Answers.{Answerer, answers_of, answers_from}
+use Rattle.script.specs.Run.{longest_script, room_for, run_number, Ran, ran_of, width_of, output_left, subject_left}
 use Rattle.script.proofs.Numbers.{number-given, has-room}
 use Rattle.script.proofs.Pieces.{answers-length}
 
-module _ (m : Answerer) (text out : List ℕ) where
-  -- A refused run leaves every byte of the output.
-  pub refused-leaves : ¬ (run_number text (length out) ≡ 0) → output_left m text out ≡ out
-  refused-leaves h = rw (ne_eqb _ _ h)
+module _ {S : Type 0} (a : Answerer S) (s : S) where
+  module _ (text out : List ℕ) where
+    -- A refused run leaves every byte of the output, and the state.
+    pub refused-leaves : ¬ (run_number (width_of a s) text (length out) ≡ 0)
+        → (output_left a s text out ≡ out) × (subject_left a s text (length out) ≡ s)
+    refused-leaves h = (rw (ne_eqb _ _ h), rw (ne_eqb _ _ h))
 
-  -- An accepted one leaves every byte behind its answers.
-  pub behind-stays : run_number text (length out) ≡ 0 → drop (room_for text) (output_left m text out) ≡ drop (room_for text) out
-  behind-stays e = rw (e) (drop_at (answers_of m text) (drop (room_for text) out) (room_for text) (answers-length m text))
+    -- An accepted one leaves every byte behind its answers.
+    pub behind-stays : run_number (width_of a s) text (length out) ≡ 0
+        → drop (room_for (width_of a s) text) (output_left a s text out) ≡ drop (room_for (width_of a s) text) out
+    behind-stays e =
+        rw (e)
+        (drop_at (answers_of a s text) (drop (room_for (width_of a s) text) out) (room_for (width_of a s) text) (answers-length a s text))
 
--- An empty text has no lines, is accepted whatever the room, and leaves the output.
-pub empty-text : (m : Answerer) (out : List ℕ) → (ran_of [] (length out) ≡ record { number = 0; lines = 0 }) × (output_left m [] out ≡ out)
-unfolding run_number lines_of answers_from
-empty-text m out = let room = le-ltb (length out) 0 (omega arith) in (rw (room), rw (room))
+  -- An empty text has no lines, is accepted whatever the room, and leaves the output and the state.
+  pub empty-text : (out : List ℕ)
+      → (ran_of (width_of a s) [] (length out) ≡ record { number = 0; lines = 0 })
+      × (output_left a s [] out ≡ out)
+      × (subject_left a s [] (length out) ≡ s)
+  unfolding run_number lines_of answers_from
+  empty-text out =
+      let none = mul-zero (width_of a s) in
+      let room = le-ltb (length out) 0 (omega arith) in
+      (rw (none, room), rw (none, room), rw (none, room))
 
--- The answers of an accepted run lie within the output.
-pub answers-fit : (text : List ℕ) (room : ℕ) (r : Ran) → r ≡ ran_of text room → r.number ≡ 0 → answer_width * r.lines ≤ room
-answers-fit text room r is e = let accepted = sym (number-given text room r is) ∙ e in rw (is, accepted) (has-room text room accepted)
+module _ (w : ℕ) where
+  -- The answers of an accepted run lie within the output.
+  pub answers-fit : (text : List ℕ) (room : ℕ) (r : Ran) → r ≡ ran_of w text room → r.number ≡ 0 → w * r.lines ≤ room
+  answers-fit text room r is e = let accepted = sym (number-given w text room r is) ∙ e in rw (is, accepted) (has-room w text room accepted)
 
--- A script that is not too long, and whose output has room for 4,096 answers, is answered: its number is never 7.
-pub room-enough : (text : List ℕ) (room : ℕ) → length text ≤ longest_script → answer_width * longest_script ≤ room → run_number text room ≡ 0
-unfolding run_number
-room-enough text room h enough = rw (le-ltb _ _ h, le-ltb room (room_for text) (omega (arith, h, enough, lines-at-most text)))
+  -- A script that is not too long, and whose output has room for 4,096 answers, is answered: its number is never 7.
+  pub room-enough : (text : List ℕ) (room : ℕ) → length text ≤ longest_script → w * longest_script ≤ room → run_number w text room ≡ 0
+  unfolding run_number
+  room-enough text room h enough =
+      let few : line_count text ≤ longest_script = omega (arith, h, lines-at-most text) in
+      rw (le-ltb _ _ h, le-ltb room (room_for w text) (omega (arith, enough, mul-le-mul_left w few)))

@@ -1,50 +1,50 @@
 -- A script in pieces: what stands up to an LF, and what follows, are answered one after the other.
--- Rests on text's Pieces and on Answering.
+-- Rests on text's Pieces and on Levels.
 use mathlib.Core.Path.{◌≡◌, ◌∙◌, refl, ap, sym}
 use mathlib.Core.List.{List, [], ◌∷◌, ◌++◌, append_assoc}
-use Prim.Native.Nat.{ℕ, ◌*◌}
+use Prim.Native.Nat.{ℕ, ◌+◌, ◌*◌}
+use native.Mathlib.Nat.{mul-zero, mul-suc}
 use native.Mathlib.Omega.{arith}
 use lib.ListN.{length, take, length-append}
 use lib.Seq.{take_at}
 use Rattle.text.specs.Lines.{lf, Line, lines_of}
 use Rattle.text.proofs.Pieces.{lines-append}
-use Rattle.script.specs.declared.Answerer.{Answerer}
-use Rattle.script.specs.Answers.{at_line, shown_after, line_text, answer_width, answers_from, answers_of}
-use Rattle.script.specs.Run.{room_for}
-use Rattle.script.proofs.Answering.{line-length}
+use Rattle.script.specs.Answers.{Answerer, line_after, answers_from, state_after, answers_of}
+use Rattle.script.specs.Run.{room_for, width_of}
+use Rattle.script.proofs.Levels.{line-length}
 
--- One width to a line.
-width-each : (m : Answerer) (ls : List Line) → length (answers_from m ls) ≡ answer_width * length ls
-unfolding answers_from
-width-each m [] = refl
-width-each m (l ∷ ls) =
-    length-append (line_text (shown_after (at_line m l))) (answers_from (at_line m l).answerer ls)
-    ∙ rw (line-length (shown_after (at_line m l)), width-each (at_line m l).answerer ls) (omega arith)
+module _ {S : Type 0} (a : Answerer S) where
+  same-width : (s : S) (l : Line) → width_of a (a.takes s l).state ≡ width_of a s
+  same-width s l = ap (λ n. 4 + 6 * n + 1) (a.cards-stay s l)
 
-pub answers-length : (m : Answerer) (text : List ℕ) → length (answers_of m text) ≡ room_for text
-answers-length m text = width-each m (lines_of text)
+  -- One width to a line.
+  pub width-each : (s : S) (ls : List Line) → length (answers_from a s ls) ≡ width_of a s * length ls
+  unfolding answers_from
+  width-each s [] = sym (mul-zero (width_of a s))
+  width-each s (l ∷ ls) =
+      length-append (line_after a (a.takes s l)) (answers_from a (a.takes s l).state ls)
+      ∙ rw (line-length a (a.takes s l), width-each (a.takes s l).state ls, same-width s l)
+      (omega (arith, mul-suc (width_of a s) (length ls)))
 
--- The answerer as some lines leave it.
-abbrev pub answerer_after : Answerer → List Line → Answerer
-answerer_after m [] = m
-answerer_after m (l ∷ ls) = answerer_after (at_line m l).answerer ls
+  pub answers-length : (s : S) (text : List ℕ) → length (answers_of a s text) ≡ room_for (width_of a s) text
+  answers-length s text = width-each s (lines_of text)
 
-answers-append : (m : Answerer) (ls ms : List Line) → answers_from m (ls ++ ms) ≡ answers_from m ls ++ answers_from (answerer_after m ls) ms
-unfolding answers_from
-answers-append m [] ms = refl
-answers-append m (l ∷ ls) ms =
-    let line : List ℕ = line_text (shown_after (at_line m l)) in
-    ap (λ (t : List ℕ). line ++ t) (answers-append (at_line m l).answerer ls ms)
-    ∙ sym (append_assoc line (answers_from (at_line m l).answerer ls) (answers_from (answerer_after (at_line m l).answerer ls) ms))
+  answers-append : (s : S) (ls ms : List Line) → answers_from a s (ls ++ ms) ≡ answers_from a s ls ++ answers_from a (state_after a s ls) ms
+  unfolding answers_from
+  answers-append s [] ms = refl
+  answers-append s (l ∷ ls) ms =
+      let line : List ℕ = line_after a (a.takes s l) in
+      ap (λ (t : List ℕ). line ++ t) (answers-append (a.takes s l).state ls ms)
+      ∙ sym (append_assoc line (answers_from a (a.takes s l).state ls) (answers_from a (state_after a (a.takes s l).state ls) ms))
 
-module _ (m : Answerer) (text later : List ℕ) where
-  -- What stands up to an LF is answered as by itself, and what follows by the answerer as it leaves it.
-  pub piecewise : answers_of m (text ++ lf ∷ later)
-      ≡ answers_of m (text ++ lf ∷ []) ++ answers_from (answerer_after m (lines_of (text ++ lf ∷ []))) (lines_of later)
-  piecewise = rw (lines-append text later) (answers-append m (lines_of (text ++ lf ∷ [])) (lines_of later))
+  module _ (s : S) (text later : List ℕ) where
+    -- What stands up to an LF is answered as by itself, and what follows in the state that it leaves.
+    pub piecewise : answers_of a s (text ++ lf ∷ later)
+        ≡ answers_of a s (text ++ lf ∷ []) ++ answers_from a (state_after a s (lines_of (text ++ lf ∷ []))) (lines_of later)
+    piecewise = rw (lines-append text later) (answers-append s (lines_of (text ++ lf ∷ [])) (lines_of later))
 
-  pub prefixes-agree : take (room_for (text ++ lf ∷ [])) (answers_of m (text ++ lf ∷ later)) ≡ answers_of m (text ++ lf ∷ [])
-  prefixes-agree =
-      rw piecewise
-      (take_at (answers_of m (text ++ lf ∷ [])) (answers_from (answerer_after m (lines_of (text ++ lf ∷ []))) (lines_of later))
-      (room_for (text ++ lf ∷ [])) (answers-length m (text ++ lf ∷ [])))
+    pub prefixes-agree : take (room_for (width_of a s) (text ++ lf ∷ [])) (answers_of a s (text ++ lf ∷ later)) ≡ answers_of a s (text ++ lf ∷ [])
+    prefixes-agree =
+        rw piecewise
+        (take_at (answers_of a s (text ++ lf ∷ [])) (answers_from a (state_after a s (lines_of (text ++ lf ∷ []))) (lines_of later))
+        (room_for (width_of a s) (text ++ lf ∷ [])) (answers-length s (text ++ lf ∷ [])))

@@ -1,108 +1,91 @@
--- What a script is answered, line by line, by the 8255A, the 82C55A or the 8355 ("Script and program", "The 82C55A").
-use Rattle.std.specs.Prelude.{List, [], ◌∷◌, ◌++◌, ℕ}
-use Rattle.bus.specs.Device as bus
-use Rattle.bus.specs.Device.{Given, step_in}
+-- What a script is answered, line by line ("Script and program").
+use Rattle.std.specs.Prelude.{◌≡◌, refl, List, [], ◌∷◌, ◌++◌, ℕ, zero, suc, ◌+◌, ◌*◌}
+use Rattle.bus.specs.Device.{Device, Given, step_in}
 use Rattle.bus.specs.Cycles.{refused_in}
-use Rattle.chip.specs.declared.Edition.{Edition}
-use Rattle.chip.specs.declared.Edition.TheVariants.{Older, Newer}
-use Rattle.chip.specs.declared.Chip.{Chip}
-use Rattle.chip.specs.State.{all_high, power_up_as}
-use Rattle.ports.specs.Pins.{pins_of}
-use Rattle.step.specs.declared.Stepped.{Stepped}
-use Rattle.step.specs.Step.{device, as_stepped}
-use Rattle.i8355.specs.declared.Chip8355.{Chip8355}
-use Rattle.i8355.specs.declared.step.Stepped.{Stepped as Stepped8355}
-use Rattle.i8355.specs.State.{power_up}
-use Rattle.i8355.specs.Views.{pins_of as pins_of_8355}
-use Rattle.i8355.specs.Step as i8355
-use Rattle.text.specs.declared.Frame.{Frame}
-use Rattle.text.specs.declared.Frame.TheVariants.{Event, NoFrame}
+use Rattle.bus.specs.declared.Pins.{Pins}
 use Rattle.text.specs.Digits.{in_digits}
 use Rattle.text.specs.Lines.{lf, Line, lines_of}
-use Rattle.text.specs.Frames.{frame_in}
-use Rattle.script.specs.declared.Device.{Device}
-use Rattle.script.specs.declared.Device.TheVariants.{I8255A as for_8255a, I82C55A as for_82c55a, I8355 as for8355}
-use Rattle.script.specs.declared.Answerer.{Answerer}
-use Rattle.script.specs.declared.Answerer.TheVariants.{I8255A, I8355}
-use Rattle.script.specs.declared.Acted.{Acted}
-use Rattle.script.specs.declared.Shown.{Shown}
+use Rattle.text.specs.Frames.{Frame, Event, NoFrame, frame_in}
+use Rattle.script.specs.declared.Answer.{Answer}
+
+-- Whoever answers scripts, and has states S: what it makes of a line, how many cards there are, and the levels that a port of a card shows. The last
+-- field is a law: no line changes the number of cards, so that every answer line is as wide as the first.
+pub record Answerer (S : Type 0) : Type 0 where
+  pub takes : S → Line → Given S
+  pub cards : S → ℕ
+  pub levels : S → ℕ → ℕ → ℕ
+  pub cards-stay : (s : S) (l : Line) → cards (takes s l).state ≡ cards s
 
 -- The number of a line that is no frame: that of an event of no kind.
 abbrev pub no_frame_number : ℕ
 no_frame_number = 1
 
 -- A frame is an event of the device, whichever it is; what is no frame is refused.
-unfoldable pub acted_in : {S R : Type 0} → bus.Device S R → S → Frame → Given S
+unfoldable pub acted_in : {S R : Type 0} → Device S R → S → Frame → Given S
 acted_in dev s (Event k x d) = step_in dev s k x d
 acted_in dev s NoFrame = refused_in s no_frame_number
 
--- What the chip, of either edition, makes of a frame, and what the 8355 does, each as its step's struct.
-unfoldable pub acted : Chip → Frame → Stepped
-acted c f = as_stepped (acted_in device c f)
-
-unfoldable pub acted8355 : Chip8355 → Frame → Stepped8355
-acted8355 c f = i8355.as_stepped (acted_in i8355.device c f)
-
--- Either as an answerer, for the crates above, in which the variants of a private type have no names.
-abbrev pub as_8255a : Chip → Answerer
-as_8255a c = I8255A c
-
-abbrev pub as8355 : Chip8355 → Answerer
-as8355 c = I8355 c
-
--- What the step of either gives, with the device as an answerer.
-abbrev pub by_8255a : Stepped → Acted
-by_8255a s = record { answerer = I8255A s.chip; number = s.number; byte = s.byte }
-
-abbrev pub by8355 : Stepped8355 → Acted
-by8355 s = record { answerer = I8355 s.chip; number = s.number; byte = s.byte }
-
--- What an answerer makes of a frame, and of a line.
-abbrev pub acted_by : Answerer → Frame → Acted
-acted_by (I8255A c) f = by_8255a (acted c f)
-acted_by (I8355 c) f = by8355 (acted8355 c f)
-
-abbrev pub at_line : Answerer → Line → Acted
-at_line m l = acted_by m (frame_in l)
-
--- The levels of a port, by the answerer's own pin view.
-abbrev pub levels_of : Answerer → ℕ → ℕ
-levels_of (I8255A c) p = (pins_of c p).levels
-levels_of (I8355 c) p = (pins_of_8355 c p).levels
-
--- What is shown after a line: its number, its byte, and the levels of A, B and C.
-abbrev pub shown_after : Acted → Shown
-shown_after s = record {
-  number = s.number;
-  byte = s.byte;
-  a = levels_of s.answerer 0;
-  b = levels_of s.answerer 1;
-  c = levels_of s.answerer 2;
+-- A device on the bus is one card, and shows the levels of its own pin view.
+abbrev pub by_device : {S R : Type 0} → Device S R → (S → ℕ → Pins) → Answerer S
+by_device dev pins = record {
+  takes = λ s l. acted_in dev s (frame_in l);
+  cards = λ s. 1;
+  levels = λ s i p. (pins s p).levels;
+  cards-stay = λ s l. refl;
 }
 
--- An answer line: these five in that order, and LF.
-unfoldable pub line_text : Shown → List ℕ
-line_text r = in_digits r.number ++ in_digits r.byte ++ in_digits r.a ++ in_digits r.b ++ in_digits r.c ++ (lf ∷ [])
+-- What a line gives, as its answer.
+abbrev pub answer_given : {S : Type 0} → Given S → Answer
+answer_given g = record { number = g.number; byte = g.byte }
 
--- The bytes of an answer line: ten digits and LF.
+-- The levels of A, B and C of a card.
+abbrev pub levels_text : ℕ → ℕ → ℕ → List ℕ
+levels_text a b c = in_digits a ++ in_digits b ++ in_digits c
+
+-- An answer line: the number, the byte, the digits of the levels, and LF.
+unfoldable pub line_text : ℕ → ℕ → List ℕ → List ℕ
+line_text number byte levels = in_digits number ++ in_digits byte ++ levels ++ (lf ∷ [])
+
+-- The digits of the number and the byte, and of a card's levels.
+abbrev pub front_digits : ℕ
+front_digits = 4
+
+abbrev pub card_digits : ℕ
+card_digits = 6
+
+-- The bytes of an answer line where there are n cards: these digits, and LF.
+abbrev pub line_width : ℕ → ℕ
+line_width n = front_digits + card_digits * n + 1
+
+-- Those where there is one.
 abbrev pub answer_width : ℕ
 answer_width = 11
 
--- The answers to some lines, each of which meets the answerer as the one before it left it.
-unfoldable pub answers_from : Answerer → List Line → List ℕ
-answers_from m [] = []
-answers_from m (l ∷ ls) = line_text (shown_after (at_line m l)) ++ answers_from (at_line m l).answerer ls
+module _ {S : Type 0} (a : Answerer S) where
+  -- The levels of n cards, from card i on; and of all.
+  unfoldable pub levels_from : S → ℕ → ℕ → List ℕ
+  levels_from s i zero = []
+  levels_from s i (suc n) = levels_text (a.levels s i 0) (a.levels s i 1) (a.levels s i 2) ++ levels_from s (suc i) n
 
--- A script meets a chip of the edition that it is for, which was powered up with every line high.
-abbrev pub chip_at_start : Edition → Chip
-chip_at_start ed = power_up_as ed all_high
+  abbrev pub all_levels : S → List ℕ
+  all_levels s = levels_from s 0 (a.cards s)
 
--- Who answers when a run begins: that chip, or an 8355 at its power-up.
-abbrev pub at_start : Device → Answerer
-at_start for_8255a = I8255A (chip_at_start Older)
-at_start for_82c55a = I8255A (chip_at_start Newer)
-at_start for8355 = I8355 power_up
+  -- The answer line to what a line gives.
+  abbrev pub line_after : Given S → List ℕ
+  line_after g = line_text g.number g.byte (all_levels g.state)
 
--- The answers to a text.
-abbrev pub answers_of : Answerer → List ℕ → List ℕ
-answers_of m text = answers_from m (lines_of text)
+  -- The answers to some lines, each of which meets the state that the one before it left; and the state behind them.
+  unfoldable pub answers_from : S → List Line → List ℕ
+  answers_from s [] = []
+  answers_from s (l ∷ ls) = line_after (a.takes s l) ++ answers_from (a.takes s l).state ls
+
+  abbrev pub state_after : S → List Line → S
+  state_after s [] = s
+  state_after s (l ∷ ls) = state_after (a.takes s l).state ls
+
+  -- The answers to a text, and what its lines leave.
+  abbrev pub answers_of : S → List ℕ → List ℕ
+  answers_of s text = answers_from s (lines_of text)
+
+  abbrev pub left_after : S → List ℕ → S
+  left_after s text = state_after s (lines_of text)

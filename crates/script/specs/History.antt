@@ -1,19 +1,12 @@
 -- What a history is answered, event by event ("Script and program").
 use Rattle.std.specs.Prelude.{List, [], ◌∷◌, ◌++◌, ℕ}
-use Rattle.events.specs.Event.{Event}
-use Rattle.step.specs.Step.{stepped}
-use Rattle.i8355.specs.Step as i8355
-use Rattle.script.specs.declared.Answerer.{Answerer}
-use Rattle.script.specs.declared.Answerer.TheVariants.{I8255A, I8355}
-use Rattle.script.specs.declared.Acted.{Acted}
-use Rattle.script.specs.Answers.{by_8255a, by8355, shown_after, line_text}
+use Rattle.bus.specs.Event.{Event}
+use Rattle.bus.specs.Device.{Device}
+use Rattle.bus.specs.Begun.{given_in}
+use Rattle.bus.specs.declared.Pins.{Pins}
+use Rattle.script.specs.Answers.{by_device, line_after}
 
--- What an answerer makes of an event: the step of the 8255A, or that of the 8355.
-abbrev pub stepped_by : Answerer → Event → Acted
-stepped_by (I8255A c) e = by_8255a (stepped c e)
-stepped_by (I8355 c) e = by8355 (i8355.stepped c e)
-
--- The answer lines that a history is given; each event meets the answerer as the one before it left it.
-abbrev pub answers_to : Answerer → List Event → List ℕ
-answers_to m [] = []
-answers_to m (e ∷ es) = line_text (shown_after (stepped_by m e)) ++ answers_to (stepped_by m e).answerer es
+-- The answer lines that a history is given by a device with that pin view; each event meets the state that the one before it left.
+abbrev pub answers_to : {S R : Type 0} → Device S R → (S → ℕ → Pins) → S → List Event → List ℕ
+answers_to dev pins s [] = []
+answers_to dev pins s (e ∷ es) = line_after (by_device dev pins) (given_in dev s e) ++ answers_to dev pins (given_in dev s e).state es

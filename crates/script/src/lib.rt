@@ -1,121 +1,113 @@
-// The run of a script: a text of frames, one to a line, answered line by line by a device just powered up.
+//! The run of a script: a text of frames, one to a line, answered line by line by whoever answers scripts.
 #![tactic(auto)]
 
 ghost use Rattle.std.specs.Prelude.{◌≡◌, ◌≤◌, length};
-ghost use Rattle.script.specs.Answers.{at_start};
-ghost use Rattle.script.specs.Run.{room_for, refused_run, ran_of, filled, output_left};
+ghost use Rattle.text.specs.Answers.{line_of};
+ghost use Rattle.script.specs.Answers.{Answerer, answer_given, line_width, left_after};
+ghost use Rattle.script.specs.Run.{run_refusal_number, run_told, room_for, ran_of, filled, output_left, subject_left};
 
-use bus::ACCEPTED;
-use chip::Chip;
-use i8355::Chip8355;
-use text::lines;
+use text::line::Line;
+use text::lines::{self, Lines};
 
-mod answer;
+mod devices;
 pub mod left;
-mod on_8255a;
 mod writer;
 
-// How many bytes a script may have.
+/// How many bytes a script may have.
 pub const LONGEST: usize = 4096;
 
-// How many bytes the answer to a line has.
+// How many digits the number and the byte have, and the levels of a card.
+const FRONT_DIGITS: usize = 4;
+
+const CARD_DIGITS: usize = 6;
+
+/// How many bytes the answer of a device to a line has.
 pub const ANSWER_WIDTH: usize = 11;
 
-// The numbers of a refused run: the text is longer than a script may be, or the output has no room for the answers.
-pub const TOO_LONG: u8 = 6;
-
-pub const NO_ROOM: u8 = 7;
-
-// The number of a run, and how many lines were answered.
-#[derive(Clone, Copy)]
-pub struct Ran {
-    pub number: u8,
-    pub lines: usize,
-}
-
-// For which device a script is.
-#[derive(Clone, Copy)]
-pub enum Device {
-    I8255A,
-    I82C55A,
-    I8355,
-}
-
-// Whoever answers a script, as it is after some of its lines. The 82C55A is a chip of the newer edition.
-#[derive(Clone, Copy)]
-enum Answerer {
-    I8255A(Chip),
-    I8355(Chip8355),
-}
-
-// What an answerer makes of a line: what it is then itself, the number and the byte.
-#[derive(Clone, Copy)]
-struct Acted {
-    answerer: Answerer,
-    number: u8,
-    byte: u8,
-}
-
-// What the answer to a line shows: number, byte, and the levels of the three ports.
-#[derive(Clone, Copy)]
-struct Shown {
-    number: u8,
-    byte: u8,
-    a: u8,
-    b: u8,
-    c: u8,
-}
-
-// A run that is refused answers no line.
-fn refuse(number: u8) -> Ran
-    ensures { result ≡ refused_run number }
+/// How many bytes an answer line has where there are so many cards: LF is one more than the digits.
+pub fn line_width(cards: u8) -> usize
+    ensures { result ≡ line_width cards }
 {
-    Ran { number, lines: 0 }
+    FRONT_DIGITS + CARD_DIGITS * usize::from(cards) + 1
 }
 
-// What a run gives back, whoever answers: a text is refused where it is too long, and where the output has no room for the answers.
+/// What a line is answered: the number, and the byte of a read. An answer line shows both, and the byte as 00 where the number is a refusal's.
+#[derive(Clone, Copy, Debug, PartialEq, Eq)]
+pub struct Answer {
+    pub number: u8,
+    pub byte: u8,
+}
+
+/// Whoever answers scripts: some cards, each with ports A, B and C, whose levels stand in every answer line.
+pub trait Scripted {
+    /// What a line makes of it, and what an answer line shows of it.
+    ghost answerer: { Answerer Self };
+
+    /// Takes a line, well formed or not, and answers it.
+    fn take(&mut self, line: Line<'_>) -> Answer
+        ensures state { self.new ≡ (answerer.takes self.old (line_of line.entry)).state }
+        ensures answer { result ≡ answer_given (answerer.takes self.old (line_of line.entry)) };
+
+    /// How many cards there are.
+    fn cards(&self) -> u8
+        ensures { result ≡ answerer.cards self.now };
+
+    /// The levels of a port of a card.
+    fn levels(&self, card: u8, port: u8) -> u8
+        ensures { result ≡ answerer.levels self.now card port };
+}
+
+/// Why a run is refused.
+#[derive(Clone, Copy, Debug, PartialEq, Eq)]
+pub enum RunRefusal {
+    /// The text is longer than a script may be.
+    TooLong,
+    /// The output has no room for the answers.
+    NoRoom,
+}
+
+impl RunRefusal {
+    /// The number of the refusal.
+    pub fn number(self) -> u8
+        ensures { result ≡ run_refusal_number self }
+    {
+        match self {
+            RunRefusal::TooLong => 6,
+            RunRefusal::NoRoom => 7,
+        }
+    }
+}
+
+// Answers every line of a text, each from where the last answer stopped. The output is lent whole, so a cursor says where that is.
+fn answer_all<S: Scripted>(subject: &mut S, text: &[u8], out: &mut [u8])
+    requires { room_for (line_width (S.answerer.cards subject.old)) text.now ≤ length out.old }
+    ensures output { out.new ≡ filled S.answerer subject.old text.now out.old }
+    ensures subject { subject.new ≡ left_after S.answerer subject.old text.now }
+{
+    let width = line_width(subject.cards());
+    let mut at = 0;
+    for line in Lines::new(text) {
+        let answer = subject.take(line);
+        writer::write(&mut out[at..], answer, subject);
+        at += width;
+    }
+}
+
+/// Has the subject answer every line of a text, and says how many lines that are. A refused run leaves the subject and the output as they
+/// were.
 #[tactic(auto, unfolding(crate::specs::Run::run_number))]
-fn judge(text: &[u8], room: usize) -> Ran
-    ensures { result ≡ ran_of text.now room }
+pub fn run<S: Scripted>(subject: &mut S, text: &[u8], out: &mut [u8]) -> Result<usize, RunRefusal>
+    ensures told { run_told result ≡ ran_of (line_width (S.answerer.cards subject.old)) text.now (length out.old) }
+    ensures output { out.new ≡ output_left S.answerer subject.old text.now out.old }
+    ensures subject { subject.new ≡ subject_left S.answerer subject.old text.now (length out.old) }
 {
     if LONGEST < text.len() {
-        return refuse(TOO_LONG);
+        return Err(RunRefusal::TooLong);
     }
     let lines = lines::count(text);
-    if room < ANSWER_WIDTH * lines {
-        return refuse(NO_ROOM);
+    if out.len() < line_width(subject.cards()) * lines {
+        return Err(RunRefusal::NoRoom);
     }
-    Ran {
-        number: ACCEPTED,
-        lines,
-    }
-}
-
-// Answers every line of a text, each from where the last answer stopped.
-fn answer_all(mut answerer: Answerer, text: &[u8], out: &mut [u8])
-    requires { room_for text.now ≤ length out.old }
-    ensures { out.new ≡ filled answerer text.now out.old }
-{
-    let mut start = 0;
-    let mut at = 0;
-    while start < text.len() {
-        let end = lines::end(text, start);
-        let acted = answer::act(answerer, lines::frame(text, start, end));
-        start = end + 1;
-        writer::write(&mut out[at..], answer::show(acted));
-        answerer = acted.answerer;
-        at = at + ANSWER_WIDTH;
-    }
-}
-
-// Runs a text on a device just powered up, and leaves the output where the run is refused.
-pub fn run(device: Device, text: &[u8], out: &mut [u8]) -> Ran
-    ensures { (result ≡ ran_of text.now (length out.old)) × (out.new ≡ output_left (at_start device) text.now out.old) }
-{
-    let ran = judge(text, out.len());
-    if ran.number != ACCEPTED {
-        return ran;
-    }
-    answer_all(answer::start(device), text, out);
-    ran
+    answer_all(subject, text, out);
+    Ok(lines)
 }

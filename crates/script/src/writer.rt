@@ -1,30 +1,44 @@
-// The line writer: an answer line at the start of the part of the output that it is lent.
-ghost use Rattle.std.specs.Prelude.{◌≡◌, ◌++◌, ◌+◌, ◌≤◌, ◌<◌, length, drop};
+//! The line writer: an answer line at the start of the part of the output that it is lent.
+ghost use Rattle.std.specs.Prelude.{◌≡◌, ◌++◌, ◌+◌, ◌*◌, ◌≤◌, ◌<◌, length, drop};
 ghost use Rattle.std.proofs.lemmas.List.Edits.{sets};
 ghost use Rattle.text.specs.Digits.{in_digits};
-ghost use Rattle.script.specs.Answers.{line_text, answer_width};
+ghost use Rattle.script.specs.Answers.{levels_text, all_levels, line_text, line_width, front_digits, card_digits};
 
-use super::Shown;
-use text::LF;
+use super::{Answer, CARD_DIGITS, FRONT_DIGITS, Scripted};
+use text::{LF, digits};
 
 // A byte as two digits at that place.
 fn put(out: &mut [u8], at: usize, byte: u8)
     requires { at + 1 < length out.old }
     ensures { out.new ≡ sets out.old at (in_digits byte) }
 {
-    out[at] = text::digits::code(byte / 16);
-    out[at + 1] = text::digits::code(byte);
+    out[at..at + 2].copy_from_slice(&digits::of_byte(byte));
+}
+
+// The levels of every card, behind the number and the byte; and the place behind them.
+fn put_levels<S: Scripted>(out: &mut [u8], subject: &S) -> usize
+    requires { line_width (S.answerer.cards subject.now) ≤ length out.old }
+    ensures place { result ≡ front_digits + card_digits * S.answerer.cards subject.now }
+    ensures output { out.new ≡ sets out.old front_digits (all_levels S.answerer subject.now) }
+{
+    let mut at = FRONT_DIGITS;
+    // By places, since whoever answers names a card by its place.
+    for card in 0..subject.cards() {
+        put(out, at, subject.levels(card, 0));
+        put(out, at + 2, subject.levels(card, 1));
+        put(out, at + 4, subject.levels(card, 2));
+        at += CARD_DIGITS;
+    }
+    at
 }
 
 // An answer line.
-pub(super) fn write(out: &mut [u8], answer: Shown)
-    requires { answer_width ≤ length out.old }
-    ensures { out.new ≡ line_text answer ++ drop answer_width out.old }
+pub(super) fn write<S: Scripted>(out: &mut [u8], answer: Answer, subject: &S)
+    requires { line_width (S.answerer.cards subject.now) ≤ length out.old }
+    ensures { out.new ≡ line_text answer.number answer.byte (all_levels S.answerer subject.now) ++ drop (line_width (S.answerer.cards subject.now)) out.old }
 {
     put(out, 0, answer.number);
     put(out, 2, answer.byte);
-    put(out, 4, answer.a);
-    put(out, 6, answer.b);
-    put(out, 8, answer.c);
-    out[10] = LF;
+    let end = put_levels(out, subject);
+    out[end] = LF;
 }

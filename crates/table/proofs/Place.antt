@@ -3,7 +3,7 @@
 use Rattle.std.proofs.Common.{◌≡◌, ℕ, ◌+◌, ◌-◌, ◌*◌, ◌/◌, ◌%◌, ◌<◌, ◌≤◌, get_or, ◌∙◌, arith}
 use Rattle.bits.specs.Table.{table}
 use Rattle.bits.proofs.Tabled.{table_at}
-use Rattle.roles.specs.Role.{number, role_of}
+use Rattle.control.specs.Role.{number, role_of}
 use Rattle.table.specs.Entry.{entry_at}
 
 pub entry_of : (w n : ℕ) → 128 ≤ w → w < 256 → n < 8 → get_or (table entry_at 1024) ((w - 128) * 8 + n) 0 ≡ number (role_of w n)

@@ -1,6 +1,6 @@
 -- The published table of roles ("Port C roles").
 use Rattle.std.specs.Prelude.{ℕ, ◌+◌, ◌/◌, ◌%◌}
-use Rattle.roles.specs.Role.{number, role_of}
+use Rattle.control.specs.Role.{number, role_of}
 
 -- Entry (word - 128) x 8 + pin is the number of the pin's role under the word.
 unfoldable pub entry_at : ℕ → ℕ

@@ -1,5 +1,5 @@
-// The published table of port C roles: entry (word - 128) x 8 + pin, for the mode words 80 to FF and the pins 0 to 7.
-// 0 input, 1 output, 2 INTR, 3 IBF, 4 OBF, 5 STB, 6 ACK. Beside each entry stand its mode word and its pin.
+//! The published table of port C roles: entry (word - 128) x 8 + pin, for the mode words 80 to FF and the pins 0 to 7.
+//! 0 input, 1 output, 2 INTR, 3 IBF, 4 OBF, 5 STB, 6 ACK. Beside each entry stand its mode word and its pin.
 ghost use Rattle.std.specs.Prelude.{◌≡◌};
 ghost use Rattle.bits.specs.Table.{table};
 ghost use Rattle.table.specs.Entry.{entry_at};
@@ -1031,7 +1031,7 @@ const ROLES: [u8; 1024] = [
     4, // FF PC7
 ];
 
-// The table, whole.
+/// The table, whole.
 pub(super) fn published() -> [u8; 1024]
     ensures { result ≡ table entry_at 1024 }
 {

@@ -1,30 +1,31 @@
-// Holds the compiled lookup to the published table of port C roles, which this program alone has: at each of the 65,536 pairs of a word
-// and a pin that two bytes can name. For each answer that there can be it prints to how many pairs the table gives it, to how many the
-// lookup does, and to how many both do.
+//! Holds the compiled lookup to the published table of port C roles, which this program alone has: at each of the 65,536 pairs of a word
+//! and a pin that two bytes can name. For each answer that there can be it prints to how many pairs the table gives it, to how many the
+//! lookup does, and to how many both do.
 #![tactic(auto)]
 
 mod counts;
 mod entries;
 mod reading;
 
+use counts::Counts;
 use std::io;
 
-fn row(rt: &impl Print, name: &str, answer: u8) -> io::Result<()> {
-    let found = counts::of(answer);
-    println!(rt;
-        "{name}\t{answer}\t{}\t{}\t{}",
-        found.table, found.lookup, found.both
-    )
-}
+// The answers that there can be, with what each says of a pin.
+const ANSWERS: [(&str, u8); 8] = [
+    ("input", 0),
+    ("output", 1),
+    ("INTR", 2),
+    ("IBF", 3),
+    ("OBF", 4),
+    ("STB", 5),
+    ("ACK", 6),
+    ("none", 255),
+];
 
 fn main(rt: HostRuntime) -> io::Result<()> {
     println!(rt; "role\tanswer\ttable\tlookup\tboth")?;
-    row(&rt, "input", 0)?;
-    row(&rt, "output", 1)?;
-    row(&rt, "INTR", 2)?;
-    row(&rt, "IBF", 3)?;
-    row(&rt, "OBF", 4)?;
-    row(&rt, "STB", 5)?;
-    row(&rt, "ACK", 6)?;
-    row(&rt, "none", 255)
+    for (name, answer) in ANSWERS {
+        println!(rt; "{name}\t{answer}\t{}", Counts::of(answer))?;
+    }
+    Ok(())
 }

@@ -1,12 +1,12 @@
-// An answer read from the published table.
+//! An answer read from the published table.
 ghost use Rattle.std.specs.Prelude.{◌≡◌};
-ghost use Rattle.lookup.specs.Lookup.{lookup_of};
+ghost use Rattle.control.specs.Lookup.{lookup_of};
 
-use super::entries;
+use crate::entries;
 
-// The table's entry for a word and a pin; 255 where it has none. The contract is that of the lookup: so the two agree, at every word
-// and every pin.
-#[tactic(auto, using(crate::proofs::Place::entry_of), unfolding(lookup::specs::Lookup::lookup_of))]
+/// The table's entry for a word and a pin; 255 where it has none. The contract is that of the lookup: so the two agree, at every word
+/// and every pin.
+#[tactic(auto, using(crate::proofs::Place::entry_of), unfolding(control::specs::Lookup::lookup_of))]
 pub(super) fn answer(word: u8, pin: u8) -> u8
     ensures { result ≡ lookup_of word pin }
 {

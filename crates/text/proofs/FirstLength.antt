@@ -1,6 +1,6 @@
 -- How long the first line is, seen from a place inside it: over at LF and at the end, else one byte more; and never longer than the text.
 -- Rests on nothing.
-use mathlib.Core.Path.{◌≡◌}
+use mathlib.Core.Path.{◌≡◌, ◌∙◌, refl, ap}
 use mathlib.Core.Bool.{Bool, true, false, cond}
 use mathlib.Core.List.{List, [], ◌∷◌}
 use Prim.Native.Nat.{ℕ, suc, ◌+◌, ◌<◌, ◌≤◌}
@@ -10,6 +10,8 @@ use lib.Dec.{eqb}
 use lib.ListN.{length, get_or, drop, drop_of_length-le}
 use lib.Seq.{drop-cons}
 use borrow.Author.Tests.{eq-eqb, ne_eqb}
+use Rattle.std.proofs.lemmas.List.Recursion.{is_position_or_len}
+use Rattle.std.proofs.lemmas.List.Sums.{position_or_len_is}
 use Rattle.text.specs.Lines.{lf}
 use Rattle.text.specs.LineEnds.{first_length}
 
@@ -34,3 +36,13 @@ no_longer (b ∷ text) = go (eqb b lf) (no_longer text)
     go : (t : Bool) → first_length text ≤ length text → cond t 0 (suc (first_length text)) ≤ suc (length text)
     go true h = omega arith
     go false h = omega arith
+
+-- The first line ends at the first LF, or where the text does.
+pub first-length-is : (text : List ℕ) (end : ℕ) → end ≤ length text → ((k : ℕ) → k < end → eqb (get_or text k 0) lf ≡ false)
+    → (end < length text → eqb (get_or text end 0) lf ≡ true) → first_length text ≡ end
+unfolding first_length
+first-length-is text end inside before here =
+    is_position_or_len first_length (λ b. eqb b lf) refl one-more text ∙ position_or_len_is (λ b. eqb b lf) text end 0 inside before here
+  where
+    one-more : (b : ℕ) (text : List ℕ) → first_length (b ∷ text) ≡ cond (eqb b lf) 0 (1 + first_length text)
+    one-more b text = let more : suc (first_length text) ≡ 1 + first_length text = omega arith in ap (λ n. cond (eqb b lf) 0 n) more

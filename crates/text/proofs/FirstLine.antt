@@ -1,16 +1,19 @@
 -- A text that is not empty is its first line and the lines of what stands behind it.
--- Rests on nothing.
+-- Rests on FirstLength.
 use mathlib.Core.Path.{◌≡◌, ◌∙◌, refl, ap}
 use mathlib.Core.Bool.{Bool, true, false, cond}
 use mathlib.Core.List.{List, [], ◌∷◌}
-use Prim.Native.Nat.{ℕ, suc, ◌<◌, ◌≤◌}
+use Prim.Native.Nat.{ℕ, suc, ◌+◌, ◌<◌, ◌≤◌}
 use native.Mathlib.Nat.{not-suc-le-zero}
+use native.Mathlib.Numerals.{add-one}
 use native.Mathlib.Omega.{arith}
-use borrow.Author.Tests.{lt-ltb}
+use borrow.Author.Tests.{lt-ltb, le-ltb}
 use lib.Dec.{eqb, ltb, leb-suc-suc}
-use lib.ListN.{length, take, drop}
+use lib.ListN.{length, get_or, take, drop, length-drop}
+use Rattle.std.proofs.lemmas.List.{take_all}
 use Rattle.text.specs.Lines.{lf, Line, ended, rest, with_byte, before_lines, lines_of}
 use Rattle.text.specs.LineEnds.{first_length, first_line}
+use Rattle.text.proofs.FirstLength.{first-length-is}
 
 -- A byte in front of a text makes its first line longer by one.
 with-byte : (b n : ℕ) (text : List ℕ) → with_byte b (first_line n text) ≡ first_line (suc n) (b ∷ text)
@@ -68,3 +71,19 @@ pub no_line : (text : List ℕ) → length text ≤ 0 → lines_of text ≡ []
 unfolding lines_of
 no_line [] h = refl
 no_line (b ∷ text) h = absurd (not-suc-le-zero h)
+
+-- A text whose first LF is at a place: the line before it, and the lines behind.
+pub line_ended : (text : List ℕ) (end : ℕ) → end < length text → ((k : ℕ) → k < end → eqb (get_or text k 0) lf ≡ false)
+    → eqb (get_or text end 0) lf ≡ true → lines_of text ≡ ended (take end text) ∷ lines_of (drop (end + 1) text)
+line_ended text end inside before here =
+    let is = first-length-is text end (omega arith) before (λ h. here) in
+    let long : first_length text < length text = omega (arith, is, inside) in
+    rw (add-one, ← is) (first-and-rest text (omega (arith, inside)) ∙ rw (lt-ltb _ _ long) refl)
+
+-- A text that is not empty and has no LF: a rest.
+pub rest_alone : (text : List ℕ) → 0 < length text → ((k : ℕ) → k < length text → eqb (get_or text k 0) lf ≡ false)
+    → lines_of text ≡ rest text ∷ []
+rest_alone text some none =
+    let is = first-length-is text (length text) (omega arith) none (λ more. absurd (omega (arith, more))) in
+    let over = no_line (drop (suc (length text)) text) (omega (arith, length-drop (suc (length text)) text)) in
+    first-and-rest text some ∙ rw (is, le-ltb (length text) (length text) (omega arith), take_all (length text) text (omega arith), over) refl

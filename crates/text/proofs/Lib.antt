@@ -1,3 +1,5 @@
+pub mod Determined
+pub mod Said
 pub mod Leading
 pub mod Written
 pub mod FirstLength

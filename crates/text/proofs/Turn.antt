@@ -1,5 +1,5 @@
--- One law for every loop over the lines of a text, whatever it does with them: the count, a script's run and the walk to the chip that it
--- leaves apply `turn` at each line and `no_more` behind the last.
+-- One law for every loop over the lines of a text by their places, whatever it does with them: it applies `turn` at each line and `no_more`
+-- behind the last.
 -- Rests on FirstLength and FirstLine.
 use mathlib.Core.Path.{◌≡◌}
 use mathlib.Core.List.{List, [], ◌∷◌}

@@ -7,11 +7,10 @@ use Prim.Native.Nat.{ℕ, ◌/◌, ◌<◌}
 use native.Mathlib.Omega.{arith}
 use borrow.Author.Tests.{lt-ltb}
 use Rattle.bits.proofs.Tested.{numbers}
-use Rattle.events.specs.Kinds.{is_kind, operands_of}
-use Rattle.events.proofs.ByKind.{kind-small}
-use Rattle.text.specs.declared.Frame.TheVariants.{Event}
+use Rattle.bus.specs.Kinds.{is_kind, operands_of}
+use Rattle.bus.proofs.ByKind.{kind-small}
 use Rattle.text.specs.Digits.{no_byte, digit_value, digit_code, pair_value, in_digits}
-use Rattle.text.specs.Frames.{leading_byte, is_frame, frame_of}
+use Rattle.text.specs.Frames.{Event, leading_byte, is_frame, frame_of}
 
 -- Two digits that write a byte are read as that byte.
 pub pair-written : (v : ℕ) → v < no_byte → pair_value (digit_code (v / 16)) (digit_code v) ≡ v

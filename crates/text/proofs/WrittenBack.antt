@@ -11,12 +11,11 @@ use lib.Seq.{drop-drop}
 use borrow.Author.Tests.{eqb-true, ltb-true, ltb-false, lt-ltb, ne_eqb}
 use Rattle.bits.proofs.Logic.{both, contrary}
 use Rattle.bits.proofs.Tested.{numbers}
-use Rattle.events.specs.Kinds.{is_kind, no_kind, operands_of}
-use Rattle.events.specs.Event.{Event, event}
-use Rattle.events.proofs.ByKind.{by_kind, kind-small}
-use Rattle.text.specs.declared.Frame.TheVariants.{Event as Frame-as-Event}
+use Rattle.bus.specs.Kinds.{is_kind, no_kind, operands_of}
+use Rattle.bus.specs.Event.{Event, event}
+use Rattle.bus.proofs.ByKind.{by_kind, kind-small}
 use Rattle.text.specs.Digits.{digits, place_from, digit_value, digit_code, in_digits, no_byte, pair_value}
-use Rattle.text.specs.Frames.{leading_byte, kind_in, first_in, second_in, is_frame, frame_of}
+use Rattle.text.specs.Frames.{Event as Frame-as-Event, leading_byte, kind_in, first_in, second_in, is_frame, frame_of}
 use Rattle.text.specs.Written.{operands_out, written_out, Exact}
 use Rattle.text.proofs.Leading.{none_left}
 use Rattle.text.proofs.Written.{kind-alone, with-one, with_two}

@@ -1,10 +1,13 @@
 -- Frames: what a line of a script says ("Script and program").
 use Rattle.std.specs.Prelude.{Bool, true, false, cond, ◌&&◌, List, [], ◌∷◌, ℕ, ◌+◌, ◌*◌, eqb, ltb, length, drop}
-use Rattle.events.specs.Kinds.{is_kind, operands_of}
-use Rattle.text.specs.declared.Frame.{Frame}
-use Rattle.text.specs.declared.Frame.TheVariants.{Event, NoFrame}
+use Rattle.bus.specs.Kinds.{is_kind, operands_of}
 use Rattle.text.specs.Digits.{no_byte, pair_value}
 use Rattle.text.specs.Lines.{Line, ended, rest}
+
+-- What a line says: an event, by its kind and two operands, or no frame.
+pub data Frame : Type 0 where
+  Event : ℕ → ℕ → ℕ → Frame
+  NoFrame : Frame
 
 -- The byte that a text begins with: of its first two codes; no byte where there is but one, and 0 where there is none.
 unfoldable pub leading_byte : List ℕ → ℕ

@@ -1,10 +1,8 @@
 -- The history that a text is ("Script and program").
 use Rattle.std.specs.Prelude.{List, map, ℕ}
-use Rattle.events.specs.Event.{Event, event}
-use Rattle.text.specs.declared.Frame.{Frame}
-use Rattle.text.specs.declared.Frame.TheVariants.{Event as Frame-as-Event, NoFrame}
+use Rattle.bus.specs.Event.{Event, event}
 use Rattle.text.specs.Lines.{Line, lines_of}
-use Rattle.text.specs.Frames.{frame_in}
+use Rattle.text.specs.Frames.{Frame, Event as Frame-as-Event, NoFrame, frame_in}
 
 -- A frame is its event; what is no frame is an event of no kind, so that the place of an event is the number of its line.
 abbrev pub event_of : Frame → Event

@@ -2,6 +2,7 @@ pub mod Digits
 pub mod Lines
 pub mod LineEnds
 pub mod Frames
+pub mod Answers
 pub mod History
 pub mod Quoted
 pub mod Written

@@ -1,7 +1,7 @@
 -- An event written out as a line of a script ("Script and program").
 use Rattle.std.specs.Prelude.{◌≡◌, true, List, [], ◌++◌, ℕ, zero, suc, ◌<◌}
-use Rattle.events.specs.Kinds.{is_kind, operands_of}
-use Rattle.events.specs.Event.{Event}
+use Rattle.bus.specs.Kinds.{is_kind, operands_of}
+use Rattle.bus.specs.Event.{Event}
 use Rattle.text.specs.Digits.{in_digits, no_byte}
 
 -- The first n of two operands.

@@ -1,25 +1,21 @@
-// The sixteen digits: what a code is worth, the code of a value, and the byte of two codes.
-ghost use Rattle.std.specs.Prelude.{◌≡◌};
-ghost use Rattle.text.specs.Digits.{digit_value, digit_code, pair_value};
+//! The sixteen digits: the code of a value, and a byte in two of them.
+ghost use Rattle.std.specs.Prelude.{◌≡◌, ◌+◌, ◌*◌};
+ghost use Rattle.text.specs.Digits.{digit_value, digit_code, in_digits, no_byte, pair_value};
+ghost use Rattle.text.specs.Answers.{if_below};
 
-// What stands where no byte was written: every byte is below it.
-pub const NO_BYTE: u16 = 256;
-
-// What a code is worth as a digit; 16 where it is none.
+// What a code is worth as a digit.
 #[tactic(auto, unfolding(crate::specs::Digits::digit_value))]
-fn value(code: u8) -> u8
-    ensures { result ≡ digit_value code }
+fn value(code: u8) -> Option<u8>
+    ensures { result ≡ if_below 16 (digit_value code) }
 {
-    if (b'0' <= code) & (code <= b'9') {
-        return code % 16;
+    match code {
+        b'0'..=b'9' => Some(code - b'0'),
+        b'A'..=b'F' => Some(code - b'A' + 10),
+        _ => None,
     }
-    if (b'A' <= code) & (code <= b'F') {
-        return code % 16 + 9;
-    }
-    16
 }
 
-// The code of the digit worth n % 16.
+/// The code of the digit worth `n % 16`.
 #[tactic(auto, unfolding(crate::specs::Digits::digit_code))]
 pub fn code(n: u8) -> u8
     ensures { result ≡ digit_code n }
@@ -32,16 +28,17 @@ pub fn code(n: u8) -> u8
     }
 }
 
-// The byte that two codes write, or NO_BYTE.
-#[tactic(auto, unfolding(crate::specs::Digits::pair_value))]
-pub(super) fn pair(high: u8, low: u8) -> u16
-    ensures { result ≡ pair_value high low }
+/// A byte in two digits, that of its sixteens first.
+pub fn of_byte(byte: u8) -> [u8; 2]
+    ensures { result ≡ in_digits byte }
 {
-    let sixteens = value(high);
-    let ones = value(low);
-    if (sixteens < 16) & (ones < 16) {
-        16 * sixteens as u16 + ones as u16
-    } else {
-        NO_BYTE
-    }
+    [code(byte / 16), code(byte)]
+}
+
+// The byte that two codes write.
+#[tactic(auto, unfolding(crate::specs::Digits::pair_value))]
+pub(super) fn pair(high: u8, low: u8) -> Option<u8>
+    ensures { result ≡ if_below no_byte (pair_value high low) }
+{
+    Some(16 * value(high)? + value(low)?)
 }

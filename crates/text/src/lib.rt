@@ -1,16 +1,9 @@
-// A script as text: a byte is two digits, a frame is a kind and its operands, and a line ends with LF.
+//! A script as text: a byte is two digits, a frame is a kind and its operands, and a line ends with LF.
 #![tactic(auto)]
 
 pub mod digits;
 pub mod line;
 pub mod lines;
 
-// What ends a line.
+/// What ends a line.
 pub const LF: u8 = 10;
-
-// What a line says: an event with its kind and two operands, or no frame.
-#[derive(Clone, Copy)]
-pub enum Frame {
-    Event(u8, u8, u8),
-    NoFrame,
-}

@@ -1,35 +1,66 @@
-// What one line of a script says.
-ghost use Rattle.std.specs.Prelude.{◌≡◌, ◌+◌, ◌*◌, drop};
-ghost use Rattle.text.specs.Frames.{leading_byte, frame_of};
+//! A line of a script, and what it says.
+ghost use Rattle.std.specs.Prelude.{◌≡◌, drop};
+ghost use Rattle.text.specs.Digits.{no_byte};
+ghost use Rattle.text.specs.Frames.{leading_byte, frame_of, frame_in};
+ghost use Rattle.text.specs.Answers.{if_below, frame_told, line_of, bytes_lent};
 
-use super::digits::NO_BYTE;
-use super::{Frame, digits};
+use crate::digits;
+use bus::events::Event;
+use bus::kinds;
 
-// The byte that two digits make at that place of the line; NO_BYTE where they are no two digits, 0 where the line is over.
-#[tactic(auto, using(crate::proofs::Leading::one_left), unfolding(crate::specs::Frames::leading_byte))]
-pub fn byte_at(line: &[u8], at: usize) -> u16
-    ensures { result ≡ leading_byte (drop at line.now) }
-{
-    if line.len() <= at {
-        return 0;
-    }
-    if line.len() - at == 1 {
-        return NO_BYTE;
-    }
-    digits::pair(line[at], line[at + 1])
+/// A line of a text.
+#[derive(Clone, Copy, Debug, PartialEq, Eq)]
+pub enum Line<'a> {
+    /// The bytes in front of an LF.
+    Ended(&'a [u8]),
+    /// The bytes behind the last LF.
+    Rest(&'a [u8]),
 }
 
-// What a line says; its LF is not part of it.
-#[tactic(auto, unfolding(crate::specs::Frames::frame_of, crate::specs::Frames::is_frame))]
-pub(super) fn frame(line: &[u8]) -> Frame
-    ensures { result ≡ frame_of line.now }
-{
-    let kind = byte_at(line, 0);
-    let first = byte_at(line, 2);
-    let second = byte_at(line, 4);
-    let exact = line.len() == 2 + 2 * (events::operands(kind) as usize);
-    if events::is_kind(kind) && exact && first < NO_BYTE && second < NO_BYTE {
-        return Frame::Event(kind as u8, first as u8, second as u8);
+impl<'a> Line<'a> {
+    /// The bytes of the line, ended or not.
+    pub fn bytes(self) -> &'a [u8]
+        ensures { result ≡ bytes_lent self.entry }
+    {
+        match self {
+            Line::Ended(bytes) | Line::Rest(bytes) => bytes,
+        }
     }
-    Frame::NoFrame
+
+    /// The event that the line says; `None` where it is no frame. A rest says nothing, however well it is formed.
+    #[tactic(auto, unfolding(crate::specs::Frames::frame_in))]
+    pub fn event(self) -> Option<Event>
+        ensures { frame_told result ≡ frame_in (line_of self.entry) }
+    {
+        match self {
+            Line::Ended(bytes) => event(bytes),
+            Line::Rest(_) => None,
+        }
+    }
+}
+
+/// The byte that two digits make at that place of a line: `None` where they are no two digits, and 0 where the line is over.
+#[tactic(auto, unfolding(crate::specs::Frames::leading_byte))]
+pub fn byte_at(line: &[u8], at: usize) -> Option<u8>
+    ensures { result ≡ if_below no_byte (leading_byte (drop at line.now)) }
+{
+    match &line[at.min(line.len())..] {
+        [] => Some(0),
+        [_] => None,
+        [high, low, ..] => digits::pair(*high, *low),
+    }
+}
+
+// The event of a kind and exactly its operands, each of them two digits.
+#[tactic(auto, unfolding(crate::specs::Frames::frame_of, crate::specs::Frames::is_frame))]
+fn event(line: &[u8]) -> Option<Event>
+    ensures { frame_told result ≡ frame_of line.now }
+{
+    let kind = byte_at(line, 0)?;
+    let first = byte_at(line, 2)?;
+    let second = byte_at(line, 4)?;
+    if line.len() != 2 + 2 * kinds::operands(kind as u16) as usize {
+        return None;
+    }
+    Event::numbered(kind, first, second)
 }

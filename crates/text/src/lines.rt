@@ -1,46 +1,57 @@
-// The lines of a text: where one ends, what it says, and how many there are. A line begins at the start of the text, or past an LF.
+//! The lines of a text. A line begins at the start of the text, or past an LF.
 ghost use Rattle.std.specs.Prelude.{◌≡◌};
 ghost use Rattle.text.specs.Lines.{line_count};
-ghost use Rattle.text.specs.LineEnds.{line_end, line_between};
-ghost use Rattle.text.specs.Frames.{frame_in};
 
-use super::{Frame, LF, line};
+use crate::LF;
+use crate::line::Line;
 
-// Where the line that begins at a place ends: at its LF, or where the text does.
-pub fn end(text: &[u8], start: usize) -> usize
-    ensures { result ≡ line_end text.now start }
-{
-    for at in start..text.len() {
-        if text[at] == LF {
-            return at;
+/// The lines of a text, one after the other.
+#[derive(Clone, Copy, Debug)]
+pub struct Lines<'a> {
+    /// What is left of the text.
+    pub text: &'a [u8],
+}
+
+impl<'a> Lines<'a> {
+    /// The lines of this text.
+    pub fn new(text: &'a [u8]) -> Self
+        ensures { result.text ≡ text.entry }
+    {
+        Lines { text }
+    }
+}
+
+impl<'a> Iterator for Lines<'a> {
+    ghost use Rattle.std.specs.Iterator.{YieldsFirstBy, item_count};
+    ghost use Rattle.text.specs.Answers.{line_of, lines_left};
+
+    type Item = Line<'a>;
+
+    ghost next_gives = { YieldsFirstBy line_of lines_left };
+
+    ghost remaining = { item_count lines_left };
+
+    fn next(&mut self) -> Option<Line<'a>> {
+        if self.text.is_empty() {
+            return None;
+        }
+        let text = self.text;
+        match text.iter().position(|&byte| byte == LF) {
+            Some(end) => {
+                self.text = &text[end + 1..];
+                Some(Line::Ended(&text[..end]))
+            }
+            None => {
+                self.text = &[];
+                Some(Line::Rest(text))
+            }
         }
     }
-    start.max(text.len())
 }
 
-// What the line between two places says; nothing where the text ends there, and not the line.
-#[tactic(auto, unfolding(crate::specs::Frames::frame_in))]
-pub fn frame(text: &[u8], start: usize, end: usize) -> Frame
-    ensures { result ≡ frame_in (line_between text.now start end) }
-{
-    if end < start {
-        return Frame::NoFrame;
-    }
-    if text.len() <= end {
-        return Frame::NoFrame;
-    }
-    line::frame(&text[start..end])
-}
-
-// How many lines a text has.
+/// How many lines a text has.
 pub fn count(text: &[u8]) -> usize
     ensures { result ≡ line_count text.now }
 {
-    let mut start = 0;
-    let mut lines = 0;
-    while start < text.len() {
-        start = end(text, start) + 1;
-        lines = lines + 1;
-    }
-    lines
+    Lines::new(text).count()
 }

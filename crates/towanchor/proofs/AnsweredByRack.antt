@@ -1,14 +1,28 @@
 -- With room for any script's answers, what a rack's run leaves in front of the output, or its number alone, is what the program prints.
 -- Rests on rackscript's Enough.
-use Rattle.std.proofs.Common.{◌≡◌, ◌≢◌, ℕ, ◌≤◌, Bool, true, false, cond, not, List, length, take, drop, ap, sym, ◌∙◌, refl, take_at, ltb, arith}
+use Rattle.std.proofs.Common.{◌≡◌, ◌≢◌, Result, Ok, Err, ℕ, ◌≤◌, Bool, true, false, cond, not, List, length, take, drop, ap, sym, ◌∙◌, refl, take_at, ltb, arith}
 use Rattle.script.specs.Run.{too_long, too_long_number}
 use Rattle.rack.specs.Bases.{bad_rack_number}
-use Rattle.rackscript.specs.declared.Ran.{Ran}
-use Rattle.rackscript.specs.Answers.{answers_from}
-use Rattle.rackscript.specs.Run.{names_rack, rack_named, to_answer, room_for_text, run_number, ran_of, output_left}
+use Rattle.script.specs.Answers.{answers_from}
+use Rattle.rackscript.specs.declared.Ran as counts
+use Rattle.rackscript.specs.declared.RackRunRefusal.{RackRunRefusal}
+use Rattle.rackscript.specs.declared.RackRunRefusal.TheVariants.{TooLong, BadRack, NoRoom}
+use Rattle.rackscript.specs.Answers.{answering}
+use Rattle.rackscript.specs.Run.{run_told, names_rack, rack_named, to_answer, room_for_text, run_number, run_refusal_number, Ran, ran_of, output_left}
 use Rattle.rackscript.proofs.Room.{most_room}
 use Rattle.rackscript.proofs.Enough.{answers-length, room-enough}
-use Rattle.towanchor.specs.Printed.{refusal, printed_of_rack}
+use Rattle.towanchor.specs.Printed.{refusal, kept_of, printed_of_rack}
+
+-- What is to be printed of a run.
+abbrev given : Result counts.Ran RackRunRefusal → Result ℕ ℕ
+given (Ok ran) = Ok ran.length
+given (Err r) = Err (run_refusal_number r)
+
+-- No refusal has the number 0.
+pub some-refusal : (r : RackRunRefusal) → run_refusal_number r ≢ 0
+some-refusal TooLong e = omega (arith, e)
+some-refusal BadRack e = omega (arith, e)
+some-refusal NoRoom e = omega (arith, e)
 
 module _ (text out : List ℕ) (enough : most_room ≤ length out) where
   -- The number by the first two tests: the third finds room.
@@ -41,7 +55,7 @@ module _ (text out : List ℕ) (enough : most_room ≤ length out) where
       go false false l k = absurd (omega (arith, number-by false false l k, accepted))
       go false true l k =
           rw (is, accepted, l, k)
-          (take_at (answers_from (rack_named text) (to_answer text)) (drop (room_for_text text) out) (room_for_text text)
+          (take_at (answers_from answering (rack_named text) (to_answer text)) (drop (room_for_text text) out) (room_for_text text)
           (answers-length (rack_named text) (to_answer text)))
 
   -- A refused one.
@@ -53,3 +67,9 @@ module _ (text out : List ℕ) (enough : most_room ≤ length out) where
       go true rack l k = rw (number-given r is, number-by true rack l k, l) refl
       go false false l k = rw (number-given r is, number-by false false l k, l, k) refl
       go false true l k = absurd (other (number-given r is ∙ number-by false true l k))
+
+  -- What is printed of an accepted run or of a refused one.
+  pub kept : (r : Result counts.Ran RackRunRefusal) → run_told r ≡ ran_of text (length out)
+      → kept_of (given r) (output_left text out) ≡ printed_of_rack text
+  kept (Ok ran) is = answered _ is refl
+  kept (Err refusal) is = refused _ is (some-refusal refusal)

@@ -1,25 +1,44 @@
 -- What the program prints of a script ("Script and program", "A rack of cards").
-use Rattle.std.specs.Prelude.{cond, not, List, [], ◌∷◌, ◌++◌, ℕ}
+use Rattle.std.specs.Prelude.{cond, not, take, List, [], ◌∷◌, ◌++◌, ℕ, Result, Ok, Err}
 use Rattle.text.specs.Digits.{in_digits}
 use Rattle.text.specs.Lines.{lf}
-use Rattle.script.specs.declared.Device.{Device}
-use Rattle.script.specs.Answers.{at_start, answers_of}
+use Rattle.chip.specs.declared.Edition.TheVariants.{Older, Newer}
+use Rattle.chip.specs.State.{all_high, power_up_as}
+use Rattle.chip.specs.Pins as chip_pins
+use Rattle.chip.specs.Step as chip
+use Rattle.i8355.specs.State as i8355_state
+use Rattle.i8355.specs.Views as i8355_views
+use Rattle.i8355.specs.Step as i8355
+use Rattle.script.specs.Answers.{Answerer, by_device, answers_from, answers_of}
 use Rattle.script.specs.Run.{too_long, too_long_number}
 use Rattle.rack.specs.Bases.{bad_rack_number}
-use Rattle.rackscript.specs.Answers.{answers_from}
+use Rattle.rackscript.specs.Answers.{answering}
 use Rattle.rackscript.specs.Run.{names_rack, rack_named, to_answer}
+use Rattle.towanchor.specs.declared.answers.Device.{Device}
+use Rattle.towanchor.specs.declared.answers.Device.TheVariants.{I8255A, I82C55A, I8355}
 
 -- A number alone on its line.
 abbrev pub refusal : ℕ → List ℕ
 refusal n = in_digits n ++ (lf ∷ [])
 
--- The answers of a device, or 06 where the text is longer than a script may be.
+-- What is printed of an output after a run that names so many bytes of it, or the number of a refusal.
+abbrev pub kept_of : Result ℕ ℕ → List ℕ → List ℕ
+kept_of (Ok n) out = take n out
+kept_of (Err n) out = refusal n
+
+-- The answers of whoever meets the text in a state, or 06 where the text is longer than a script may be.
+unfoldable pub printed_by : {S : Type 0} → Answerer S → S → List ℕ → List ℕ
+printed_by a s text = cond (too_long text) (refusal too_long_number) (answers_of a s text)
+
+-- Those of a device at its power-up. A chip of either edition has every line high then, and so has an 8355.
 unfoldable pub printed : Device → List ℕ → List ℕ
-printed d text = cond (too_long text) (refusal too_long_number) (answers_of (at_start d) text)
+printed I8255A text = printed_by (by_device chip.device chip_pins.pins_of) (power_up_as Older all_high) text
+printed I82C55A text = printed_by (by_device chip.device chip_pins.pins_of) (power_up_as Newer all_high) text
+printed I8355 text = printed_by (by_device i8355.device i8355_views.pins_of) i8355_state.power_up text
 
 -- Those of a rack, which the first line names; or 06, or 09 where that is no rack.
 unfoldable pub printed_of_rack : List ℕ → List ℕ
 printed_of_rack text =
     cond (too_long text) (refusal too_long_number)
     (cond (not (names_rack text)) (refusal bad_rack_number)
-    (answers_from (rack_named text) (to_answer text)))
+    (answers_from answering (rack_named text) (to_answer text)))

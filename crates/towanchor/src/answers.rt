@@ -1,22 +1,52 @@
-// The answers to a script.
+//! The answers to a script.
 ghost use Rattle.std.specs.Prelude.{◌≡◌, IfOk};
-ghost use Rattle.towanchor.specs.Printed.{printed};
+ghost use Rattle.script.specs.Answers.{by_device};
+ghost use Rattle.towanchor.specs.Printed.{printed_by, printed};
 
 use super::output;
-use script::{ANSWER_WIDTH, Device, LONGEST};
+use bus::devices;
+use chip::{Chip, Edition, Levels};
+use i8355::Chip8355;
+use script::{ANSWER_WIDTH, LONGEST};
 use std::alloc::{AllocError, Global};
+
+// Which device answers.
+#[derive(Clone, Copy)]
+pub(super) enum Device {
+    I8255A,
+    I82C55A,
+    I8355,
+}
 
 // Enough for the answers to all the lines that a script can have.
 const MOST_ROOM: usize = ANSWER_WIDTH * LONGEST;
 
+// Those of a device in whatever state; or the number of the refusal.
+fn answer_by<D: devices::Device>(
+    alloc: Global,
+    device: &mut D,
+    text: &[u8],
+) -> Result<Vec<u8>, AllocError>
+    ensures { IfOk result (λ out. out.items ≡ printed_by (by_device D.device D.shown) device.old text.now) }
+{
+    output::of_run(
+        alloc,
+        MOST_ROOM,
+        |out| match script::run(device, text, out) {
+            Ok(lines) => Ok(ANSWER_WIDTH * lines),
+            Err(refusal) => Err(refusal.number()),
+        },
+    )
+}
+
+// A script is answered by a device at its power-up, with every line high.
+#[tactic(auto, unfolding(crate::specs::Printed::printed))]
 pub(super) fn answer(alloc: Global, device: Device, text: &[u8]) -> Result<Vec<u8>, AllocError>
     ensures { IfOk result (λ out. out.items ≡ printed device text.now) }
 {
-    let mut out = output::room(alloc, MOST_ROOM)?;
-    let ran = script::run(device, text, &mut out);
-    if ran.number != 0 {
-        return output::refusal(alloc, ran.number);
+    match device {
+        Device::I8255A => answer_by(alloc, &mut Chip::new(Edition::Older, Levels::HIGH), text),
+        Device::I82C55A => answer_by(alloc, &mut Chip::new(Edition::Newer, Levels::HIGH), text),
+        Device::I8355 => answer_by(alloc, &mut Chip8355::new(), text),
     }
-    out.truncate(ANSWER_WIDTH * ran.lines);
-    Ok(out)
 }

@@ -11,7 +11,7 @@ mod racks;
 mod strays;
 mod trim;
 
-use script::Device;
+use answers::Device;
 use std::rt::Env;
 
 // What the first word asks for.

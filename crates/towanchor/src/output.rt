@@ -1,6 +1,7 @@
 // Standard output, and what stands there in place of answers.
-ghost use Rattle.std.specs.Prelude.{◌≡◌, IfOk, vec_len};
-ghost use Rattle.towanchor.specs.Printed.{refusal};
+ghost use Rattle.std.specs.Prelude.{◌≡◌, IfOk, List, ℕ, Result, length, vec_len};
+ghost use Rattle.std.specs.Fn.{FnOnceReturnsAtMut};
+ghost use Rattle.towanchor.specs.Printed.{refusal, kept_of};
 
 use anyhow::Context;
 use std::alloc::{AllocError, Global};
@@ -14,13 +15,33 @@ pub(super) fn write(rt: &impl Print, bytes: &[u8]) -> anyhow::Result<()> {
 pub(super) fn refusal(alloc: Global, number: u8) -> Result<Vec<u8>, AllocError>
     ensures { IfOk result (λ out. out.items ≡ refusal number) }
 {
-    Ok(vec![in alloc; digits::code(number / 16), digits::code(number), LF]?)
+    let [high, low] = digits::of_byte(number);
+    Ok(vec![in alloc; high, low, LF]?)
 }
 
 // Room for so many bytes of answers. In a function of its own, so that the proof of the answers is one for any bytes, and not for so many
 // zeros.
-pub(super) fn room(alloc: Global, size: usize) -> Result<Vec<u8>, AllocError>
+fn room(alloc: Global, size: usize) -> Result<Vec<u8>, AllocError>
     ensures { IfOk result (λ out. vec_len out ≡ size) }
 {
     vec![in alloc; 0; size]
+}
+
+// What is printed of a run, which says how many bytes of the room that it got are answers, or the number of its refusal.
+pub(super) fn of_run<F: FnOnce(&mut [u8]) -> Result<usize, u8>>(
+    alloc: Global,
+    size: usize,
+    run: F,
+) -> Result<Vec<u8>, AllocError>
+    requires { F.IsAlwaysCallable run }
+    ensures { IfOk result (λ out. (before after : List ℕ) × (ran : Result ℕ ℕ) × (length before ≡ size) × FnOnceReturnsAtMut F.FnOnce run before ran after × (out.items ≡ kept_of ran after)) }
+{
+    let mut out = room(alloc, size)?;
+    match run(&mut out) {
+        Ok(length) => {
+            out.truncate(length);
+            Ok(out)
+        }
+        Err(number) => refusal(alloc, number),
+    }
 }

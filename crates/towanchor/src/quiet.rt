@@ -1,7 +1,13 @@
 // What each group's INTR is doing after the last line of a script, and why, in plain words. include/towanchor.h has the same words for
 // hosts in C.
+ghost use Rattle.std.specs.Prelude.{◌≡◌};
+ghost use Rattle.towanchor.specs.Left.{told, left_of};
+
 use channel::Side;
-use status::reasons::{Explained, Reason};
+use chip::reasons::{Explained, Reason};
+use chip::{Chip, Edition, Levels};
+use control::Group;
+use script::{RunRefusal, left};
 use std::alloc::{AllocError, Global};
 
 fn words(side: Side, reason: Reason) -> &'static str {
@@ -27,7 +33,6 @@ fn half(said: &mut String, letter: char, side: Side, reason: Reason) -> Result<(
 
 fn group(said: &mut String, letter: char, explained: Explained) -> Result<(), AllocError> {
     match explained {
-        Explained::NoGroup => writeln!(said, "group {letter}: there is no such group"),
         Explained::ModeZero => {
             writeln!(
                 said,
@@ -43,18 +48,33 @@ fn group(said: &mut String, letter: char, explained: Explained) -> Result<(), Al
     }
 }
 
+// What a script leaves: the chip, and how many of its lines were refused.
+#[derive(Clone, Copy)]
+struct Left {
+    chip: Chip,
+    refused: usize,
+}
+
+// A script meets a chip of the older edition, with every line high.
+fn left_by(text: &[u8]) -> Result<Left, RunRefusal>
+    ensures { told result ≡ left_of text.now }
+{
+    let mut chip = Chip::new(Edition::Older, Levels::HIGH);
+    let refused = left::take_all(&mut chip, text)?;
+    Ok(Left { chip, refused })
+}
+
 // What is said of the chip that a script leaves. One that was refused in part may have left another chip than its writer had in mind.
 pub(super) fn explain(alloc: Global, text: &[u8]) -> Result<String, AllocError> {
-    let left = script::left::chip_after(text);
-    if left.number != 0 {
+    let Ok(left) = left_by(text) else {
         return String::from_str(
             alloc,
             "the text is longer than 4,096 bytes, and was not run\n",
         );
-    }
+    };
     let mut said = String::new(alloc);
-    group(&mut said, 'A', status::reasons::explain(left.chip, 0))?;
-    group(&mut said, 'B', status::reasons::explain(left.chip, 1))?;
+    group(&mut said, 'A', left.chip.explain(Group::A))?;
+    group(&mut said, 'B', left.chip.explain(Group::B))?;
     if left.refused != 0 {
         writeln!(
             said,

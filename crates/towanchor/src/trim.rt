@@ -1,37 +1,51 @@
 // The lines of a script that change the chip, found by the function by which a host trims its journal.
 use super::{output, strays};
-use journal::words;
-use script::{LONGEST, TOO_LONG};
+use bus::events::Event;
+use bus::kinds;
+use chip::Levels;
+use journal::words::Logged;
+use script::{LONGEST, RunRefusal};
 use std::alloc::{AllocError, Global};
-use text::{Frame, LF};
+use text::lines::Lines;
+
+fn logged(kind: u8, first: u8, second: u8) -> Logged {
+    Logged {
+        kind: kind as u16,
+        first,
+        second,
+    }
+}
 
 // What no event has as its kind: the word of a line that is no frame is none either.
 const NO_KIND: u8 = 0xff;
 
-fn word_of(frame: Frame) -> u32 {
-    match frame {
-        Frame::Event(kind, first, second) => words::pack(kind, first, second),
-        Frame::NoFrame => words::pack(NO_KIND, 0, 0),
-    }
+fn word_of(event: Option<Event>) -> u32 {
+    let logged = match event {
+        Some(Event::Reset) => logged(kinds::RESET, 0, 0),
+        Some(Event::BeginRead(address)) => logged(kinds::BEGIN_READ, address, 0),
+        Some(Event::EndCycle) => logged(kinds::END_CYCLE, 0, 0),
+        Some(Event::BeginWrite(address, byte)) => logged(kinds::BEGIN_WRITE, address, byte),
+        Some(Event::OutsideLevels(port, levels)) => logged(kinds::OUTSIDE_LEVELS, port, levels),
+        None => logged(NO_KIND, 0, 0),
+    };
+    logged.pack()
 }
 
 // A word for each line of a text.
 fn words_of(alloc: Global, text: &[u8]) -> Result<Vec<u32>, AllocError> {
-    text.split_inclusive(|byte| *byte == LF)
-        .map(|line| word_of(strays::frame(line)))
+    Lines::new(text)
+        .map(|line| word_of(line.event()))
         .collect(alloc)
 }
 
-// The edition and the outside levels of the chip that a script meets: an 8255A with every line high.
+// The number of the edition of the chip that a script meets.
 const OLDER: u8 = 0;
-
-const HIGH: u8 = 0xff;
 
 // A kept word as a line again: its kind, which is a byte in every word that is a frame, and the operands that the kind has.
 fn line(out: &mut String, word: u32) -> Result<(), AllocError> {
-    let event = words::read(word);
+    let event = Logged::read(word);
     let kind = event.kind;
-    match events::operands(kind) {
+    match kinds::operands(kind) {
         0 => writeln!(out, "{kind:02X}"),
         1 => writeln!(out, "{kind:02X}{:02X}", event.first),
         _ => writeln!(out, "{kind:02X}{:02X}{:02X}", event.first, event.second),
@@ -49,16 +63,19 @@ fn lines(alloc: Global, log: &[u32]) -> Result<String, AllocError> {
 // Where a line is no frame the whole text is refused, and such lines are named on standard error.
 pub(super) fn trim(rt: &(impl Print + Eprint + AllocGlobal), text: &[u8]) -> anyhow::Result<()> {
     if LONGEST < text.len() {
-        return output::write(rt, &output::refusal(rt.alloc(), TOO_LONG)?);
+        let number = RunRefusal::TooLong.number();
+        return output::write(rt, &output::refusal(rt.alloc(), number)?);
     }
     let mut log = words_of(rt.alloc(), text)?;
-    let answer = journal::towanchor_trim(&mut log, OLDER, HIGH, HIGH, HIGH);
-    let number = (answer % 256) as u8;
-    if number != 0 {
-        output::write(rt, &output::refusal(rt.alloc(), number)?)?;
-        return strays::name(rt, text);
+    match journal::trim(&mut log, OLDER, Levels::HIGH) {
+        Ok(kept) => {
+            // The words that were kept stand in front.
+            log.truncate(kept);
+            output::write(rt, lines(rt.alloc(), &log)?.as_bytes())
+        }
+        Err(refusal) => {
+            output::write(rt, &output::refusal(rt.alloc(), refusal.number())?)?;
+            strays::name(rt, text)
+        }
     }
-    // The words that were kept stand in front.
-    log.truncate((answer / 256) as usize);
-    output::write(rt, lines(rt.alloc(), &log)?.as_bytes())
 }

@@ -1,6 +1,7 @@
 // The second model of the 8255A and the 82C55A, written apart from the proved one, to be held against it. It uses nothing of the proved
 // crates, nor of the program around it, and keeps the chip in bytes and flat arrays with numbered places. Each function answers for every
-// value of the machine, reached or not.
+// value of the machine, reached or not. Numbers stand where the proved crates have enums and structs, since a form that both had could hide a
+// fault of both.
 
 mod channels; // the four handshake channels by number
 mod commands; // mode words and bit set/reset

@@ -9,17 +9,18 @@ use super::apart::Trimmed;
 use super::cases::Case;
 use super::counts::Counts;
 use super::{agree, changes, counts, trimmed};
+use bus::devices::step_numbers;
 use chip::{Chip, Levels};
 use std::alloc::{AllocError, Global};
 
-fn after(chip: Chip, word: u32) -> Chip {
-    let last = step::step(
+// A word happens to the chip. One that is refused leaves it as it was.
+fn meet(chip: &mut Chip, word: u32) {
+    let _ = step_numbers(
         chip,
         (word / 0x10000 % 0x100) as u8,
         (word / 0x100 % 0x100) as u8,
         (word % 0x100) as u8,
     );
-    last.chip
 }
 
 // The proved chip after the words of a log, in the form of the second one.
@@ -29,11 +30,11 @@ fn replayed(log: &[u32], case: Case) -> Machine {
         b: case.lines.b,
         c: case.lines.c,
     };
-    let mut chip = chip::power_up_as(states::edition(case.edition as u64), levels);
+    let mut chip = Chip::new(states::edition(case.edition as u64), levels);
     for word in log {
-        chip = after(chip, *word);
+        meet(&mut chip, *word);
     }
-    twins::machine(chip)
+    twins::machine(&chip)
 }
 
 // Two chips, after the words of a journal and after what these were trimmed to. Leaves the tallies of the first.

@@ -25,7 +25,7 @@ pub(super) fn arbitrary(seed: u64) -> Chip8355 {
     }
 }
 
-pub(super) fn twin(chip: Chip8355) -> Machine {
+pub(super) fn twin(chip: &Chip8355) -> Machine {
     let bus = twins::running(chip.phase);
     Machine {
         phase: bus.phase,

@@ -1,10 +1,11 @@
 // What a model of the 8355 shows and keeps after an event, in one form for both models.
 use super::super::numbers::Numbers;
+use super::super::proved::Stepped;
 use super::super::{random, twins};
 use super::apart;
 use super::apart::Answer;
-use i8355::step::Stepped;
-use i8355::view;
+use bus::devices::Device;
+use i8355::Chip8355;
 
 // 0 the number, 1 the byte; 2 to 5 the levels of ports 0, 1 and 2 and of one above, 6 to 9 their driven pins; and of what is kept: 10 to 12
 // the phase, its address and its byte, 13 and 14 the latches of A and B, 15 and 16 their directions, 17 and 18 their outside levels.
@@ -15,13 +16,13 @@ pub(super) fn above(number: u64) -> u8 {
     3 + random::byte(number >> 48) % 253
 }
 
-pub(super) fn of_proved(last: Stepped, above: u8) -> View {
-    let chip = last.chip;
+pub(super) fn of_proved(last: &Stepped<Chip8355>, above: u8) -> View {
+    let chip = &last.device;
     let bus = twins::running(chip.phase);
-    let a = view::pins(chip, 0);
-    let b = view::pins(chip, 1);
-    let c = view::pins(chip, 2);
-    let none = view::pins(chip, above);
+    let a = chip.pins(0);
+    let b = chip.pins(1);
+    let c = chip.pins(2);
+    let none = chip.pins(above);
     let row = [
         last.number,
         last.byte,
@@ -46,7 +47,7 @@ pub(super) fn of_proved(last: Stepped, above: u8) -> View {
     Numbers { row }
 }
 
-pub(super) fn of_apart(last: Answer, above: u8) -> View {
+pub(super) fn of_apart(last: &Answer, above: u8) -> View {
     let machine = last.machine;
     let register = machine.register;
     let outside = machine.outside;

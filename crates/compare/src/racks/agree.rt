@@ -22,19 +22,19 @@ impl fmt::Display for Compared {
 }
 
 // The answers, the eight places, and the one behind them.
-pub(super) fn hold(counts: &mut Counts, event: u64, step: u64, pair: Pair, question: Question) {
+pub(super) fn hold(counts: &mut Counts, event: u64, step: u64, pair: &Pair, question: &Question) {
     counts.hold(
         event,
         step,
-        Compared::Answers(of_proved(pair.proved, question)),
-        Compared::Answers(of_apart(pair.apart, question)),
+        Compared::Answers(of_proved(&pair.proved, question)),
+        Compared::Answers(of_apart(&pair.apart, question)),
     );
     for place in 0..9 {
         counts.hold(
             event,
             step,
-            Compared::Card(place_of_proved(pair.proved.rack, place)),
-            Compared::Card(place_of_apart(pair.apart.shelf, place)),
+            Compared::Card(place_of_proved(&pair.proved.device, place)),
+            Compared::Card(place_of_apart(&pair.apart.shelf, place)),
         );
     }
 }

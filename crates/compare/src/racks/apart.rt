@@ -43,7 +43,7 @@ const NOTHING_TO_END: u8 = 5;
 
 pub(super) const BAD_RACK: u8 = 9;
 
-const NO_CARD: u8 = 10;
+pub(super) const NO_CARD: u8 = 10;
 
 // A rack of so many cards, on which nothing has happened yet.
 pub(super) fn power_up(cards: u8) -> Shelf {

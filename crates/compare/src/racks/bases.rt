@@ -45,46 +45,33 @@ fn drawn(seed: u64, at: u64) -> u64 {
 
 // The same, or in one of nine something else, which may be no base: a card that begins within a slot; one that is too high; anything; the
 // base of another card.
-fn any(seed: u64, at: u64) -> u64 {
+fn any(seed: u64, at: u64) -> u16 {
     let number = drawn(seed, at);
     let base = good(seed, at) as u64;
-    match number % 36 {
+    let chosen = match number % 36 {
         0 => base + 1 + (number >> 8) % 7,
         1 => base + (1 + (number >> 8) % 31) * TOO_HIGH,
         2 => number >> 48,
         3 => good(seed, number >> 8) as u64,
         _ => base,
-    }
+    };
+    (chosen % 65536) as u16
 }
 
 // Of a state that no building leads to: in one of two so near to the first that both answer at some addresses; or anything.
-fn wild(seed: u64, at: u64) -> u64 {
+fn wild(seed: u64, at: u64) -> u16 {
     let number = drawn(seed, at);
     if number % 2 == 0 {
-        return good(seed, 0) as u64 + (number >> 8) % 24;
+        return ((good(seed, 0) as u64 + (number >> 8) % 24) % 65536) as u16;
     }
-    number >> 48
+    (number >> 48) as u16
 }
 
-// What a list is made of.
-#[derive(Clone, Copy)]
-enum Made {
-    Good,
-    Any,
-    Wild,
-}
-
-fn one(made: Made, seed: u64, at: u64) -> u16 {
-    let base = match made {
-        Made::Good => good(seed, at) as u64,
-        Made::Any => any(seed, at),
-        Made::Wild => wild(seed, at),
-    };
-    (base % 65536) as u16
-}
-
-fn list(made: Made, seed: u64) -> [u16; 10] {
-    std::array::from_fn(|at| one(made, seed, at as u64))
+// A list of what one of these makes of a seed at each place.
+fn list<F: Fn(u64, u64) -> u16>(base: F, seed: u64) -> [u16; 10]
+    requires { F.IsAlwaysCallable base }
+{
+    std::array::from_fn(|at| base(seed, at as u64))
 }
 
 // A list that makes a rack: in one of two a full one, else of any number of cards.
@@ -96,7 +83,7 @@ pub(super) fn good_list(seed: u64) -> Bases {
         } else {
             any
         },
-        list: list(Made::Good, seed),
+        list: list(good, seed),
     }
 }
 
@@ -104,7 +91,7 @@ pub(super) fn good_list(seed: u64) -> Bases {
 pub(super) fn any_list(seed: u64) -> Bases {
     Bases {
         count: ((seed >> 40) % (ROOM + 1)) as u8,
-        list: list(Made::Any, seed),
+        list: list(any, seed),
     }
 }
 
@@ -114,7 +101,7 @@ pub(super) fn wild_list(seed: u64) -> Bases {
     let count = if seed % 4 < 2 { any % 9 } else { any };
     Bases {
         count,
-        list: list(Made::Wild, seed),
+        list: list(wild, seed),
     }
 }
 

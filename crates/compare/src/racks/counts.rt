@@ -46,7 +46,7 @@ const RESET_WITHIN: usize = 81;
 fn place_of_number(number: u8) -> Option<usize> {
     match number {
         0..=5 => Some(NUMBERS + number as usize),
-        rack::NO_CARD => Some(NUMBERS + 6),
+        apart::NO_CARD => Some(NUMBERS + 6),
         _ => None,
     }
 }
@@ -54,7 +54,7 @@ fn place_of_number(number: u8) -> Option<usize> {
 pub(super) fn build(counts: &mut Counts, number: u8) {
     match number {
         0 => counts.add(BUILT, 1),
-        rack::BAD_RACK => counts.add(REFUSED, 1),
+        apart::BAD_RACK => counts.add(REFUSED, 1),
         _ => {}
     }
 }
@@ -67,7 +67,7 @@ pub(super) struct Aim {
     pub(super) taken: u8,
 }
 
-fn begun(aim: Aim, number: u8) -> Option<usize> {
+fn begun(aim: &Aim, number: u8) -> Option<usize> {
     match number {
         0 if who::is_second_copy(aim.entry) => Some(SECOND_COPY),
         0 => Some(FIRST_COPY),
@@ -78,7 +78,7 @@ fn begun(aim: Aim, number: u8) -> Option<usize> {
 }
 
 // What an event did within a cycle.
-fn within(aim: Aim, kind: u8) -> Option<usize> {
+fn within(aim: &Aim, kind: u8) -> Option<usize> {
     match kind {
         apart::RESET => Some(RESET_WITHIN),
         apart::END if aim.taken == 0 => Some(END_ON_FIRST),
@@ -90,7 +90,7 @@ fn within(aim: Aim, kind: u8) -> Option<usize> {
 }
 
 // The place of what an event did besides. A begun cycle is counted always, and one that is kept out; all else only where a cycle ran.
-fn deed(aim: Aim, kind: u8, number: u8) -> Option<usize> {
+fn deed(aim: &Aim, kind: u8, number: u8) -> Option<usize> {
     match kind {
         apart::BEGIN_READ | apart::BEGIN_WRITE => begun(aim, number),
         _ if aim.taken != NOWHERE && number == 0 => within(aim, kind),
@@ -98,7 +98,7 @@ fn deed(aim: Aim, kind: u8, number: u8) -> Option<usize> {
     }
 }
 
-pub(super) fn event(counts: &mut Counts, aim: Aim, kind: u8, number: u8) {
+pub(super) fn event(counts: &mut Counts, aim: &Aim, kind: u8, number: u8) {
     counts.event(kind);
     if let Some(place) = place_of_number(number) {
         counts.add(place, 1);
@@ -108,23 +108,25 @@ pub(super) fn event(counts: &mut Counts, aim: Aim, kind: u8, number: u8) {
     }
 }
 
-fn tallies(rack: Rack, place: u8) -> Tallies {
-    twins::tallies(rack::views::card_at(rack, place).chip)
+fn tallies(rack: &Rack, place: u8) -> Tallies {
+    twins::tallies(&rack.card(place).unwrap_or_default())
 }
 
 // How far the event moved each tally of the card at a place, which may have passed its end.
-fn fates_at(counts: &mut Counts, place: u8, before: Tallies, after: Tallies) {
+fn fates_at(counts: &mut Counts, place: u8, before: &Tallies, after: &Tallies) {
     let first = FATES + place as usize * PER_CHANNEL;
-    for at in 0..28 {
-        counts.add(
-            first + at % PER_CHANNEL,
-            after[at].wrapping_sub(before[at]) as u64,
-        );
+    for (at, (after, before)) in after.iter().zip(before).enumerate() {
+        counts.add(first + at % PER_CHANNEL, after.wrapping_sub(*before) as u64);
     }
 }
 
-pub(super) fn fates(counts: &mut Counts, before: Rack, after: Rack) {
+pub(super) fn fates(counts: &mut Counts, before: &Rack, after: &Rack) {
     for place in 0..8 {
-        fates_at(counts, place, tallies(before, place), tallies(after, place));
+        fates_at(
+            counts,
+            place,
+            &tallies(before, place),
+            &tallies(after, place),
+        );
     }
 }

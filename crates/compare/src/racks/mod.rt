@@ -11,13 +11,15 @@ mod states;
 mod views;
 mod who; // who answers at an address, in the second model
 
+use super::proved::{Stepped, at_start};
 use super::random;
+use super::row::of_histories;
 use apart::Answer;
 use bases::Bases;
 use counts::Counts;
 use history::Pair;
-use rack::Built;
-use rack::event::Stepped;
+use rack::Rack;
+use rack::refusals::BadRack;
 use who::Who;
 
 // The steps at which histories end. Long ones have two rounds. Short ones have 24 steps: a mode word or a reset soon ends what is strange.
@@ -25,28 +27,23 @@ const LONG: u64 = 600;
 
 const SHORT: u64 = draws::SET_UP + 24;
 
-// Where histories begin.
-#[derive(Clone, Copy)]
-enum Start {
-    GoodBases,
-    AnyBases,
-    Anywhere,
-}
-
 // The proved model builds a rack of the bases.
-fn built_of(bases: Bases) -> Built {
+fn built_of(bases: Bases) -> Result<Rack, BadRack> {
     let count = bases.list.len().min(bases.count as usize);
-    rack::build(&bases.list[..count])
+    Rack::new(&bases.list[..count])
 }
 
-// Both models build a rack of the bases, and their numbers are those of the building.
+// Both models build a rack of the bases, one of none where that is refused, and their numbers are those of the building.
 fn built(counts: &mut Counts, who: &mut Who, bases: Bases) -> Pair {
-    let built = built_of(bases);
-    counts::build(counts, built.number);
+    let (device, number) = match built_of(bases) {
+        Ok(rack) => (rack, 0),
+        Err(refusal) => (Rack::default(), refusal.number()),
+    };
+    counts::build(counts, number);
     Pair {
         proved: Stepped {
-            rack: built.rack,
-            number: built.number,
+            device,
+            number,
             byte: 0,
         },
         apart: build::build(who, bases),
@@ -56,14 +53,10 @@ fn built(counts: &mut Counts, who: &mut Who, bases: Bases) -> Pair {
 // Both models are in one state, and there is no number yet.
 fn put(who: &mut Who, bases: Bases, seed: u64) -> Pair {
     let rack = states::arbitrary(bases, seed);
-    let shelf = states::twin(rack);
+    let shelf = states::twin(&rack);
     who::enter(who, bases::in_places(bases), shelf.cards);
     Pair {
-        proved: Stepped {
-            rack,
-            number: 0,
-            byte: 0,
-        },
+        proved: at_start(rack),
         apart: Answer {
             shelf,
             number: 0,
@@ -72,54 +65,57 @@ fn put(who: &mut Who, bases: Bases, seed: u64) -> Pair {
     }
 }
 
-// The list of bases of a history.
-fn bases_of(start: Start, seed: u64) -> Bases {
-    match start {
-        Start::GoodBases => bases::good_list(seed),
-        Start::AnyBases => bases::any_list(seed),
-        Start::Anywhere => bases::wild_list(seed),
-    }
-}
-
-// One history, and the seed of the next one. In the short ones the cards are not set up first.
-fn one(counts: &mut Counts, start: Start, seed: u64) -> u64 {
+// A history with good bases, in which the cards are set up first.
+fn of_good_bases(counts: &mut Counts, seed: u64) -> u64 {
     counts.add(0, 1);
     let mut who = [who::NOBODY; 65536];
-    let far = random::far(seed);
-    let bases = bases_of(start, seed);
-    match start {
-        Start::GoodBases => {
-            let pair = built(counts, &mut who, bases);
-            history::run(counts, &who, bases, pair, far, 0, LONG)
-        }
-        Start::AnyBases => {
-            let pair = built(counts, &mut who, bases);
-            history::run(counts, &who, bases, pair, far, draws::SET_UP, SHORT)
-        }
-        Start::Anywhere => {
-            let pair = put(&mut who, bases, seed);
-            history::run(counts, &who, bases, pair, far, draws::SET_UP, SHORT)
-        }
-    }
+    let bases = bases::good_list(seed);
+    let pair = built(counts, &mut who, bases);
+    history::run(counts, &who, bases, pair, random::far(seed), 0, LONG)
 }
 
-fn all(start: Start, first: u64, histories: usize) -> Counts {
-    let mut counts = Counts::new();
-    let mut seed = first;
-    for _ in 0..histories {
-        seed = one(&mut counts, start, seed);
-    }
-    counts
+// A short one with any bases, in which they are not.
+fn of_any_bases(counts: &mut Counts, seed: u64) -> u64 {
+    counts.add(0, 1);
+    let mut who = [who::NOBODY; 65536];
+    let bases = bases::any_list(seed);
+    let pair = built(counts, &mut who, bases);
+    history::run(
+        counts,
+        &who,
+        bases,
+        pair,
+        random::far(seed),
+        draws::SET_UP,
+        SHORT,
+    )
+}
+
+// A short one from any state.
+fn of_any_state(counts: &mut Counts, seed: u64) -> u64 {
+    counts.add(0, 1);
+    let mut who = [who::NOBODY; 65536];
+    let bases = bases::wild_list(seed);
+    let pair = put(&mut who, bases, seed);
+    history::run(
+        counts,
+        &who,
+        bases,
+        pair,
+        random::far(seed),
+        draws::SET_UP,
+        SHORT,
+    )
 }
 
 pub(super) fn from_good_bases() -> Counts {
-    all(Start::GoodBases, 0x7780778077807780, 250)
+    of_histories(Counts::new(), 0x7780778077807780, 250, of_good_bases)
 }
 
 pub(super) fn from_any_bases() -> Counts {
-    all(Start::AnyBases, 0x0778077807780778, 3000)
+    of_histories(Counts::new(), 0x0778077807780778, 3000, of_any_bases)
 }
 
 pub(super) fn from_arbitrary_states() -> Counts {
-    all(Start::Anywhere, 0x7807780778077807, 3250)
+    of_histories(Counts::new(), 0x7807780778077807, 3250, of_any_state)
 }

@@ -46,9 +46,7 @@ fn phase(number: u64) -> Phase {
 pub(super) fn arbitrary(bases: Bases, seed: u64) -> Rack {
     let number = next(seed);
     Rack {
-        bus: rack::Bus {
-            phase: phase(number),
-        },
+        phase: phase(number),
         count: bases.count,
         bases: bases::in_places(bases),
         cores: cores(far(number)),
@@ -56,20 +54,20 @@ pub(super) fn arbitrary(bases: Bases, seed: u64) -> Rack {
 }
 
 // What runs on the bus of a rack. Its place is the number there.
-pub(super) fn running(rack: Rack) -> Bus {
-    twins::running(rack.bus.phase)
+pub(super) fn running(rack: &Rack) -> Bus {
+    twins::running(rack.phase)
 }
 
 // A chip of the second model at a place of the rack. Only on the card whose number it has does the cycle run.
-fn twin_at(rack: Rack, place: u8) -> Machine {
+fn twin_at(rack: &Rack, place: u8) -> Machine {
     let core = rack.cores[(place % 8) as usize];
     let bus = running(rack);
-    let mut machine = twins::machine(Chip {
+    let mut machine = twins::machine(&Chip {
         phase: Phase::Idle,
         edition: Edition::Older,
         core,
     });
-    if taken(bus) == place {
+    if taken(&bus) == place {
         machine.phase = bus.phase;
         machine.place = bus.place / 8;
         machine.data = bus.data;
@@ -78,26 +76,17 @@ fn twin_at(rack: Rack, place: u8) -> Machine {
 }
 
 // The place of the card on which a cycle runs.
-fn taken(bus: Bus) -> u8 {
+fn taken(bus: &Bus) -> u8 {
     if bus.phase == twins::IDLE {
         return NOWHERE;
     }
     bus.place % 8
 }
 
-pub(super) fn twin(rack: Rack) -> Shelf {
+pub(super) fn twin(rack: &Rack) -> Shelf {
     Shelf {
         cards: rack.count.min(8),
-        taken: taken(running(rack)),
-        chips: [
-            twin_at(rack, 0),
-            twin_at(rack, 1),
-            twin_at(rack, 2),
-            twin_at(rack, 3),
-            twin_at(rack, 4),
-            twin_at(rack, 5),
-            twin_at(rack, 6),
-            twin_at(rack, 7),
-        ],
+        taken: taken(&running(rack)),
+        chips: std::array::from_fn(|place| twin_at(rack, place as u8)),
     }
 }

@@ -1,12 +1,9 @@
 -- The text is under way into the output, with a line less at each turn.
--- Rests on text's Turn and on Answering.
-use Rattle.std.proofs.Common.{◌-◌, length}
-use Rattle.text.proofs.Turn.{lines_from}
+-- Rests on Answering.
+use Rattle.text.specs.Answers.{lines_left}
 use Rattle.script.proofs.Answering.{UnderWay}
 use Rattle.script.proofs.answer_all.Given as goal
 
-abbrev pub invariant-loop-start : goal.invariant-loop-start
-invariant-loop-start l = UnderWay l.fn.answerer l.text l.fn.out l.out (lines_from l.text l.start) l.answerer l.at
-
-abbrev pub decreases-loop-start : goal.decreases-loop-start
-decreases-loop-start l = length l.text - l.start
+abbrev pub invariant-loop-line : goal.invariant-loop-line
+invariant-loop-line g l =
+    UnderWay g.S.Scripted.answerer l.fn.subject l.text l.fn.out l.out (lines_left l.line-iterator) l.subject l.at

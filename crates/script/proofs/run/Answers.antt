@@ -1,8 +1,11 @@
--- `script::run` meets its contract: refused, and the output is left, or accepted, and it is filled.
--- Rests on Numbers and on the contract of judge.
-use Rattle.std.proofs.Common.{◌∙◌, sym}
-use Rattle.script.proofs.Numbers.{number-given, has-room}
+-- `script::run` meets its contract: no more lines are counted than the text has bytes, so that their width fits.
+-- Rests on text's LineCount.
+use Rattle.std.proofs.Common.{arith}
+use Rattle.std.proofs.lemmas.Nat.{mul-le}
+use Rattle.text.proofs.LineCount.{lines-at-most}
 use Rattle.script.proofs.run.Goals as goal
 
-pub answer_all-requires : goal.answer_all-requires
-answer_all-requires c = has-room _ _ (sym (number-given _ _ _ c.judge-ran.ensures) ∙ c.if-ran-ne-ACCEPTED.false)
+pub overflow_mul-line_width : goal.overflow_mul-line_width
+overflow_mul-line_width g c =
+    let few = lines-at-most c.args.text.now in
+    omega (arith, mul-le c.line_width.result c.count-lines.result 1535 4096 (omega (arith, c.line_width.ensures)) (omega (arith, c.count-lines.ensures, few)))

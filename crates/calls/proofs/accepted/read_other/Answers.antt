@@ -2,7 +2,7 @@
 -- Rests on image's Parts.
 use Rattle.std.proofs.Common.{rules}
 use borrow.Author.Tests.{ne_eqb}
-use Rattle.reads.specs.Read.{after_read_begins}
+use Rattle.chip.specs.Read.{after_read_begins}
 use Rattle.image.specs.Good.{Told}
 use Rattle.image.proofs.Parts.{bus_saved}
 use Rattle.calls.proofs.accepted.read_other.Goals as goal

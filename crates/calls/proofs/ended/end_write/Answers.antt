@@ -1,5 +1,5 @@
 -- `ended::end_write` meets its contract at control.
-use Rattle.writes.specs.Write.{after_write_ends}
+use Rattle.chip.specs.Write.{after_write_ends}
 use Rattle.calls.proofs.ended.end_write.Goals as goal
 
 pub returns-then-address-eq-CONTROL : goal.returns-then-address-eq-CONTROL

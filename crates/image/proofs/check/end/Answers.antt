@@ -10,7 +10,6 @@ returns c =
       c.eight-3.ensures,
       c.eight-2.ensures,
       c.eight.ensures,
-      c.choose-above.ensures,
       c.cycle-fits.ensures,
       c.wide-2.ensures,
       c.wide.ensures,

@@ -1,5 +1,5 @@
 -- `save::whole` meets its contract: the parts fill the slice.
-use Rattle.std.proofs.Common.{rules, arith, ◌≡◌, ◌∙◌, List, [], ◌∷◌, append-nil, ℕ, ◌+◌, length, replicate}
+use Rattle.std.proofs.Common.{rules, arith, ◌≡◌, ◌∙◌, List, [], ◌∷◌, append-nil, ℕ, ◌-◌, length, replicate}
 use lib.ListN.{drop_of_length-le}
 use lib.Seq.{sets, sets-eq}
 use Rattle.chip.specs.declared.Chip.{Chip}
@@ -7,18 +7,9 @@ use Rattle.image.specs.Places as places
 use Rattle.image.specs.Layout.{core_bytes, bus_bytes, edition_byte, image_of}
 use Rattle.image.proofs.save.whole.Goals as goal
 
-abbrev eight : List ℕ
-eight = replicate 8 0
-
-abbrev parted : List ℕ → Chip → List ℕ
-parted l c = sets (sets l places.tallies (core_bytes c.core)) places.bus (bus_bytes c.phase)
-
-abbrev four : ℕ → List ℕ
-four b = b ∷ 0 ∷ 0 ∷ 0 ∷ []
-
 filled : (l : List ℕ) (c : Chip) → length l ≡ places.length
-    → sets (sets (sets (sets (parted l c) places.edition (four (edition_byte c.edition))) (places.edition + 4) (four 0))
-    (places.edition + 8) eight) (places.edition + 16) eight
+    → sets (sets (sets (sets l places.tallies (core_bytes c.core)) places.bus (bus_bytes c.phase)) places.edition (edition_byte c.edition ∷ []))
+    places.unused (replicate (places.length - places.unused) 0)
     ≡ image_of c
 unfolding image_of
 filled l c h =
@@ -27,13 +18,5 @@ filled l c h =
 
 pub returns : goal.returns
 returns c =
-    rw (
-      c.put_zeros-2.ensures,
-      c.put_zeros.ensures,
-      c.put_four-2.ensures,
-      c.put_four.ensures,
-      c.edition_byte.ensures,
-      c.put_bus.ensures,
-      c.put_core.ensures,
-    )
-    (filled c.args.image.now c.args.chip (search rules))
+    rw (c.put.ensures, c.edition_byte.ensures, c.put_bus.ensures, c.put_core.ensures)
+    (filled c.args.image.now c.args.chip.now (search rules))

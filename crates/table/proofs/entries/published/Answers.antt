@@ -3,7 +3,7 @@
 use Rattle.std.proofs.Common.{refl}
 use Rattle.bits.specs.Bit.{bit_of}
 use Rattle.control.specs.Mode.{mode_of, input_of, upper_input, lower_input}
-use Rattle.roles.specs.Role.{uses_of, free_role, role_of}
+use Rattle.control.specs.Role.{uses_of, free_role, role_of}
 use Rattle.table.specs.Entry.{entry_at}
 use Rattle.table.proofs.entries.published.Goals as goal
 

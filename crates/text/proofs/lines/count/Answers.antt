@@ -1,25 +1,10 @@
--- `lines::count` meets its contract: the lines counted and those that are left are the lines of the text.
--- Rests on Turn and LineCount.
-use Rattle.std.proofs.Common.{ap, List, length, arith}
-use Rattle.text.specs.Lines.{Line}
+-- `lines::count` meets its contract: there are no more lines than bytes, so that their count fits.
+-- Rests on LineCount.
+use Rattle.std.proofs.Common.{inl, arith}
 use Rattle.text.proofs.LineCount.{lines-at-most}
-use Rattle.text.proofs.Turn.{turn, no_more}
 use Rattle.text.proofs.lines.count.Goals as goal
 
-pub overflow_add-start : goal.overflow_add-start
-overflow_add-start c =
-    let t = turn _ _ _ c.end-start.ensures c.loop-start-test.true in
-    omega arith
-
-pub overflow_add-lines : goal.overflow_add-lines
-overflow_add-lines c =
-    let t = turn _ _ _ c.end-start.ensures c.loop-start-test.true in
-    omega (arith, ap (λ (ls : List Line). length ls) t.lines, lines-at-most c.args.text.now)
-
-pub loop-start-preserved : goal.loop-start-preserved
-loop-start-preserved c =
-    let t = turn _ _ _ c.end-start.ensures c.loop-start-test.true in
-    omega (arith, ap (λ (ls : List Line). length ls) t.lines)
-
-pub returns : goal.returns
-returns c = omega (arith, ap (λ (ls : List Line). length ls) (no_more _ _ c.loop-start-test.false))
+pub count-requires-clause-fits : goal.count-requires-clause-fits
+count-requires-clause-fits c =
+    let most = lines-at-most c.args.text.now in
+    inl (rw c.new.ensures (omega arith))

@@ -1,0 +1,82 @@
+-- The contract of each public function of the bus leaves no choice. Those of `judge` and of the steps say the number and the byte that an answer
+-- tells, and no two answers tell the same. Rests on bits' Determined.
+use mathlib.Core.Path.{◌≡◌, ◌∙◌, refl, ap, ap₂}
+use Rattle.std.specs.Prelude.{cond, ℕ, eqb, Result, Ok, Err}
+use Rattle.bits.proofs.Determined.{Determines, equation-determines, equations-determine}
+use Rattle.bus.specs.Answers.{number_told, frame_number_told, byte_told}
+use Rattle.bus.specs.declared.refusals.Refusal.{Refusal}
+use Rattle.bus.specs.declared.refusals.Refusal.TheVariants.{OutOfRange, NotReadable, CycleRuns, NoCycleRuns}
+use Rattle.bus.specs.declared.refusals.FrameRefusal.{FrameRefusal}
+use Rattle.bus.specs.declared.refusals.FrameRefusal.TheVariants.{NoSuchKind, Event}
+use Rattle.bus.specs.contracts as bus_says
+use Rattle.bus.proofs as bus
+
+-- The refusal that has a number, and the answer that tells a number and has a value where it was accepted.
+abbrev refusal_of : ℕ → Refusal
+refusal_of n = cond (eqb n 2) OutOfRange (cond (eqb n 3) NotReadable (cond (eqb n 4) CycleRuns NoCycleRuns))
+
+abbrev frame_of : ℕ → FrameRefusal
+frame_of n = cond (eqb n 1) NoSuchKind (Event (refusal_of n))
+
+abbrev answer_of : {A E : Type 0} → (ℕ → E) → ℕ → A → Result A E
+answer_of refusal n a = cond (eqb n 0) (Ok a) (Err (refusal n))
+
+judged-so : (r : Result (Unit {0}) Refusal) → r ≡ answer_of refusal_of (number_told r) tt
+judged-so (Ok tt) = refl
+judged-so (Err OutOfRange) = refl
+judged-so (Err NotReadable) = refl
+judged-so (Err CycleRuns) = refl
+judged-so (Err NoCycleRuns) = refl
+
+told-so : (r : Result ℕ Refusal) → r ≡ answer_of refusal_of (number_told r) (byte_told r)
+told-so (Ok b) = refl
+told-so (Err OutOfRange) = refl
+told-so (Err NotReadable) = refl
+told-so (Err CycleRuns) = refl
+told-so (Err NoCycleRuns) = refl
+
+frame-told-so : (r : Result ℕ FrameRefusal) → r ≡ answer_of frame_of (frame_number_told r) (byte_told r)
+frame-told-so (Ok b) = refl
+frame-told-so (Err NoSuchKind) = refl
+frame-told-so (Err (Event OutOfRange)) = refl
+frame-told-so (Err (Event NotReadable)) = refl
+frame-told-so (Err (Event CycleRuns)) = refl
+frame-told-so (Err (Event NoCycleRuns)) = refl
+
+pub is-kind-determined : Determines bus_says.kinds.is_kind.ended bus.kinds.is_kind.Reads.Learnt
+is-kind-determined c x y = equation-determines
+
+pub operands-determined : Determines bus_says.kinds.operands.ended bus.kinds.operands.Reads.Learnt
+operands-determined c x y = equation-determines
+
+pub numbered-determined : Determines bus_says.events.Event.numbered.ended bus.events.Event.numbered.Reads.Learnt
+numbered-determined c x y = equation-determines
+
+pub refusal-number-determined : Determines bus_says.refusals.Refusal.number.ended bus.refusals.Refusal.number.Reads.Learnt
+refusal-number-determined c x y = equation-determines
+
+pub frame-number-determined : Determines bus_says.refusals.FrameRefusal.number.ended bus.refusals.FrameRefusal.number.Reads.Learnt
+frame-number-determined c x y = equation-determines
+
+pub judge-determined : Determines bus_says.refusals.judge.ended bus.refusals.judge.Reads.Learnt
+judge-determined c x y p q =
+    equation-determines
+    (judged-so x.0 ∙ ap (λ n. answer_of refusal_of n tt) p)
+    (judged-so y.0 ∙ ap (λ n. answer_of refusal_of n tt) q)
+
+pub step-determined : (D : _) (lD : _) (G : _) (t : _) → Determines (bus_says.devices.step.ended D G t) (bus.devices.step.Reads.Learnt D lD G t)
+step-determined D lD G t c x y p q =
+    equations-determine
+    (told-so x.0 ∙ ap₂ (answer_of refusal_of) p.1.0 p.1.1, p.0)
+    (told-so y.0 ∙ ap₂ (answer_of refusal_of) q.1.0 q.1.1, q.0)
+
+pub step-numbers-determined
+    : (D : _) (lD : _) (G : _) (t : _) → Determines (bus_says.devices.step_numbers.ended D G t) (bus.devices.step_numbers.Reads.Learnt D lD G t)
+step-numbers-determined D lD G t c x y p q =
+    equations-determine
+    (frame-told-so x.0 ∙ ap₂ (answer_of frame_of) p.1.0 p.1.1, p.0)
+    (frame-told-so y.0 ∙ ap₂ (answer_of frame_of) q.1.0 q.1.1, q.0)
+
+pub facts-determined
+    : (D : _) (lD : _) (G : _) (t : _) → Determines (bus_says.devices.facts_about_cycles.ended D G t) (bus.devices.facts_about_cycles.Reads.Learnt D lD G t)
+facts-determined D lD G t c x y p q = refl

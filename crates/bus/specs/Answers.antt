@@ -1,0 +1,61 @@
+-- Events and refusals by their numbers, and what an event gives as an answer: a byte, or a refusal ("Events and numbers").
+use Rattle.std.specs.Prelude.{cond, ℕ, eqb, Option, Some, None, Result, Ok, Err}
+use Rattle.bus.specs.Kinds as kinds
+use Rattle.bus.specs.Event as frames
+use Rattle.bus.specs.Device as rules
+use Rattle.bus.specs.Device.{Given, step_in}
+use Rattle.bus.specs.declared.events.Event.{Event}
+use Rattle.bus.specs.declared.events.Event.TheVariants.{Reset, BeginRead, EndCycle, BeginWrite, OutsideLevels}
+use Rattle.bus.specs.declared.refusals.Refusal.{Refusal}
+use Rattle.bus.specs.declared.refusals.Refusal.TheVariants.{OutOfRange, NotReadable, CycleRuns, NoCycleRuns}
+use Rattle.bus.specs.declared.refusals.FrameRefusal as frame
+use Rattle.bus.specs.declared.refusals.FrameRefusal.{FrameRefusal}
+
+-- An event by its three numbers; the operands that its kind lacks are zeros.
+abbrev pub raw : Event → frames.Event
+raw Reset = frames.event kinds.reset 0 0
+raw (BeginRead x) = frames.event kinds.begin_read x 0
+raw EndCycle = frames.event kinds.end_cycle 0 0
+raw (BeginWrite x d) = frames.event kinds.begin_write x d
+raw (OutsideLevels p d) = frames.event kinds.outside_levels p d
+
+-- The event that three numbers name, where the first is a kind.
+abbrev pub event_numbered : ℕ → ℕ → ℕ → Option Event
+event_numbered k x d =
+    cond (eqb k kinds.reset) (Some Reset)
+    (cond (eqb k kinds.begin_read) (Some (BeginRead x))
+    (cond (eqb k kinds.end_cycle) (Some EndCycle)
+    (cond (eqb k kinds.begin_write) (Some (BeginWrite x d))
+    (cond (eqb k kinds.outside_levels) (Some (OutsideLevels x d))
+    None))))
+
+-- The refusals of a device by their numbers: 2, there is no such address or port; 3, the address is not to be read; 4, another cycle runs;
+-- 5, none does.
+abbrev pub refusal_number : Refusal → ℕ
+refusal_number OutOfRange = 2
+refusal_number NotReadable = 3
+refusal_number CycleRuns = 4
+refusal_number NoCycleRuns = 5
+
+-- 1 stands before them: there is no such kind.
+abbrev pub frame_number : FrameRefusal → ℕ
+frame_number frame.TheVariants.NoSuchKind = 1
+frame_number (frame.TheVariants.Event r) = refusal_number r
+
+-- The number that an answer tells: 0 where the event was accepted.
+abbrev pub number_told : {A : Type 0} → Result A Refusal → ℕ
+number_told (Ok a) = 0
+number_told (Err r) = refusal_number r
+
+abbrev pub frame_number_told : {A : Type 0} → Result A FrameRefusal → ℕ
+frame_number_told (Ok a) = 0
+frame_number_told (Err r) = frame_number r
+
+-- The byte that an answer tells: 00 where the event was refused.
+abbrev pub byte_told : {E : Type 0} → Result ℕ E → ℕ
+byte_told (Ok b) = b
+byte_told (Err r) = 0
+
+-- What a device gives for an event.
+abbrev pub given_for : {S R : Type 0} → rules.Device S R → S → Event → Given S
+given_for dev s e = step_in dev s (raw e).kind (raw e).first (raw e).second

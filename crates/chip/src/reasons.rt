@@ -1,0 +1,145 @@
+//! Why a group's INTR is low: of each half the first reason, or that it is high; and the numbers of what is said.
+ghost use Rattle.std.specs.Prelude.{◌≡◌};
+ghost use Rattle.chip.specs.Reasons.{reason_of, one_way, explained_in, explained_of, reason_number, halves_of};
+
+use super::Chip;
+use super::handshakes::{line_pin, running};
+use channel::Side;
+use control::mode::Mode;
+use control::{Group, mode};
+
+/// What one half of an INTR is doing: low for one of four reasons, or high.
+#[derive(Clone, Copy, Debug, PartialEq, Eq)]
+pub enum Reason {
+    EnableOff,
+    FlagWrong,
+    LineLow,
+    OwnCycle,
+    High,
+}
+
+/// What is said of a group's INTR. A group in mode 0 has none; mode 1 has the half of one side, and mode 2 both, the input's first.
+#[derive(Clone, Copy, Debug, PartialEq, Eq)]
+pub enum Explained {
+    ModeZero,
+    InputHalf(Reason),
+    OutputHalf(Reason),
+    BothHalves(Reason, Reason),
+}
+
+// The numbers of what is said of a half: that there is none, that its group is in mode 0, and what it is doing, in the reasons' order.
+pub const NO_HALF: u8 = 0;
+
+pub const MODE_ZERO: u8 = 1;
+
+pub const ENABLE_OFF: u8 = 2;
+
+pub const FLAG_WRONG: u8 = 3;
+
+pub const LINE_LOW: u8 = 4;
+
+pub const OWN_CYCLE: u8 = 5;
+
+pub const HIGH: u8 = 6;
+
+/// What is said of each half, in numbers.
+#[derive(Clone, Copy, Debug, PartialEq, Eq)]
+pub struct Halves {
+    pub input: u8,
+    pub output: u8,
+}
+
+impl Reason {
+    fn number(self) -> u8
+        ensures { result ≡ reason_number self }
+    {
+        match self {
+            Reason::EnableOff => ENABLE_OFF,
+            Reason::FlagWrong => FLAG_WRONG,
+            Reason::LineLow => LINE_LOW,
+            Reason::OwnCycle => OWN_CYCLE,
+            Reason::High => HIGH,
+        }
+    }
+}
+
+impl Explained {
+    /// What is said, in numbers.
+    pub fn halves(self) -> Halves
+        ensures { result ≡ halves_of self }
+    {
+        match self {
+            Explained::ModeZero => Halves {
+                input: MODE_ZERO,
+                output: MODE_ZERO,
+            },
+            Explained::InputHalf(reason) => Halves {
+                input: reason.number(),
+                output: NO_HALF,
+            },
+            Explained::OutputHalf(reason) => Halves {
+                input: NO_HALF,
+                output: reason.number(),
+            },
+            Explained::BothHalves(input, output) => Halves {
+                input: input.number(),
+                output: output.number(),
+            },
+        }
+    }
+}
+
+impl Chip {
+    // The first of the four reasons that holds.
+    #[tactic(auto, unfolding(crate::specs::Reasons::reason_of))]
+    fn reason(&self, group: Group, side: Side) -> Reason
+        ensures { result ≡ reason_of self.now group side }
+    {
+        if !self.core.inte.enables(group, side) {
+            Reason::EnableOff
+        } else if !self.core.flag(group, side) {
+            Reason::FlagWrong
+        } else if !bits::bit(self.core.c.outside, line_pin(group, side)) {
+            Reason::LineLow
+        } else if running(self.phase, group, side) {
+            Reason::OwnCycle
+        } else {
+            Reason::High
+        }
+    }
+
+    // In mode 1 a port goes one way.
+    fn one_way(&self, group: Group) -> Explained
+        ensures { result ≡ one_way self.now group }
+    {
+        if mode::output(self.core.word, group) {
+            Explained::OutputHalf(self.reason(group, Side::Output))
+        } else {
+            Explained::InputHalf(self.reason(group, Side::Input))
+        }
+    }
+
+    /// Explains the INTR of a group.
+    #[tactic(auto, unfolding(crate::specs::Reasons::explained_in))]
+    pub fn explain(&self, group: Group) -> Explained
+        ensures { result ≡ explained_in self.now group }
+    {
+        match Mode::of(self.core.word, group) {
+            Mode::Zero => Explained::ModeZero,
+            Mode::One => self.one_way(group),
+            Mode::Two => Explained::BothHalves(
+                self.reason(group, Side::Input),
+                self.reason(group, Side::Output),
+            ),
+        }
+    }
+
+    /// Explains the INTR of the group of that number, as scripts and C have it: 0 is A and 1 is B; `None` of any other.
+    #[tactic(auto, unfolding(crate::specs::Reasons::explained_of, control::specs::Mode::group_numbered))]
+    pub fn explain_numbered(&self, number: u8) -> Option<Explained>
+        ensures { result ≡ explained_of self.now number }
+    {
+        let group = Group::numbered(number)?;
+        Some(self.explain(group))
+    }
+}

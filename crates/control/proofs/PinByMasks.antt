@@ -1,0 +1,54 @@
+-- The role of a pin can be read off the two masks: what stands above need not ask for a role pin by pin ("Port C roles").
+-- Rests on bits' Tested and BitLaws.
+use mathlib.Core.Path.{◌≡◌, ◌∙◌, refl, ap, sym}
+use mathlib.Core.Bool.{Bool, cond}
+use mathlib.Core.List.{[], ◌∷◌}
+use Prim.Native.Nat.{ℕ, ◌<◌}
+use lib.ListN.{get_or}
+use Rattle.bits.specs.Bit.{bit_of}
+use Rattle.bits.proofs.Tested.{numbers-of-two}
+use Rattle.bits.proofs.BitLaws.{bit-of-assembled}
+use Rattle.control.specs.declared.Group.TheVariants.{B}
+use Rattle.control.specs.Mode.{mode_of, input_of, upper_input, lower_input, strobed_input}
+use Rattle.control.specs.Role.{Role, input, output, INTR, IBF, OBF, STB, ACK, number, uses_of, free_role, role_of}
+use Rattle.control.specs.Pins.{is_handshake, is_output, handshake_pins, output_pins, handshake_role}
+
+-- Two roles with one number are one role: a number has its role back.
+abbrev numbered : ℕ → Role
+numbered k = get_or (input ∷ output ∷ INTR ∷ IBF ∷ OBF ∷ STB ∷ ACK ∷ []) k input
+
+numbered-back : (r : Role) → numbered (number r) ≡ r
+numbered-back input = refl
+numbered-back output = refl
+numbered-back INTR = refl
+numbered-back IBF = refl
+numbered-back OBF = refl
+numbered-back STB = refl
+numbered-back ACK = refl
+
+pub number-one : (r s : Role) → number r ≡ number s → r ≡ s
+number-one r s e = sym (numbered-back r) ∙ ap numbered e ∙ numbered-back s
+
+-- A pin in its handshake's role, or free.
+abbrev pub sorted : Bool → Bool → Bool → ℕ → Role
+sorted used out taking n = cond used (handshake_role taking n) (cond out output input)
+
+sorted-by-role : (w n : ℕ) → w < 256 → n < 8 → role_of w n ≡ sorted (is_handshake (role_of w n)) (is_output (role_of w n)) (strobed_input w B) n
+unfolding role_of uses_of free_role strobed_input mode_of input_of upper_input lower_input bit_of
+sorted-by-role w n hw hn =
+    number-one (role_of w n) (sorted (is_handshake (role_of w n)) (is_output (role_of w n)) (strobed_input w B) n)
+    (numbers-of-two 256 8 (λ w n. number (role_of w n))
+    (λ w n. number (sorted (is_handshake (role_of w n)) (is_output (role_of w n)) (strobed_input w B) n)) tt w n hw hn)
+
+-- What the masks say of a pin.
+pub bit-of-handshake : (w n : ℕ) → n < 8 → bit_of (handshake_pins w) n ≡ is_handshake (role_of w n)
+unfolding handshake_pins
+bit-of-handshake w = bit-of-assembled (λ n. is_handshake (role_of w n))
+
+pub bit-of-outputs : (w n : ℕ) → n < 8 → bit_of (output_pins w) n ≡ is_output (role_of w n)
+unfolding output_pins
+bit-of-outputs w = bit-of-assembled (λ n. is_output (role_of w n))
+
+pub role-by-masks : (w n : ℕ) → w < 256 → n < 8
+    → role_of w n ≡ sorted (bit_of (handshake_pins w) n) (bit_of (output_pins w) n) (strobed_input w B) n
+role-by-masks w n hw hn = rw (bit-of-handshake w n hn, bit-of-outputs w n hn) (sorted-by-role w n hw hn)

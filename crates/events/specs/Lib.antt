@@ -1,3 +1,0 @@
-pub mod Kinds
-pub mod Event
-pub mod Histories

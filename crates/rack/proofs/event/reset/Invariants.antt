@@ -1,7 +1,0 @@
--- The loop of `event::reset`: the cores before the index are reset.
-use Rattle.std.proofs.Common.{◌≡◌, map, ◌++◌, take, drop}
-use Rattle.rack.specs.Step.{core_reset}
-use Rattle.rack.proofs.event.reset.Given as goal
-
-abbrev pub invariant-loop-core : goal.invariant-loop-core
-invariant-loop-core l = l.cores ≡ map core_reset (take l.core-index l.initial.cores) ++ drop l.core-index l.initial.cores

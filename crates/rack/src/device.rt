@@ -1,0 +1,87 @@
+//! The rack as a device on its own bus, which numbers the registers of the eight places through.
+ghost use Rattle.std.specs.Prelude.{◌≡◌};
+ghost use Rattle.rack.specs.Step as sheet;
+ghost use Rattle.rack.specs.State.{Cards, place_of, register_of};
+ghost use Rattle.rack.specs.Views.{pins_at};
+
+use super::{CARD_EDITION, PLACES, Rack};
+use bus::devices::Device;
+use bus::{Limits, Phase, Pins};
+use chip::POWER_UP_WORD;
+use std::mem;
+
+// The place of a number, and its register there.
+fn place_of(number: u8) -> usize
+    ensures { result ≡ place_of number }
+{
+    (number % PLACES) as usize
+}
+
+fn register_of(number: u8) -> u8
+    ensures { result ≡ register_of number }
+{
+    number / PLACES
+}
+
+impl Device for Rack {
+    ghost Rest = { Cards };
+
+    ghost device = { sheet.device };
+
+    ghost shown = { pins_at };
+
+    fn phase(&self) -> Phase {
+        self.phase
+    }
+
+    // Each register of a card is there at eight places.
+    fn limits(&self) -> Limits {
+        let card = CARD_EDITION.limits();
+        Limits {
+            addresses: PLACES * card.addresses,
+            readable: PLACES * card.readable,
+            ports: PLACES * card.ports,
+        }
+    }
+
+    fn answer(&self, number: u8) -> u8 {
+        self.chip_at(number % PLACES).answer(register_of(number))
+    }
+
+    fn pins(&self, number: u8) -> Pins {
+        self.chip_at(number % PLACES).pins(register_of(number))
+    }
+
+    // Every place is reset, whether a card is there or not.
+    fn reset(&mut self) {
+        self.phase = Phase::Idle;
+        for core in self.cores.iter_mut() {
+            core.renew(POWER_UP_WORD);
+        }
+    }
+
+    fn begin_read(&mut self, number: u8) {
+        self.phase = Phase::Reading(number);
+        self.cores[place_of(number)].begin_read(register_of(number));
+    }
+
+    fn end_cycle(&mut self) {
+        match mem::replace(&mut self.phase, Phase::Idle) {
+            Phase::Idle => {}
+            Phase::Reading(number) => self.cores[place_of(number)].end_read(register_of(number)),
+            Phase::Writing(number, byte) => {
+                self.cores[place_of(number)].end_write(register_of(number), byte)
+            }
+        }
+    }
+
+    // The byte takes effect at the end.
+    fn begin_write(&mut self, number: u8, byte: u8) {
+        self.phase = Phase::Writing(number, byte);
+    }
+
+    // Levels leave the bus as it is.
+    fn put_levels(&mut self, number: u8, levels: u8) {
+        self.cores[place_of(number)].put_levels(register_of(number), levels);
+    }
+}

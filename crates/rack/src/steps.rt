@@ -1,0 +1,76 @@
+//! One event of the rack: it is for one card, or for every card, and then one of the rack as a device.
+ghost use Rattle.std.specs.Prelude.{◌≡◌, ◌<◌, min};
+ghost use Rattle.bus.specs.Answers.{byte_told};
+ghost use Rattle.rack.specs.Bases.{most_cards};
+ghost use Rattle.rack.specs.State.{number_at};
+ghost use Rattle.rack.specs.Step.{as_stepped, step_of};
+ghost use Rattle.rack.specs.Answers.{given_on_bus, number_told, frame_number_told, stepped};
+
+use super::events::RackEvent;
+use super::refusals::{RackFrameRefusal, RackRefusal};
+use super::{PLACES, Rack};
+use bus::devices;
+use bus::events::Event;
+use chip::CONTROL;
+
+// A register's or a port's number on the bus of the rack. There is no port at control or above, and so one number, which is a byte, stands for
+// all of these.
+fn number(place: u8, register: u8) -> u8
+    requires { place < most_cards }
+    ensures { result ≡ number_at place (min register 3) }
+{
+    PLACES * register.min(CONTROL) + place
+}
+
+#[tactic(auto, unfolding(crate::specs::Step::step_of, crate::specs::Targets::target_of, crate::specs::Targets::target_at, bus::specs::Device::step_in, bus::specs::Refusals::number_of, bus::specs::Kinds::is_kind))]
+impl Rack {
+    // The event on the bus of the rack; nothing where it is for no card.
+    fn placed(&self, event: RackEvent) -> Option<Event>
+        ensures { as_stepped (given_on_bus self.now result) ≡ stepped self.now event }
+    {
+        match event {
+            RackEvent::Reset => Some(Event::Reset),
+            RackEvent::BeginRead(address) => {
+                let (place, register) = self.at_address(address)?;
+                Some(Event::BeginRead(number(place, register)))
+            }
+            RackEvent::EndCycle => Some(Event::EndCycle),
+            RackEvent::BeginWrite(address, byte) => {
+                let (place, register) = self.at_address(address)?;
+                Some(Event::BeginWrite(number(place, register), byte))
+            }
+            RackEvent::OutsideLevels(place, port, levels) => {
+                let (place, port) = self.at_place(place, port)?;
+                Some(Event::OutsideLevels(number(place, port), levels))
+            }
+        }
+    }
+
+    /// One event: the byte of a read, and 00 of any other event; or why it is refused, and then the rack is as it was.
+    pub fn step(&mut self, event: RackEvent) -> Result<u8, RackRefusal>
+        ensures state { self.new ≡ (stepped self.old event).rack }
+        ensures number { number_told result ≡ (stepped self.old event).number }
+        ensures byte { byte_told result ≡ (stepped self.old event).byte }
+    {
+        let event = self.placed(event).ok_or(RackRefusal::NoCard)?;
+        Ok(devices::step(self, event)?)
+    }
+
+    /// The same of an event by its numbers, as scripts and C have it.
+    pub fn step_numbers(
+        &mut self,
+        kind: u8,
+        first: u16,
+        second: u8,
+        third: u8,
+    ) -> Result<u8, RackFrameRefusal>
+        ensures state { self.new ≡ (step_of self.old kind first second third).rack }
+        ensures number { frame_number_told result ≡ (step_of self.old kind first second third).number }
+        ensures byte { byte_told result ≡ (step_of self.old kind first second third).byte }
+    {
+        match RackEvent::numbered(kind, first, second, third) {
+            Some(event) => Ok(self.step(event)?),
+            None => Err(RackFrameRefusal::NoSuchKind),
+        }
+    }
+}

@@ -1,2 +1,0 @@
-pub mod Role
-pub mod Pins

@@ -1,3 +1,0 @@
-pub mod PinByMasks
-pub mod Flags
-pub mod PortsAfter

@@ -1,2 +1,0 @@
-pub mod ModeWord
-pub mod ControlWord

@@ -1,2 +1,0 @@
-pub mod ByReason
-pub mod ByMode

@@ -1,2 +1,0 @@
-pub mod ByMasks
-pub mod PortsAfter
