@@ -6,5 +6,6 @@ pub mod FirstLine
 pub mod Room
 pub mod Opened
 pub mod Enough
+pub mod Shown
 pub mod Written
 pub mod Determined
