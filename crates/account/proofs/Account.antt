@@ -52,7 +52,7 @@ module _ (c : Chip) (a : Account) (k : Agrees c a) where
       by_result (λ r ok. r.byte ≡ cond ok (byte_for a (kind_of e)) 0) c e (answers e.kind e.first e.second) (λ n. refl)
       ∙ sym (ap (λ r. cond (accepts r.edition r.phase (kind_of e)) (byte_for a (kind_of e)) 0) k.surroundings)
 
--- Over a history.
+-- Over a history. The 8355 has an induction of its own: `run` and `over` are other functions there, and no fold that both share.
 agrees-over : (es : List Event) (c : Chip) (a : Account) → Agrees c a → Agrees (run c es) (over a es)
 agrees-over [] c a k = k
 agrees-over (e ∷ es) c a k = agrees-over es (stepped c e).chip (account_next a e) (agrees-next c a e k)

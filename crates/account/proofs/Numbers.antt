@@ -18,7 +18,7 @@ use Rattle.fates.specs.Kinds.{cycle_ended, read_begun, write_begun, new_levels, 
 use Rattle.fates.proofs.Accepted.{no_name}
 use Rattle.account.specs.Acts.{begun, number_by}
 
--- A cycle that begins on the bus, free or not.
+-- A cycle that begins on the bus, free or not. The account has its own `begun`, as that of the 8355 has, so that each says this of its own.
 on-bus : (ph : Phase) → ◌≡◌ {A = ℕ} (cond (is_busy ph) 4 0) (begun ph)
 on-bus Idle = refl
 on-bus (Reading x) = refl

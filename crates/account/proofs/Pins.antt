@@ -11,16 +11,15 @@ use Rattle.bits.proofs.Tested.{bits}
 use Rattle.bits.proofs.BitLaws.{bit-of-assembled}
 use Rattle.bus.specs.Event.{Event}
 use Rattle.control.specs.declared.Group.{Group}
-use Rattle.control.specs.declared.Group.TheVariants.{A, B}
+use Rattle.control.specs.declared.Group.TheVariants.{A}
 use Rattle.channel.specs.declared.Side.{Side}
 use Rattle.channel.specs.declared.Side.TheVariants.{Input, Output}
 use Rattle.chip.specs.declared.Core.{Core}
 use Rattle.chip.specs.declared.Chip.{Chip}
-use Rattle.chip.specs.State.{no_enables}
 use Rattle.chip.specs.Handshakes.{enable_of}
 use Rattle.chip.specs.ModeWord.{after_mode_word}
 use Rattle.chip.specs.ControlWord.{set_as, pin_set, after_control_word}
-use Rattle.chip.proofs.SettingsAfter.{mode-word-latch, mode-word-enables, bit-word, bit-put}
+use Rattle.chip.proofs.SettingsAfter.{mode-word-latch, mode-word-enable, bit-word, bit-put}
 use Rattle.chip.specs.Write.{latch_written, writable}
 use Rattle.chip.specs.Step.{stepped}
 use Rattle.fates.specs.Effects.{strobe_pin}
@@ -40,19 +39,14 @@ no-bit : (n : ℕ) → n < 8 → bit_of 0 n ≡ false
 unfolding bit_of
 no-bit = bits 8 (λ n. bit_of 0 n) (λ n. false) tt
 
-no-enable : (g : Group) (s : Side) → enable_of no_enables g s ≡ false
-no-enable A Input = refl
-no-enable A Output = refl
-no-enable B s = refl
-
 -- Made anew, a core has no bit at any pin; and what keeps latch and enables keeps the bits.
 mode-word-bit : (c : Core) (w n : ℕ) → n < 8 → (r : Signal) → false ≡ bit_here (after_mode_word c w) n r
 mode-word-bit c w n hn io = rw (mode-word-latch c w) (sym (no-bit n hn))
 mode-word-bit c w n hn (INTR g) = refl
 mode-word-bit c w n hn (IBF g) = refl
 mode-word-bit c w n hn (OBF g) = refl
-mode-word-bit c w n hn (STB g) = rw (mode-word-enables c w) (sym (no-enable g Input))
-mode-word-bit c w n hn (ACK g) = rw (mode-word-enables c w) (sym (no-enable g Output))
+mode-word-bit c w n hn (STB g) = sym (mode-word-enable c w g Input)
+mode-word-bit c w n hn (ACK g) = sym (mode-word-enable c w g Output)
 
 pub same_bit : (c' c : Core) → c'.c.latch ≡ c.c.latch → c'.inte ≡ c.inte → (n : ℕ) (r : Signal) → bit_here c' n r ≡ bit_here c n r
 same_bit c' c latch enables n io = ap (λ (l : ℕ). bit_of l n) latch

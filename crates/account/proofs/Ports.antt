@@ -151,6 +151,7 @@ module _ (c : Chip) (g : Group) where
       (under-full (channel_of core g Input) (port_of core g).outside d (eqb x 2) (strobed_input w g) (fallen core.c.outside d (line_pin g Input))
       (own_address x g && lets_through core g)))
 
+  -- Event by event the channel is the one that `ibf-next` finds. What follows of it is by other laws, and no row can be left out.
   pub given-next : (e : Event)
       → given (channel_of (stepped c e).chip.core g Input)
       ≡ given_after (surroundings_here c) g (full (channel_of core g Input)) (given (channel_of core g Input)) (act (surroundings_here c) e)

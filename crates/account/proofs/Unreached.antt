@@ -2,12 +2,8 @@
 -- any history, tells it from the other.
 -- Rests on Words, Moves, Pins, Agrees and Account.
 use mathlib.Core.Path.{◌≡◌, ◌∙◌, refl, ap, sym}
-use mathlib.Core.Bool.{Bool, true, false, cond}
 use mathlib.Core.List.{List}
-use Prim.Native.Nat.{ℕ, ◌+◌, ◌/◌, ◌%◌}
-use native.Mathlib.Omega.{arith}
-use borrow.Author.Tests.{eqb-false}
-use Rattle.bits.specs.Bit.{bit_of}
+use Prim.Native.Nat.{ℕ}
 use Rattle.bus.specs.Event.{Event}
 use Rattle.control.specs.declared.Group.{Group}
 use Rattle.control.specs.declared.Group.TheVariants.{A, B}
@@ -19,7 +15,7 @@ use Rattle.account.specs.Summary.{signal_at}
 use Rattle.account.specs.Account.{Account}
 use Rattle.account.specs.Promise.{with_bit7, surroundings_here, bit_here, account_of, Accounted}
 use Rattle.account.specs.Unreached.{with_condition, with_word, SameSight}
-use Rattle.account.proofs.Words.{signal_alike, with-bit-7-alike}
+use Rattle.account.proofs.Words.{signal_alike, with-bit-7-alike, with-bit-7-set}
 use Rattle.account.proofs.Moves.{full, vacant, given}
 use Rattle.account.proofs.Pins.{same_bit}
 use Rattle.account.proofs.Agrees.{Agrees, agrees-of}
@@ -80,22 +76,11 @@ agrees-empty c B = agrees_like (with_condition c B Fetching) (with_condition c B
 pub mark-unseen : (c : Chip) (g : Group) (es : List Event) → SameSight (with_condition c g Fetching) (with_condition c g Empty) es
 mark-unseen c g = same-account (with_condition c g Fetching) (with_condition c g Empty) (agrees-empty c g)
 
--- A word in which bit 7 counts as set has it set.
-seventh : (w : ℕ) → bit_of w 7 ≡ false → bit_of (w + 128) 7 ≡ true
-unfolding bit_of
-seventh w clear = let h = eqb-false (w / 128 % 2) 1 clear in let one : (w + 128) / 128 % 2 ≡ 1 = omega (arith, h) in rw (one)
-
-counted-set : (w : ℕ) → bit_of (with_bit7 w) 7 ≡ true
-counted-set w = go (bit_of w 7) refl
-  where
-    go : (b : Bool) → bit_of w 7 ≡ b → bit_of (cond b w (w + 128)) 7 ≡ true
-    go true e = e
-    go false e = seventh w e
-
+-- A word with bit 7 counted as set.
 pub bit-7-unseen : (c : Chip) (w : ℕ) (es : List Event) → SameSight (with_word c w) (with_word c (with_bit7 w)) es
 bit-7-unseen c w =
     same-account (with_word c w) (with_word c (with_bit7 w))
-    (agrees_like (with_word c w) (with_word c (with_bit7 w)) (rw (counted-set w)) (λ n. refl) refl refl same)
+    (agrees_like (with_word c w) (with_word c (with_bit7 w)) (rw (with-bit-7-set w)) (λ n. refl) refl refl same)
   where
     same : (h : Group) → SameChannels (with_word c w) (with_word c (with_bit7 w)) h
     same A = record { output = refl; input = refl; ibf = refl; obf = refl; given = refl }

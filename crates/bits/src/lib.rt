@@ -1,10 +1,10 @@
-// Bits of a byte, by shifts and masks: one taken, one put, eight assembled, two bytes blended under a mask; and two bytes as a number.
+//! Bits of a byte, by shifts and masks: one taken, one put, eight assembled, and two bytes blended under a mask.
 #![tactic(auto)]
 
-ghost use Rattle.std.specs.Prelude.{◌≡◌, cond, ◌+◌, ◌*◌};
+ghost use Rattle.std.specs.Prelude.{◌≡◌, cond};
 ghost use Rattle.bits.specs.Bit.{bit_of, with_bit, byte_of, blend_of};
 
-// Whether bit n of x is set. A byte has no bit above 7, so none is set there.
+/// Whether bit n of x is set. A byte has no bit above 7, so none is set there.
 pub fn bit(x: u8, n: u8) -> bool
     ensures { result ≡ bit_of x n }
 {
@@ -14,7 +14,7 @@ pub fn bit(x: u8, n: u8) -> bool
     (x >> n) & 1 == 1
 }
 
-// x with bit n put to on; x itself where n is above 7.
+/// x with bit n put to on; x itself where n is above 7.
 pub fn with_bit(x: u8, n: u8, on: bool) -> u8
     ensures { result ≡ with_bit x n on }
 {
@@ -24,7 +24,7 @@ pub fn with_bit(x: u8, n: u8, on: bool) -> u8
     blend(1 << n, choose(on, 0xff, 0), x)
 }
 
-// The byte of which these are the bits 7 to 0.
+/// The byte of which these are the bits 7 to 0.
 pub fn byte(h: bool, g: bool, f: bool, e: bool, d: bool, c: bool, b: bool, a: bool) -> u8
     ensures { result ≡ byte_of h g f e d c b a }
 {
@@ -38,21 +38,14 @@ pub fn byte(h: bool, g: bool, f: bool, e: bool, d: bool, c: bool, b: bool, a: bo
         | (a as u8)
 }
 
-// The bits of x where the mask has a one, and those of y elsewhere.
+/// The bits of x where the mask has a one, and those of y elsewhere.
 pub fn blend(mask: u8, x: u8, y: u8) -> u8
     ensures { result ≡ blend_of mask x y }
 {
     (x & mask) | (y & !mask)
 }
 
-// The number of two bytes.
-pub fn pair(low: u8, high: u8) -> u16
-    ensures { result ≡ low + 256 * high }
-{
-    (low as u16) + 256 * (high as u16)
-}
-
-// One of two bytes, so that what stands above has no branch of its own.
+/// One of two bytes. Callers have no branch of their own, so that their proofs have one path.
 pub fn choose(on: bool, yes: u8, no: u8) -> u8
     ensures { result ≡ cond on yes no }
 {

@@ -1,18 +1,23 @@
 -- The numbers that are kinds, and those that are none: what holds of each of the five, and of every number that is none, holds of every
 -- number.
 -- Rests on bits' Logic.
-use mathlib.Core.Path.{◌≡◌, refl, subst}
-use mathlib.Core.Bool.{true, false, ◌||◌}
+use mathlib.Core.Path.{◌≡◌, ◌∙◌, refl, ap, subst, sym}
+use mathlib.Core.Bool.{true, false, cond, not, not-not}
 use mathlib.Core.List.{[], ◌∷◌}
 use Prim.Native.Nat.{ℕ, zero, suc, ◌<◌}
 use native.Mathlib.Omega.{arith}
-use lib.Dec.{eqb, leb}
+use lib.Dec.{eqb}
 use lib.ListN.{get_or}
-use borrow.Author.Tests.{ne_eqb, lt-leb}
+use borrow.Author.Tests.{ne_eqb}
 use Rattle.bits.proofs.Logic.{contrary}
-use Rattle.bus.specs.Kinds.{is_kind, no_kind}
+use Rattle.std.specs.Prelude.{Some, None, unwrap_or}
+use Rattle.std.proofs.lemmas.Option.{none-some}
+use Rattle.bus.specs.Kinds.{reset, begin_read, end_cycle, begin_write, outside_levels, is_kind, no_kind}
+use Rattle.bus.specs.Answers.{kind_number, kind_numbered}
+use Rattle.bus.specs.declared.kinds.Kind.{Kind}
+use Rattle.bus.specs.declared.kinds.Kind.TheVariants.{Reset, BeginRead, EndCycle, BeginWrite, OutsideLevels}
 
-none_above : (k : ℕ) → 5 < k → is_kind k ≡ false
+pub none_above : (k : ℕ) → 5 < k → is_kind k ≡ false
 unfolding is_kind
 none_above k above =
     rw (
@@ -34,18 +39,12 @@ by_kind P reset begin end write levels none (suc (suc (suc (suc (suc zero))))) =
 by_kind P reset begin end write levels none (suc (suc (suc (suc (suc (suc k)))))) =
     let n = suc (suc (suc (suc (suc (suc k))))) in none n (rw (none_above n (omega arith)))
 
--- The kinds are those up to 03, and 05.
-pub kinds-below : (k : ℕ) → (leb k 3 || eqb k 5) ≡ is_kind k
-unfolding is_kind
-kinds-below zero = refl
-kinds-below (suc zero) = refl
-kinds-below (suc (suc zero)) = refl
-kinds-below (suc (suc (suc zero))) = refl
-kinds-below (suc (suc (suc (suc zero)))) = refl
-kinds-below (suc (suc (suc (suc (suc zero))))) = refl
-kinds-below (suc (suc (suc (suc (suc (suc k)))))) =
-    let n = suc (suc (suc (suc (suc (suc k))))) in
-    rw (none_above n (omega arith), lt-leb n 3 (omega arith), ne_eqb n 5 (λ e. omega (arith, e)))
+-- What holds of each of the five holds of every kind.
+pub by_known_kind : (P : ℕ → Type 0) → P 0 → P 1 → P 2 → P 3 → P 5 → (k : ℕ) → is_kind k ≡ true → P k
+by_known_kind P reset begin end write levels =
+    by_kind (λ k. is_kind k ≡ true → P k)
+    (λ is. reset) (λ is. begin) (λ is. end) (λ is. write) (λ is. levels)
+    (λ k none is. absurd (contrary (no_kind k) (rw (is)) none))
 
 -- What is no kind is none of them.
 pub no-kind-differs : (k j : ℕ) → no_kind k ≡ true → is_kind j ≡ true → eqb k j ≡ false
@@ -65,7 +64,37 @@ no_row reset begin end write none levels (suc (suc (suc (suc (suc (suc k)))))) o
 
 -- Every kind is below 06.
 pub kind-small : (k : ℕ) → is_kind k ≡ true → k < 6
-kind-small =
-    by_kind (λ k. is_kind k ≡ true → k < 6)
-    (λ is. omega arith) (λ is. omega arith) (λ is. omega arith) (λ is. omega arith) (λ is. omega arith)
-    (λ k none is. absurd (contrary (no_kind k) (rw (is)) none))
+kind-small = by_known_kind (λ k. k < 6) (omega arith) (omega arith) (omega arith) (omega arith) (omega arith)
+
+-- What is chosen by the five kinds in turn is for what is no kind the last choice.
+pub last-choice : {A : Type 0} (r b e w l last : A) (k : ℕ) → no_kind k ≡ true
+    → cond (eqb k reset) r (cond (eqb k begin_read) b (cond (eqb k end_cycle) e (cond (eqb k begin_write) w (cond (eqb k outside_levels) l last)))) ≡ last
+unfolding is_kind
+last-choice r b e w l last k none =
+    rw (
+      no-kind-differs k reset none refl,
+      no-kind-differs k begin_read none refl,
+      no-kind-differs k end_cycle none refl,
+      no-kind-differs k begin_write none refl,
+      no-kind-differs k outside_levels none refl,
+    )
+
+-- A number that has a kind is that kind's, and is a kind; one that has none is no kind.
+pub kind-back : (n : ℕ) (k : Kind) → Some k ≡ kind_numbered n → (kind_number k ≡ n) × (is_kind n ≡ true)
+unfolding is_kind
+kind-back =
+    by_kind (λ n. (k : Kind) → Some k ≡ kind_numbered n → (kind_number k ≡ n) × (is_kind n ≡ true))
+    (λ k e. (ap (λ o. kind_number (unwrap_or o Reset)) e, refl))
+    (λ k e. (ap (λ o. kind_number (unwrap_or o BeginRead)) e, refl))
+    (λ k e. (ap (λ o. kind_number (unwrap_or o EndCycle)) e, refl))
+    (λ k e. (ap (λ o. kind_number (unwrap_or o BeginWrite)) e, refl))
+    (λ k e. (ap (λ o. kind_number (unwrap_or o OutsideLevels)) e, refl))
+    (λ n none k e. absurd (none-some k (sym (e ∙ last-choice _ _ _ _ _ None n none))))
+
+pub none-back : (n : ℕ) → None ≡ kind_numbered n → is_kind n ≡ false
+unfolding is_kind
+none-back =
+    by_kind (λ n. None ≡ kind_numbered n → is_kind n ≡ false)
+    (λ e. absurd (none-some Reset e)) (λ e. absurd (none-some BeginRead e)) (λ e. absurd (none-some EndCycle e))
+    (λ e. absurd (none-some BeginWrite e)) (λ e. absurd (none-some OutsideLevels e))
+    (λ n none e. sym (not-not (is_kind n)) ∙ ap not none)

@@ -3,7 +3,7 @@
 use mathlib.Core.Path.{◌≡◌, ◌∙◌, refl, ap, ap₂}
 use Rattle.std.specs.Prelude.{cond, ℕ, eqb, Result, Ok, Err}
 use Rattle.bits.proofs.Determined.{Determines, equation-determines, equations-determine}
-use Rattle.bus.specs.Answers.{number_told, frame_number_told, byte_told}
+use Rattle.bus.specs.Answers.{refusal_number, frame_number, number_told, byte_told}
 use Rattle.bus.specs.declared.refusals.Refusal.{Refusal}
 use Rattle.bus.specs.declared.refusals.Refusal.TheVariants.{OutOfRange, NotReadable, CycleRuns, NoCycleRuns}
 use Rattle.bus.specs.declared.refusals.FrameRefusal.{FrameRefusal}
@@ -12,30 +12,30 @@ use Rattle.bus.specs.contracts as bus_says
 use Rattle.bus.proofs as bus
 
 -- The refusal that has a number, and the answer that tells a number and has a value where it was accepted.
-abbrev refusal_of : ℕ → Refusal
+abbrev pub refusal_of : ℕ → Refusal
 refusal_of n = cond (eqb n 2) OutOfRange (cond (eqb n 3) NotReadable (cond (eqb n 4) CycleRuns NoCycleRuns))
 
-abbrev frame_of : ℕ → FrameRefusal
+abbrev pub frame_of : ℕ → FrameRefusal Refusal
 frame_of n = cond (eqb n 1) NoSuchKind (Event (refusal_of n))
 
-abbrev answer_of : {A E : Type 0} → (ℕ → E) → ℕ → A → Result A E
+abbrev pub answer_of : {A E : Type 0} → (ℕ → E) → ℕ → A → Result A E
 answer_of refusal n a = cond (eqb n 0) (Ok a) (Err (refusal n))
 
-judged-so : (r : Result (Unit {0}) Refusal) → r ≡ answer_of refusal_of (number_told r) tt
+judged-so : (r : Result (Unit {0}) Refusal) → r ≡ answer_of refusal_of (number_told refusal_number r) tt
 judged-so (Ok tt) = refl
 judged-so (Err OutOfRange) = refl
 judged-so (Err NotReadable) = refl
 judged-so (Err CycleRuns) = refl
 judged-so (Err NoCycleRuns) = refl
 
-told-so : (r : Result ℕ Refusal) → r ≡ answer_of refusal_of (number_told r) (byte_told r)
+told-so : (r : Result ℕ Refusal) → r ≡ answer_of refusal_of (number_told refusal_number r) (byte_told r)
 told-so (Ok b) = refl
 told-so (Err OutOfRange) = refl
 told-so (Err NotReadable) = refl
 told-so (Err CycleRuns) = refl
 told-so (Err NoCycleRuns) = refl
 
-frame-told-so : (r : Result ℕ FrameRefusal) → r ≡ answer_of frame_of (frame_number_told r) (byte_told r)
+pub frame-told-so : (r : Result ℕ (FrameRefusal Refusal)) → r ≡ answer_of frame_of (number_told (frame_number refusal_number) r) (byte_told r)
 frame-told-so (Ok b) = refl
 frame-told-so (Err NoSuchKind) = refl
 frame-told-so (Err (Event OutOfRange)) = refl
@@ -43,20 +43,34 @@ frame-told-so (Err (Event NotReadable)) = refl
 frame-told-so (Err (Event CycleRuns)) = refl
 frame-told-so (Err (Event NoCycleRuns)) = refl
 
-pub is-kind-determined : Determines bus_says.kinds.is_kind.ended bus.kinds.is_kind.Reads.Learnt
-is-kind-determined c x y = equation-determines
+pub kind-numbered-determined : Determines bus_says.kinds.Kind.numbered.ended bus.kinds.Kind.numbered.Reads.Learnt
+kind-numbered-determined c x y = equation-determines
 
-pub operands-determined : Determines bus_says.kinds.operands.ended bus.kinds.operands.Reads.Learnt
-operands-determined c x y = equation-determines
+pub kind-number-determined : Determines bus_says.kinds.Kind.number.ended bus.kinds.Kind.number.Reads.Learnt
+kind-number-determined c x y = equation-determines
+
+pub kind-operands-determined : Determines bus_says.kinds.Kind.operands.ended bus.kinds.Kind.operands.Reads.Learnt
+kind-operands-determined c x y = equation-determines
 
 pub numbered-determined : Determines bus_says.events.Event.numbered.ended bus.events.Event.numbered.Reads.Learnt
 numbered-determined c x y = equation-determines
 
-pub refusal-number-determined : Determines bus_says.refusals.Refusal.number.ended bus.refusals.Refusal.number.Reads.Learnt
+pub refusal-number-determined : Determines bus_says.refusals.RefusalNumbered.number.ended bus.refusals.RefusalNumbered.number.Reads.Learnt
 refusal-number-determined c x y = equation-determines
 
-pub frame-number-determined : Determines bus_says.refusals.FrameRefusal.number.ended bus.refusals.FrameRefusal.number.Reads.Learnt
-frame-number-determined c x y = equation-determines
+pub number-determined
+    : (T : _) (lT : _) (R : _) (lR : _) (copy : _) (G : _) (t : _) (H : _) (u : _)
+    → Determines (bus_says.refusals.number.ended T R G t H u) (bus.refusals.number.Reads.Learnt T R lT lR copy G t H u)
+number-determined T lT R lR copy G t H u c x y = equation-determines
+
+pub frame-number-determined
+    : (R : _) (lR : _) (copy : _) (G : _) (t : _) (H : _) (u : _)
+    → Determines (bus_says.refusals.FrameRefusalNumbered.number.ended R G t H u) (bus.refusals.FrameRefusalNumbered.number.Reads.Learnt R lR copy G t H u)
+frame-number-determined R lR copy G t H u c x y = equation-determines
+
+pub frame-refusal-from-determined
+    : (R : _) (lR : _) → Determines (bus_says.refusals.FrameRefusalFrom.from.ended R) (bus.refusals.FrameRefusalFrom.from.Reads.Learnt R lR)
+frame-refusal-from-determined R lR c x y = equation-determines
 
 pub judge-determined : Determines bus_says.refusals.judge.ended bus.refusals.judge.Reads.Learnt
 judge-determined c x y p q =

@@ -1,5 +1,5 @@
 -- The phase of any device goes by the events alone: after any history it is what its limits and the events say.
--- Rests on Outcomes and events' ByKind.
+-- Rests on Outcomes and ByKind.
 use mathlib.Core.Path.{◌≡◌, ◌∙◌, refl, ap}
 use mathlib.Core.Bool.{Bool, true, false, cond, not, ◌&&◌, ◌||◌, or-false}
 use mathlib.Core.List.{List, [], ◌∷◌}
@@ -18,34 +18,34 @@ use Rattle.bus.specs.Cycles.{is_accepted, phase_after, phase_over}
 use Rattle.bus.proofs.Outcomes.{outcomes, either}
 
 -- What is accepted in those words has the number 0 by the table, and nothing else has.
-reads : (there readable busy : Bool) → (there && (readable && not busy)) ≡ eqb (cond (not there || false) 2 (cond (not readable) 3 (cond busy 4 0))) 0
-reads false readable busy = refl
-reads true false busy = refl
-reads true true false = refl
-reads true true true = refl
+pub reads-accept : (there readable busy : Bool) → (there && (readable && not busy)) ≡ eqb (cond (not there || false) 2 (cond (not readable) 3 (cond busy 4 0))) 0
+reads-accept false readable busy = refl
+reads-accept true false busy = refl
+reads-accept true true false = refl
+reads-accept true true true = refl
 
-writes : (there busy : Bool) → (there && not busy) ≡ eqb (cond (not there || false) 2 (cond busy 4 0)) 0
-writes false busy = refl
-writes true false = refl
-writes true true = refl
+pub writes-accept : (there busy : Bool) → (there && not busy) ≡ eqb (cond (not there || false) 2 (cond busy 4 0)) 0
+writes-accept false busy = refl
+writes-accept true false = refl
+writes-accept true true = refl
 
-levels : (there : Bool) → there ≡ eqb (cond (not there) 2 0) 0
-levels false = refl
-levels true = refl
+pub levels-accept : (there : Bool) → there ≡ eqb (cond (not there) 2 0) 0
+levels-accept false = refl
+levels-accept true = refl
 
-ends : (busy : Bool) → (busy || false) ≡ eqb (cond (not busy) 5 0) 0
-ends false = refl
-ends true = refl
+ends-accept : (busy : Bool) → (busy || false) ≡ eqb (cond (not busy) 5 0) 0
+ends-accept false = refl
+ends-accept true = refl
 
 accepted-so : (l : Limits) (ph : Phase) (k x : ℕ) → is_accepted l ph k x ≡ eqb (number_of l ph k x) 0
 unfolding number_of is_kind
 accepted-so l ph k x =
     by_kind (λ k. is_accepted l ph k x ≡ eqb (number_of l ph k x) 0)
     refl
-    (rw (or-false _) (reads (ltb x l.addresses) (ltb x l.readable) (is_busy ph)))
-    (ends (is_busy ph))
-    (rw (or-false _) (writes (ltb x l.addresses) (is_busy ph)))
-    (levels (ltb x l.ports))
+    (rw (or-false _) (reads-accept (ltb x l.addresses) (ltb x l.readable) (is_busy ph)))
+    (ends-accept (is_busy ph))
+    (rw (or-false _) (writes-accept (ltb x l.addresses) (is_busy ph)))
+    (levels-accept (ltb x l.ports))
     (λ k none. rw (
       no-kind-differs k 0 none refl,
       no-kind-differs k 1 none refl,

@@ -4,12 +4,31 @@ use Rattle.bus.specs.Kinds as kinds
 use Rattle.bus.specs.Event as frames
 use Rattle.bus.specs.Device as rules
 use Rattle.bus.specs.Device.{Given, step_in}
+use Rattle.bus.specs.declared.kinds.Kind as kind
+use Rattle.bus.specs.declared.kinds.Kind.{Kind}
 use Rattle.bus.specs.declared.events.Event.{Event}
 use Rattle.bus.specs.declared.events.Event.TheVariants.{Reset, BeginRead, EndCycle, BeginWrite, OutsideLevels}
 use Rattle.bus.specs.declared.refusals.Refusal.{Refusal}
 use Rattle.bus.specs.declared.refusals.Refusal.TheVariants.{OutOfRange, NotReadable, CycleRuns, NoCycleRuns}
 use Rattle.bus.specs.declared.refusals.FrameRefusal as frame
 use Rattle.bus.specs.declared.refusals.FrameRefusal.{FrameRefusal}
+
+-- The kinds by their numbers, and the kind that a number names, if there is such a kind.
+abbrev pub kind_number : Kind → ℕ
+kind_number kind.TheVariants.Reset = kinds.reset
+kind_number kind.TheVariants.BeginRead = kinds.begin_read
+kind_number kind.TheVariants.EndCycle = kinds.end_cycle
+kind_number kind.TheVariants.BeginWrite = kinds.begin_write
+kind_number kind.TheVariants.OutsideLevels = kinds.outside_levels
+
+abbrev pub kind_numbered : ℕ → Option Kind
+kind_numbered k =
+    cond (eqb k kinds.reset) (Some kind.TheVariants.Reset)
+    (cond (eqb k kinds.begin_read) (Some kind.TheVariants.BeginRead)
+    (cond (eqb k kinds.end_cycle) (Some kind.TheVariants.EndCycle)
+    (cond (eqb k kinds.begin_write) (Some kind.TheVariants.BeginWrite)
+    (cond (eqb k kinds.outside_levels) (Some kind.TheVariants.OutsideLevels)
+    None))))
 
 -- An event by its three numbers; the operands that its kind lacks are zeros.
 abbrev pub raw : Event → frames.Event
@@ -37,19 +56,15 @@ refusal_number NotReadable = 3
 refusal_number CycleRuns = 4
 refusal_number NoCycleRuns = 5
 
--- 1 stands before them: there is no such kind.
-abbrev pub frame_number : FrameRefusal → ℕ
-frame_number frame.TheVariants.NoSuchKind = 1
-frame_number (frame.TheVariants.Event r) = refusal_number r
+-- Of a frame 1 stands before the numbers of its event: there is no such kind.
+abbrev pub frame_number : {R : Type 0} → (R → ℕ) → FrameRefusal R → ℕ
+frame_number n frame.TheVariants.NoSuchKind = 1
+frame_number n (frame.TheVariants.Event r) = n r
 
--- The number that an answer tells: 0 where the event was accepted.
-abbrev pub number_told : {A : Type 0} → Result A Refusal → ℕ
-number_told (Ok a) = 0
-number_told (Err r) = refusal_number r
-
-abbrev pub frame_number_told : {A : Type 0} → Result A FrameRefusal → ℕ
-frame_number_told (Ok a) = 0
-frame_number_told (Err r) = frame_number r
+-- The number that an answer tells, by the numbers of its refusals: 0 where the event was accepted.
+abbrev pub number_told : {A R : Type 0} → (R → ℕ) → Result A R → ℕ
+number_told n (Ok a) = 0
+number_told n (Err r) = n r
 
 -- The byte that an answer tells: 00 where the event was refused.
 abbrev pub byte_told : {E : Type 0} → Result ℕ E → ℕ

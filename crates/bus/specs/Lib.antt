@@ -4,6 +4,7 @@ pub mod Histories
 pub mod Refusals
 pub mod Device
 pub mod Answers
+pub mod Never0
 pub mod Numbered
 pub mod Cycles
 pub mod Begun

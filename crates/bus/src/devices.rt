@@ -3,14 +3,15 @@ ghost use Rattle.std.specs.Prelude.{◌≡◌, ℕ};
 ghost use Rattle.bus.specs.Device as rules;
 ghost use Rattle.bus.specs.Device.{step_in, reset_in, read_begun_in, cycle_ended_in, write_begun_in, levels_put_in};
 ghost use Rattle.bus.specs.Facts.{Facts};
-ghost use Rattle.bus.specs.Answers.{given_for, number_told, byte_told, frame_number_told};
+ghost use Rattle.bus.specs.Answers.{given_for, refusal_number, frame_number, number_told, byte_told};
 ghost use Rattle.bus.specs.declared.Pins.{Pins};
 
 use crate::events::Event;
 use crate::refusals::{FrameRefusal, Refusal, judge};
 use crate::{Limits, Phase, Pins};
 
-/// A device on the bus.
+/// A device on the bus. Each says `phase` and the beginning of a write for itself, in one line: it keeps what runs there in a field, and a
+/// method that lends the field would be another one to write for each.
 pub trait Device {
     /// All of the device but what runs on the bus.
     ghost Rest: { Type 0 };
@@ -62,7 +63,7 @@ pub trait Device {
 #[tactic(auto, unfolding(crate::specs::Device::step_in))]
 pub fn step<D: Device>(device: &mut D, event: Event) -> Result<u8, Refusal>
     ensures state { device.new ≡ (given_for D.device device.old event).state }
-    ensures number { number_told result ≡ (given_for D.device device.old event).number }
+    ensures number { number_told refusal_number result ≡ (given_for D.device device.old event).number }
     ensures byte { byte_told result ≡ (given_for D.device device.old event).byte }
 {
     judge(device.limits(), device.phase(), event)?;
@@ -87,9 +88,9 @@ pub fn step_numbers<D: Device>(
     kind: u8,
     first: u8,
     second: u8,
-) -> Result<u8, FrameRefusal>
+) -> Result<u8, FrameRefusal<Refusal>>
     ensures state { device.new ≡ (step_in D.device device.old kind first second).state }
-    ensures number { frame_number_told result ≡ (step_in D.device device.old kind first second).number }
+    ensures number { number_told (frame_number refusal_number) result ≡ (step_in D.device device.old kind first second).number }
     ensures byte { byte_told result ≡ (step_in D.device device.old kind first second).byte }
 {
     match Event::numbered(kind, first, second) {
@@ -101,6 +102,7 @@ pub fn step_numbers<D: Device>(
 /// The facts about cycles hold of every device in every state: the number of an event is that of the first row of the table of refusals
 /// that applies, a refusal changes nothing, places and the running cycle decide what is accepted, and after any history the phase follows
 /// from the events alone.
+// A function, so that the theorem is a contract, and is read with the others.
 pub fn facts_about_cycles<D: Device>()
     ensures { (s : D) → Facts D.device (D.device.limits (D.device.rest s)) s }
 {}

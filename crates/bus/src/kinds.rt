@@ -1,35 +1,50 @@
-//! The kinds of events by number, and how many operands each has. 04 is no kind.
+//! The kinds of events, their numbers, and how many operands each has. 04 is no kind.
 ghost use Rattle.std.specs.Prelude.{◌≡◌};
-ghost use Rattle.bus.specs.Kinds.{is_kind, operands_of};
+ghost use Rattle.bus.specs.Kinds.{operands_of};
+ghost use Rattle.bus.specs.Answers.{kind_number, kind_numbered};
 
-pub const RESET: u8 = 0;
-
-pub const BEGIN_READ: u8 = 1;
-
-pub const END_CYCLE: u8 = 2;
-
-pub const BEGIN_WRITE: u8 = 3;
-
-pub const OUTSIDE_LEVELS: u8 = 5;
-
-/// Whether there is such a kind. The number may be no byte: what is read of a text or of a packed word can be more.
-#[tactic(auto, unfolding(crate::specs::Kinds::is_kind))]
-pub fn is_kind(number: u16) -> bool
-    ensures { result ≡ is_kind number }
-{
-    (number <= BEGIN_WRITE as u16) | (number == OUTSIDE_LEVELS as u16)
+/// A kind of event, with the number that scripts and C have for it.
+#[derive(Clone, Copy, Debug, PartialEq, Eq)]
+pub enum Kind {
+    Reset = 0,
+    BeginRead = 1,
+    EndCycle = 2,
+    BeginWrite = 3,
+    OutsideLevels = 5,
 }
 
-/// How many operands an event of the kind has; none where there is no such kind.
-#[tactic(auto, unfolding(crate::specs::Kinds::operands_of))]
-pub fn operands(number: u16) -> u8
-    ensures { result ≡ operands_of number }
-{
-    if number == BEGIN_READ as u16 {
-        return 1;
+impl Kind {
+    /// The kind of a number; `None` where there is no such kind. The number may be no byte: what is read of a packed word can be more.
+    // An `Option` and no `TryFrom`: that there is no such kind is all that there is to tell, and each caller has its own refusal for it.
+    pub fn numbered(number: u16) -> Option<Kind>
+        ensures { result ≡ kind_numbered number }
+    {
+        match number {
+            0 => Some(Kind::Reset),
+            1 => Some(Kind::BeginRead),
+            2 => Some(Kind::EndCycle),
+            3 => Some(Kind::BeginWrite),
+            5 => Some(Kind::OutsideLevels),
+            _ => None,
+        }
     }
-    if (number == BEGIN_WRITE as u16) | (number == OUTSIDE_LEVELS as u16) {
-        return 2;
+
+    /// The number of the kind.
+    pub fn number(self) -> u8
+        ensures { result ≡ kind_number self }
+    {
+        self as u8
     }
-    0
+
+    /// How many operands an event of the kind has.
+    #[tactic(auto, unfolding(crate::specs::Kinds::operands_of))]
+    pub fn operands(self) -> u8
+        ensures { result ≡ operands_of (kind_number self) }
+    {
+        match self {
+            Kind::Reset | Kind::EndCycle => 0,
+            Kind::BeginRead => 1,
+            Kind::BeginWrite | Kind::OutsideLevels => 2,
+        }
+    }
 }

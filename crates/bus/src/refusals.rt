@@ -1,51 +1,72 @@
 //! Why an event is refused, and the numbers that scripts and C have for it.
-ghost use Rattle.std.specs.Prelude.{◌≡◌};
+ghost use Rattle.std.specs.Prelude.{◌≡◌, ℕ};
 ghost use Rattle.bus.specs.Refusals.{is_busy, number_of};
 ghost use Rattle.bus.specs.Answers.{raw, refusal_number, frame_number, number_told};
+ghost use Rattle.bus.specs.Never0.{Never0, refusal-never-0, frame-never-0};
 ghost use Rattle.bus.specs.declared.refusals.FrameRefusal.TheVariants as frames;
 
 use crate::events::Event;
 use crate::{Limits, Phase};
 
+/// A refusal with a number, by which scripts and C know it.
+pub trait Numbered: Copy {
+    /// The number of each refusal.
+    ghost number_of: { Self → ℕ };
+
+    /// None of them is 0, which says that an event was accepted.
+    ghost never_0: { Never0 number_of };
+
+    /// The number of the refusal.
+    fn number(&self) -> u8
+        ensures { result ≡ number_of self.now };
+}
+
+/// The number of an answer: that of its refusal, and 0 where there is none.
+pub fn number<T, R: Numbered>(answer: &Result<T, R>) -> u8
+    ensures { result ≡ number_told R.number_of answer.now }
+{
+    match answer {
+        Ok(_) => 0,
+        Err(refusal) => refusal.number(),
+    }
+}
+
 /// Why a device refuses an event.
 #[derive(Clone, Copy, Debug, PartialEq, Eq)]
 pub enum Refusal {
     /// There is no such address or port.
-    OutOfRange,
+    OutOfRange = 2,
     /// The address cannot be read.
-    NotReadable,
+    NotReadable = 3,
     /// A cycle begins while another runs.
-    CycleRuns,
+    CycleRuns = 4,
     /// A cycle ends while none runs.
-    NoCycleRuns,
+    NoCycleRuns = 5,
 }
 
-impl Refusal {
-    /// The number of the refusal.
-    pub fn number(self) -> u8
-        ensures { result ≡ refusal_number self }
-    {
-        match self {
-            Refusal::OutOfRange => 2,
-            Refusal::NotReadable => 3,
-            Refusal::CycleRuns => 4,
-            Refusal::NoCycleRuns => 5,
-        }
+impl Numbered for Refusal {
+    ghost number_of = { refusal_number };
+
+    ghost never_0 = { refusal-never-0 };
+
+    fn number(&self) -> u8 {
+        *self as u8
     }
 }
 
-/// Why a frame, which names the kind of an event by number, is refused: there is no such kind, or the device refuses the event.
+/// Why a frame, which names the kind of an event by number, is refused: there is no such kind, or whoever it is for refuses the event.
 #[derive(Clone, Copy, Debug, PartialEq, Eq)]
-pub enum FrameRefusal {
+pub enum FrameRefusal<R> {
     NoSuchKind,
-    Event(Refusal),
+    Event(R),
 }
 
-impl FrameRefusal {
-    /// The number of the refusal.
-    pub fn number(self) -> u8
-        ensures { result ≡ frame_number self }
-    {
+impl<R: Numbered> Numbered for FrameRefusal<R> {
+    ghost number_of = { frame_number R.number_of };
+
+    ghost never_0 = { frame-never-0 R.number_of R.never_0 };
+
+    fn number(&self) -> u8 {
         match self {
             FrameRefusal::NoSuchKind => 1,
             FrameRefusal::Event(refusal) => refusal.number(),
@@ -53,10 +74,10 @@ impl FrameRefusal {
     }
 }
 
-impl From<Refusal> for FrameRefusal {
+impl<R> From<R> for FrameRefusal<R> {
     ghost from_gives = { λ refusal given. given ≡ frames.Event refusal };
 
-    fn from(refusal: Refusal) -> Self {
+    fn from(refusal: R) -> Self {
         FrameRefusal::Event(refusal)
     }
 }
@@ -70,7 +91,7 @@ fn is_busy(phase: Phase) -> bool
 /// Whether an event is accepted under these limits while this runs on the bus, and why not.
 #[tactic(auto, unfolding(crate::specs::Refusals::number_of, crate::specs::Kinds::is_kind))]
 pub fn judge(limits: Limits, phase: Phase, event: Event) -> Result<(), Refusal>
-    ensures { number_told result ≡ number_of limits phase (raw event).kind (raw event).first }
+    ensures { number_told refusal_number result ≡ number_of limits phase (raw event).kind (raw event).first }
 {
     match event {
         Event::Reset => Ok(()),

@@ -30,3 +30,6 @@ towanchor-tally-determined c x y = equation-determines
 
 pub towanchor-explain-determined : Determines calls_says.towanchor_explain.ended calls.towanchor_explain.Reads.Learnt
 towanchor-explain-determined c x y = equation-determines
+
+pub refusal-number-determined : Determines calls_says.refusals.CallRefusalNumbered.number.ended calls.refusals.CallRefusalNumbered.number.Reads.Learnt
+refusal-number-determined c x y = equation-determines

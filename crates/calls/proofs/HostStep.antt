@@ -1,5 +1,5 @@
 -- The step of an image is the step: what it leaves is the image of the state after, refusals included, and bad bytes are left alone.
--- Rests on SameBytes, and on the outcomes of a step (step's Outcome).
+-- Rests on image's SameBytes and chip's Outcome.
 use mathlib.Core.Path.{◌≡◌, ◌∙◌, refl, ap, sym, subst}
 use mathlib.Core.Bool.{Bool, true, false, cond}
 use mathlib.Core.List.{List}

@@ -1,8 +1,8 @@
 // What a letter puts on the bus by hand, the same for every device.
 use bus::Phase;
 
-// A read and a write at addresses that there are not; a read at 2, which no event of an 8355 begins; and one at 3, which none of an 8255A or an
-// 8355 does.
+// A read and a write at addresses that there are not; a read at 2, which no event of an 8355 begins; and one at 3, which no event of an 8255A
+// or an 8355 begins.
 pub(super) fn by_hand(phase: Phase, name: u8) -> Phase {
     match name {
         b'R' => Phase::Reading(7),

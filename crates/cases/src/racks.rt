@@ -1,20 +1,36 @@
 // The rack that the cases are at, the place that is looked at, and what a sign does to them.
-use super::answers::put;
+use super::answers::Fields;
 use super::{letters, show};
-use channel::Side;
+use bus::refusals::{FrameRefusal, Numbered};
 use chip::Chip;
 use control::Group;
 use rack::Rack;
+use rack::refusals::{BadRack, RackRefusal};
 use std::alloc::{AllocError, Global};
 use std::io;
 
-// A rack with the number and the byte of its last event, or with the number of its building; the place that is looked at; and the bases of
-// the next rack so far.
+// Why there is no rack of the bases, or why it refuses the event.
+#[derive(Clone, Copy)]
+enum Refused {
+    Building(BadRack),
+    Event(FrameRefusal<RackRefusal>),
+}
+
+// It is not `Numbered`: nothing is proved of it here.
+impl Refused {
+    fn number(self) -> u8 {
+        match self {
+            Refused::Building(refusal) => refusal.number(),
+            Refused::Event(refusal) => refusal.number(),
+        }
+    }
+}
+
+// A rack with the answer to its last event or to its building; the place that is looked at; and the bases of the next rack so far.
 #[derive(Drop)]
 pub(super) struct Held {
     rack: Rack,
-    number: u8,
-    byte: u8,
+    answer: Result<u8, Refused>,
     place: u8,
     bases: Vec<u16>,
 }
@@ -24,8 +40,7 @@ impl Held {
     pub(super) fn new(alloc: Global) -> Self {
         Held {
             rack: Rack::default(),
-            number: 0,
-            byte: 0,
+            answer: Ok(0),
             place: 0,
             bases: Vec::new(alloc),
         }
@@ -33,95 +48,80 @@ impl Held {
 
     // Where the bases make no rack, it is one of none.
     fn build(&mut self) {
-        self.byte = 0;
-        (self.rack, self.number) = match Rack::new(&self.bases) {
-            Ok(rack) => (rack, 0),
-            Err(refusal) => (Rack::default(), refusal.number()),
+        (self.rack, self.answer) = match Rack::new(&self.bases) {
+            Ok(rack) => (rack, Ok(0)),
+            Err(refusal) => (Rack::default(), Err(Refused::Building(refusal))),
         };
         self.bases.clear();
     }
 
-    fn event(&mut self, digits: u64) {
-        let answer = self.rack.step_numbers(
-            (digits / 0x100000000 % 256) as u8,
-            (digits / 0x10000 % 0x10000) as u16,
-            (digits / 256 % 256) as u8,
-            (digits % 256) as u8,
-        );
-        (self.number, self.byte) = match answer {
-            Ok(byte) => (0, byte),
-            Err(refusal) => (refusal.number(), 0),
-        };
+    pub(super) fn event(&mut self, digits: u64) {
+        let [_, _, _, kind, high, low, second, third] = digits.to_be_bytes();
+        let first = u16::from_be_bytes([high, low]);
+        let answer = self.rack.step_numbers(kind, first, second, third);
+        self.answer = answer.map_err(Refused::Event);
     }
 
     // A base ends with a comma, and the bases with the bracket.
-    fn base(&mut self, digits: u64, code: u8) -> Result<(), AllocError> {
+    pub(super) fn base(&mut self, digits: u64, code: u8) -> Result<(), AllocError> {
         match code {
-            b',' => self.bases.push((digits % 0x10000) as u16)?,
+            b',' => {
+                let [_, _, _, _, _, _, high, low] = digits.to_be_bytes();
+                self.bases.push(u16::from_be_bytes([high, low]))?;
+            }
             b']' => self.build(),
             _ => {}
         }
         Ok(())
     }
 
-    // Follows a byte of a sign that is for racks.
-    pub(super) fn act(
-        &mut self,
-        rt: &impl Print,
-        sign: u8,
-        digits: u64,
-        code: u8,
-    ) -> io::Result<()> {
-        match sign {
-            b'[' => self.base(digits, code)?,
-            b'{' if code == b'}' => self.event(digits),
-            b'@' => self.place = code % 16,
-            b'$' => self.field(rt, code)?,
-            _ => {}
-        }
-        Ok(())
+    // Looks at the place of a digit.
+    pub(super) fn look_at(&mut self, code: u8) {
+        self.place = code % 16;
     }
 
     // The number and the byte are the rack's; the rest is of the card, if there is one.
-    fn field(&self, rt: &impl Print, name: u8) -> io::Result<()> {
+    pub(super) fn field(&self, rt: &impl Print, name: u8) -> io::Result<()> {
         match (name, self.rack.card(self.place)) {
-            (b'n', _) => print!(rt; "{}", self.number),
-            (b'y', _) => print!(rt; "{:02X}", self.byte),
-            (_, Some(card)) => of_card(rt, &self.rack, self.place, card, name),
+            (b'n', _) => print!(rt; "{}", self.number()),
+            (b'y', _) => print!(rt; "{:02X}", self.answer.unwrap_or(0)),
+            (_, Some(card)) => self.of_card(rt, &card, name),
             (_, None) => print!(rt; "no card"),
         }
     }
-}
 
-fn pins(rt: &impl Print, rack: &Rack, place: u8, name: u8) -> io::Result<()> {
-    let shown = rack.pins(place, letters::port(name)).unwrap_or_default();
-    letters::show(rt, name, shown)
-}
-
-fn channel(rt: &impl Print, rack: &Rack, at: u8, group: Group, side: Side) -> io::Result<()> {
-    let card = rack.card(at).unwrap_or_default();
-    let tally = rack.tally(at, group, side).unwrap_or_default();
-    show::channel(rt, card.core.channel(group, side), tally)
-}
-
-fn said(rt: &impl Print, rack: &Rack, place: u8, group: Group) -> io::Result<()> {
-    match rack.explain(place, group) {
-        Some(explained) => show::explained(rt, explained),
-        None => Ok(()),
+    fn number(&self) -> u8 {
+        match self.answer {
+            Ok(_) => 0,
+            Err(refused) => refused.number(),
+        }
     }
-}
 
-// What a letter names of the card at the place: its pins, its channels and what is said of its INTR are asked of the rack, and the rest of the
-// card taken out.
-fn of_card(rt: &impl Print, rack: &Rack, place: u8, card: Chip, name: u8) -> io::Result<()> {
-    match name {
-        b'0' => channel(rt, rack, place, Group::A, Side::Input),
-        b'1' => channel(rt, rack, place, Group::A, Side::Output),
-        b'2' => channel(rt, rack, place, Group::B, Side::Input),
-        b'3' => channel(rt, rack, place, Group::B, Side::Output),
-        b'i' => said(rt, rack, place, Group::A),
-        b'j' => said(rt, rack, place, Group::B),
-        b'A'..=b'D' | b'a'..=b'd' => pins(rt, rack, place, name),
-        _ => show::field(rt, &put(card), name),
+    // What a letter names of the card at the place: its pins, its channels and what is said of its INTR are asked of the rack, and the rest of
+    // the card taken out.
+    fn of_card(&self, rt: &impl Print, card: &Chip, name: u8) -> io::Result<()> {
+        if let Some((group, side)) = letters::channel(name) {
+            let tally = self.rack.tally(self.place, group, side);
+            let channel = card.core.channel(group, side);
+            return show::channel(rt, channel, tally.unwrap_or_default());
+        }
+        match name {
+            b'i' => self.said(rt, Group::A),
+            b'j' => self.said(rt, Group::B),
+            b'A'..=b'D' | b'a'..=b'd' => self.pins(rt, name),
+            _ => card.field(rt, name),
+        }
+    }
+
+    fn said(&self, rt: &impl Print, group: Group) -> io::Result<()> {
+        match self.rack.explain(self.place, group) {
+            Some(explained) => show::explained(rt, explained),
+            None => Ok(()),
+        }
+    }
+
+    fn pins(&self, rt: &impl Print, name: u8) -> io::Result<()> {
+        let shown = self.rack.pins(self.place, letters::port(name));
+        letters::show(rt, name, shown.unwrap_or_default())
     }
 }

@@ -1,11 +1,11 @@
-// What a letter names of the chip, of either edition, and of its last answer.
-use super::answers::Answered;
+// What a letter names of the 8255A and the 82C55A alone. The words for enums of the chip are functions: `Display` would want a type of our own
+// around each of them.
+use super::answers::Fields;
 use super::letters;
 use bus::devices::Device;
-use channel::{Channel, Fill, Side, Tally};
+use channel::{Channel, Fill, Tally};
 use chip::reasons::{Explained, Reason};
 use chip::{Chip, Edition, PORT_C};
-use control::Group;
 use std::io;
 
 // Whether a byte waits in the channel.
@@ -30,10 +30,6 @@ pub(super) fn channel(rt: &impl Print, channel: Channel, tally: Tally) -> io::Re
         tally.planted,
         tally.struck
     )
-}
-
-fn own_channel(rt: &impl Print, chip: &Chip, group: Group, side: Side) -> io::Result<()> {
-    channel(rt, chip.core.channel(group, side), chip.tally(group, side))
 }
 
 fn half(reason: Reason) -> &'static str {
@@ -73,22 +69,19 @@ fn edition(edition: Edition) -> &'static str {
     }
 }
 
-pub(super) fn field(rt: &impl Print, last: &Answered<Chip>, name: u8) -> io::Result<()> {
-    let chip = &last.device;
-    match name {
-        b'0' => own_channel(rt, chip, Group::A, Side::Input),
-        b'1' => own_channel(rt, chip, Group::A, Side::Output),
-        b'2' => own_channel(rt, chip, Group::B, Side::Input),
-        b'3' => own_channel(rt, chip, Group::B, Side::Output),
-        b'n' => print!(rt; "{:02X}", last.number()),
-        b'y' => print!(rt; "{:02X}", last.byte()),
-        b'r' => print!(rt; "{:02X}", chip.answer(PORT_C)),
-        b'v' => print!(rt; "{}", edition(chip.edition)),
-        b'w' => print!(rt; "{:02X}", chip.core.word),
-        b'i' => said(rt, chip, 0),
-        b'j' => said(rt, chip, 1),
-        b'k' => said(rt, chip, 2),
-        b'A'..=b'D' | b'a'..=b'd' => letters::pins(rt, chip, name),
-        _ => print!(rt; "-"),
+impl Fields for Chip {
+    fn field(&self, rt: &impl Print, name: u8) -> io::Result<()> {
+        if let Some((group, side)) = letters::channel(name) {
+            return channel(rt, self.core.channel(group, side), self.tally(group, side));
+        }
+        match name {
+            b'r' => print!(rt; "{:02X}", self.answer(PORT_C)),
+            b'v' => print!(rt; "{}", edition(self.edition)),
+            b'w' => print!(rt; "{:02X}", self.core.word),
+            b'i' => said(rt, self, 0),
+            b'j' => said(rt, self, 1),
+            b'k' => said(rt, self, 2),
+            _ => print!(rt; "-"),
+        }
     }
 }

@@ -1,19 +1,17 @@
-// What a letter names of the 8355 and of its last answer.
-use super::answers::Answered;
-use super::letters;
+// What a letter names of the 8355 alone.
+use super::answers::Fields;
 use i8355::Chip8355;
 use std::io;
 
-pub(super) fn field(rt: &impl Print, last: &Answered<Chip8355>, name: u8) -> io::Result<()> {
-    let ports = last.device.ports;
-    match name {
-        b'A'..=b'D' | b'a'..=b'd' => letters::pins(rt, &last.device, name),
-        b'E' => print!(rt; "{:02X}", ports.a.latch),
-        b'e' => print!(rt; "{:02X}", ports.a.direction),
-        b'F' => print!(rt; "{:02X}", ports.b.latch),
-        b'f' => print!(rt; "{:02X}", ports.b.direction),
-        b'n' => print!(rt; "{:02X}", last.number()),
-        b'y' => print!(rt; "{:02X}", last.byte()),
-        _ => print!(rt; "-"),
+impl Fields for Chip8355 {
+    fn field(&self, rt: &impl Print, name: u8) -> io::Result<()> {
+        let ports = &self.ports;
+        match name {
+            b'E' => print!(rt; "{:02X}", ports.a.latch),
+            b'e' => print!(rt; "{:02X}", ports.a.direction),
+            b'F' => print!(rt; "{:02X}", ports.b.latch),
+            b'f' => print!(rt; "{:02X}", ports.b.direction),
+            _ => print!(rt; "-"),
+        }
     }
 }

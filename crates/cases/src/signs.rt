@@ -24,75 +24,106 @@
 //     @1             looks at a place, from 0
 //     $n $y          the number, in decimal, and the byte of the last event; or the number of the building
 //     $A             by any other letter, what the same letter shows of an 8255A, of the card at the place that is looked at
-use super::devices;
 use super::devices::Last;
 use super::racks::Held;
 use std::io;
 
-// The byte that closes a sign with digits in it.
-fn closing(sign: u8) -> u8 {
-    match sign {
-        b'<' => b'>',
-        b'[' => b']',
-        _ => b'}',
+// A sign that is not complete yet, with its digits so far, if it has any.
+#[derive(Clone, Copy)]
+enum Sign {
+    Event(u64), // <
+    Field, // %
+    Other, // !
+    Base(u64), // [
+    RackEvent(u64), // {
+    Place, // @
+    RackField, // $
+}
+
+// The digits with one more, of which the last ten count. A comma begins new ones. A number and no list of digits: no sign has more than ten, and
+// what it needs is the bytes of the number.
+fn with_digit(digits: u64, code: u8) -> u64 {
+    if code == b',' {
+        return 0;
+    }
+    let digit = (code as char).to_digit(16).unwrap_or(0);
+    digits % 0x1000000000 * 16 + digit as u64
+}
+
+impl Sign {
+    // The sign that a byte opens, if it opens one.
+    fn opened_by(code: u8) -> Option<Sign> {
+        match code {
+            b'<' => Some(Sign::Event(0)),
+            b'%' => Some(Sign::Field),
+            b'!' => Some(Sign::Other),
+            b'[' => Some(Sign::Base(0)),
+            b'{' => Some(Sign::RackEvent(0)),
+            b'@' => Some(Sign::Place),
+            b'$' => Some(Sign::RackField),
+            _ => None,
+        }
+    }
+
+    // What stands open behind a byte of the sign.
+    fn after(self, code: u8) -> Option<Sign> {
+        match (self, code) {
+            (Sign::Event(_), b'>') | (Sign::Base(_), b']') | (Sign::RackEvent(_), b'}') => None,
+            (Sign::Event(digits), _) => Some(Sign::Event(with_digit(digits, code))),
+            (Sign::Base(digits), _) => Some(Sign::Base(with_digit(digits, code))),
+            (Sign::RackEvent(digits), _) => Some(Sign::RackEvent(with_digit(digits, code))),
+            (Sign::Field | Sign::Other | Sign::Place | Sign::RackField, _) => None,
+        }
     }
 }
 
-// The sign that stands open after a byte; a plain byte stands for itself, and opens none.
-fn open_after(sign: u8, code: u8) -> u8 {
-    match sign {
-        b'<' | b'[' | b'{' => if code == closing(sign) { b' ' } else { sign },
-        b'%' | b'!' | b'@' | b'$' => b' ',
-        _ => code,
+// The device and the rack that the cases are at.
+#[derive(Drop)]
+struct Cases {
+    last: Last,
+    held: Held,
+}
+
+impl Cases {
+    // Does what a byte of a sign is for.
+    fn act(&mut self, rt: &impl Print, sign: Sign, code: u8) -> io::Result<()> {
+        match sign {
+            Sign::Event(digits) if code == b'>' => self.last.event(digits),
+            Sign::Field => self.last.field(rt, code)?,
+            Sign::Other => self.last = self.last.other(code),
+            Sign::Base(digits) => self.held.base(digits, code)?,
+            Sign::RackEvent(digits) if code == b'}' => self.held.event(digits),
+            Sign::Place => self.held.look_at(code),
+            Sign::RackField => self.held.field(rt, code)?,
+            Sign::Event(_) | Sign::RackEvent(_) => {}
+        }
+        Ok(())
     }
 }
 
-// The digits of an event or of a base so far, in one number.
-fn digits_after(sign: u8, digits: u64, code: u8) -> u64 {
-    let digit = if code < b'A' {
-        code % 16
-    } else {
-        code % 16 + 9
-    };
-    match sign {
-        b'<' | b'[' | b'{' => if code == b',' {
-            0
-        } else {
-            digits % 0x1000000000 * 16 + digit as u64
-        },
-        _ => 0,
+// A plain byte opens a sign, or is copied out.
+fn opened(rt: &impl Print, code: u8) -> io::Result<Option<Sign>> {
+    let sign = Sign::opened_by(code);
+    if sign.is_none() {
+        rt.write_all(&[code])?;
     }
-}
-
-fn copy(rt: &impl Print, code: u8) -> io::Result<()> {
-    match code {
-        b'<' | b'%' | b'!' | b'[' | b'{' | b'@' | b'$' => Ok(()),
-        _ => rt.write_all(&[code]),
-    }
-}
-
-// Follows a byte that is plain, or of a sign for devices.
-fn act(rt: &impl Print, last: &mut Last, sign: u8, digits: u64, code: u8) -> io::Result<()> {
-    match sign {
-        b'<' if code == b'>' => devices::event(last, digits),
-        b'!' => *last = devices::other(last, code),
-        b'%' => devices::field(rt, last, code)?,
-        b'<' | b'[' | b'{' | b'@' | b'$' => {}
-        _ => copy(rt, code)?,
-    }
-    Ok(())
+    Ok(sign)
 }
 
 pub(super) fn follow(rt: &(impl Print + AllocGlobal), text: &[u8]) -> io::Result<()> {
-    let mut last = devices::at_power_up();
-    let mut held = Held::new(rt.alloc());
-    let mut sign = b' ';
-    let mut digits = 0;
+    let mut cases = Cases {
+        last: Last::at_power_up(),
+        held: Held::new(rt.alloc()),
+    };
+    let mut open: Option<Sign> = None;
     for code in text {
-        act(rt, &mut last, sign, digits, *code)?;
-        held.act(rt, sign, digits, *code)?;
-        digits = digits_after(sign, digits, *code);
-        sign = open_after(sign, *code);
+        open = match open {
+            Some(sign) => {
+                cases.act(rt, sign, *code)?;
+                sign.after(*code)
+            }
+            None => opened(rt, *code)?,
+        };
     }
     Ok(())
 }

@@ -50,7 +50,7 @@ fn by_hand(chip: &mut Chip, name: u8) {
 
 pub(super) fn other(mut chip: Chip, name: u8) -> Answered<Chip> {
     match name {
-        // No level on a port that there is is refused.
+        // Levels on a port that exists are never refused.
         b'S' => {
             let _ = strobes(&mut chip);
         }

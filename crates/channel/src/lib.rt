@@ -13,13 +13,13 @@ pub enum Side {
     Output,
 }
 
-/// Whether a byte waits. A channel is fetching while the read that was handed its byte still runs.
+/// Whether a byte waits, with the number that an image has for it. A channel is fetching while the read that was handed its byte still runs.
 #[derive(Clone, Copy, Debug, PartialEq, Eq, Default)]
 pub enum Fill {
     #[default]
-    Empty,
-    Waiting,
-    Fetching,
+    Empty = 0,
+    Waiting = 1,
+    Fetching = 2,
 }
 
 /// How many bytes were offered, how many met each fate, and how many were planted, modulo 65,536.

@@ -1,5 +1,5 @@
 -- Port C's latch written under a mask is the latch written pin by pin ("Writes and bit set/reset").
--- Rests on bits' laws of masks and on roles' PinByMasks.
+-- Rests on bits' laws of masks and on control's PinByMasks.
 use mathlib.Core.Path.{◌≡◌, ◌∙◌}
 use mathlib.Core.Bool.{Bool, true, false, cond, ◌||◌}
 use Prim.Native.Nat.{ℕ, ◌<◌}

@@ -1,5 +1,5 @@
 -- The flags of the channels among the pins of port C: the role IBF or OBF is at the pin of a strobed channel, and nowhere else.
--- Rests on bits' Tested, roles' SameWords and chip's StrobedWords and OneChannel.
+-- Rests on bits' Tested, control's RoleWords, StrobedWords and OneChannel.
 use mathlib.Core.Path.{◌≡◌}
 use mathlib.Core.Bool.{Bool, ◌&&◌}
 use Prim.Native.Nat.{ℕ, ◌%◌, ◌<◌}

@@ -15,3 +15,4 @@ pub mod LinesByMasks
 pub mod Strobed
 pub mod Ends
 pub mod Outcome
+pub mod Editions

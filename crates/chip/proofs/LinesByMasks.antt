@@ -1,5 +1,5 @@
 -- Port C put together by masks is port C pin by pin ("Reads and pins").
--- Rests on bits' laws of bytes and blends, and on roles' PinByMasks.
+-- Rests on bits' laws of bytes and blends, and on control's PinByMasks.
 use mathlib.Core.Path.{◌≡◌, ◌∙◌, refl, ap, ap₂, sym}
 use mathlib.Core.Bool.{Bool, true, false, cond}
 use mathlib.Core.List.{List, [], ◌∷◌}

@@ -1,5 +1,5 @@
 -- One pin set by asking the masks is the pin set by its role ("Writes and bit set/reset").
--- Rests on bits' Tabled and roles' PinByMasks.
+-- Rests on bits' Tabled and control's PinByMasks.
 use mathlib.Core.Path.{◌≡◌, ◌∙◌, refl, ap, sym}
 use mathlib.Core.Bool.{Bool, true, false, cond}
 use mathlib.Core.List.{List}

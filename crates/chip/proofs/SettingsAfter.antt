@@ -11,8 +11,8 @@ use Rattle.channel.specs.declared.Side.{Side}
 use Rattle.channel.specs.declared.Side.TheVariants.{Input, Output}
 use Rattle.channel.specs.Moves.{after_clear, after_force}
 use Rattle.chip.specs.declared.Core.{Core}
-use Rattle.chip.specs.State.{no_enables, port_of, channel_of}
-use Rattle.chip.specs.Handshakes.{group_at}
+use Rattle.chip.specs.State.{port_of, channel_of}
+use Rattle.chip.specs.Handshakes.{enable_of, group_at}
 use Rattle.chip.proofs.Surrounded.{Surrounded, spares-itself, latch-spares, enables-spare, spared-channel, spared-surrounded}
 use Rattle.chip.proofs.OneChannel.{same_group, one-channel, channel-surrounded}
 use Rattle.chip.specs.ModeWord.{cleared_port, after_mode_word}
@@ -40,14 +40,17 @@ module _ (c : Core) (w : ℕ) where
   unfolding after_mode_word
   mode-word-lines = refl
 
-  -- Port C's latch and the enables are wiped too.
+  -- Port C's latch is wiped too.
   pub mode-word-latch : (after_mode_word c w).c.latch ≡ 0
   unfolding after_mode_word
   mode-word-latch = refl
 
-  pub mode-word-enables : (after_mode_word c w).inte ≡ no_enables
+  -- And so are the enables.
+  pub mode-word-enable : (g : Group) (s : Side) → enable_of (after_mode_word c w).inte g s ≡ false
   unfolding after_mode_word
-  mode-word-enables = refl
+  mode-word-enable A Input = refl
+  mode-word-enable A Output = refl
+  mode-word-enable B s = refl
 
 -- A word with bit 7 set makes the chip anew.
 pub mode-word : (c : Core) (d : ℕ) → bit_of d 7 ≡ true → after_control_word c d ≡ after_mode_word c d

@@ -1,6 +1,6 @@
 //! What differs between the four channels: when the mode word strobes them, the pin of their line, their enable, their own cycle.
 ghost use Rattle.std.specs.Prelude.{◌≡◌};
-ghost use Rattle.chip.specs.Handshakes.{own_address, strobed, line_pin, enable_of, reading, writing, running};
+ghost use Rattle.chip.specs.Handshakes.{own_address, strobed, line_pin, enable_of, running};
 ghost use Rattle.chip.specs.Status.{flag_at};
 
 use super::{Core, Enables, PORT_A, PORT_B};
@@ -8,19 +8,20 @@ use bus::Phase;
 use channel::Side;
 use control::{Group, mode};
 
-// The pins of port C that the chip listens to in a handshake: STB and ACK of group A, and the one of group B, which is either.
+// The pins of port C that the chip listens to in a handshake: STB of group A, ACK of group A, and the pin of group B, which is its STB or its
+// ACK.
 pub const STB_A: u8 = 4;
 
 pub const ACK_A: u8 = 6;
 
 pub const LINE_B: u8 = 2;
 
-// Those on which it shows whether a byte is there: IBF and OBF of group A, and the one of group B, which is either.
-pub const IBF_A: u8 = 5;
+// Those on which it shows whether a byte is there: IBF of group A, OBF of group A, and the pin of group B, which is its IBF or its OBF.
+pub(super) const IBF_A: u8 = 5;
 
-pub const OBF_A: u8 = 7;
+pub(super) const OBF_A: u8 = 7;
 
-pub const FLAG_B: u8 = 1;
+pub(super) const FLAG_B: u8 = 1;
 
 // Whether the bus finds the group's port at the address.
 fn own_address(address: u8, group: Group) -> bool
@@ -43,33 +44,14 @@ pub(super) fn line_pin(group: Group, side: Side) -> u8
     }
 }
 
-// Whether a read of the group's port runs.
-fn reading(phase: Phase, group: Group) -> bool
-    ensures { result ≡ reading phase group }
-{
-    match phase {
-        Phase::Reading(port) => own_address(port, group),
-        Phase::Idle | Phase::Writing(_, _) => false,
-    }
-}
-
-// Whether a write to it runs.
-fn writing(phase: Phase, group: Group) -> bool
-    ensures { result ≡ writing phase group }
-{
-    match phase {
-        Phase::Writing(address, _) => own_address(address, group),
-        Phase::Idle | Phase::Reading(_) => false,
-    }
-}
-
-// Whether the channel's own cycle runs: a read for an input, a write for an output.
+// Whether the channel's own cycle runs: a read of its port for an input, a write to it for an output.
 pub(super) fn running(phase: Phase, group: Group, side: Side) -> bool
     ensures { result ≡ running phase group side }
 {
-    match side {
-        Side::Input => reading(phase, group),
-        Side::Output => writing(phase, group),
+    match (side, phase) {
+        (Side::Input, Phase::Reading(address)) => own_address(address, group),
+        (Side::Output, Phase::Writing(address, _)) => own_address(address, group),
+        _ => false,
     }
 }
 

@@ -1,8 +1,10 @@
-//! One 8255A or 82C55A: its state, what it is at power-up, and what each event on the bus makes of it.
+//! One 8255A or 82C55A: its state, what it is at power-up, and what each event on the bus makes of it. A channel is named by its group and
+//! its side, as the data sheet names it, and not by a type of both: most rules speak of one of the two alone. Where an address or a group
+//! chooses a port, A and B have an arm each: a function that lends the chosen port would save no line.
 #![tactic(auto)]
 
 ghost use Rattle.std.specs.Prelude.{◌≡◌};
-ghost use Rattle.chip.specs.State.{fresh_port, power_up_as, power_up, port_of, side_of, channel_of, tally_of};
+ghost use Rattle.chip.specs.State.{edition_numbered, fresh_port, power_up_as, power_up, port_of, side_of, channel_of, tally_of};
 
 mod device;
 pub mod handshakes;
@@ -41,7 +43,8 @@ pub struct Enables {
     pub b: bool,
 }
 
-/// All of the chip but the bus and the edition: the last mode word, the ports and the enables.
+/// All of the chip but the bus and the edition: the last mode word, the ports and the enables. The word is kept as the byte that was
+/// written, since control reads it back, and what it sets up is asked of the byte.
 #[derive(Clone, Copy, Debug, PartialEq, Eq)]
 pub struct Core {
     pub word: u8,
@@ -51,11 +54,12 @@ pub struct Core {
     pub inte: Enables,
 }
 
-/// Which part the chip is: the 8255A, or the later 82C55A, whose control word can be read back. No event changes it.
+/// Which part the chip is, with the number that C has for it: the 8255A, or the later 82C55A, whose control word can be read back. No event
+/// changes it.
 #[derive(Clone, Copy, Debug, PartialEq, Eq)]
 pub enum Edition {
-    Older,
-    Newer,
+    Older = 0,
+    Newer = 1,
 }
 
 /// A chip: what runs on the bus, its edition, and the rest.
@@ -94,6 +98,20 @@ pub const CONTROL: u8 = 3;
 
 /// The mode word at power-up and after a reset: all ports are inputs in mode 0.
 pub const POWER_UP_WORD: u8 = 0x9b;
+
+impl Edition {
+    /// The edition of a number, as C has it; `None` where there is no such edition.
+    // An `Option` and no `TryFrom`: of a number without an edition there is nothing more to tell.
+    pub fn numbered(number: u8) -> Option<Edition>
+        ensures { result ≡ edition_numbered number }
+    {
+        match number {
+            0 => Some(Edition::Older),
+            1 => Some(Edition::Newer),
+            _ => None,
+        }
+    }
+}
 
 impl Port {
     fn new(outside: u8) -> Self
@@ -136,6 +154,7 @@ impl Core {
 
 impl Chip {
     /// The chip at power-up, of the edition and under the levels that the caller names.
+    // Two arguments and no type of both: C and the journal have the edition as a number, and refuse it before there is a chip.
     pub fn new(edition: Edition, levels: Levels) -> Self
         ensures { result ≡ power_up_as edition levels }
     {

@@ -8,14 +8,14 @@ use channel::Side;
 use control::mode::Mode;
 use control::{Group, mode};
 
-/// What one half of an INTR is doing: low for one of four reasons, or high.
+/// What one half of an INTR is doing, with the number of what is said of it: low for one of four reasons, or high.
 #[derive(Clone, Copy, Debug, PartialEq, Eq)]
 pub enum Reason {
-    EnableOff,
-    FlagWrong,
-    LineLow,
-    OwnCycle,
-    High,
+    EnableOff = 2,
+    FlagWrong = 3,
+    LineLow = 4,
+    OwnCycle = 5,
+    High = 6,
 }
 
 /// What is said of a group's INTR. A group in mode 0 has none; mode 1 has the half of one side, and mode 2 both, the input's first.
@@ -27,22 +27,12 @@ pub enum Explained {
     BothHalves(Reason, Reason),
 }
 
-// The numbers of what is said of a half: that there is none, that its group is in mode 0, and what it is doing, in the reasons' order.
-pub const NO_HALF: u8 = 0;
+// What is said of a half that there is none of, and of one whose group is in mode 0, in the numbers that the reasons go on with.
+const NO_HALF: u8 = 0;
 
-pub const MODE_ZERO: u8 = 1;
+const MODE_ZERO: u8 = 1;
 
-pub const ENABLE_OFF: u8 = 2;
-
-pub const FLAG_WRONG: u8 = 3;
-
-pub const LINE_LOW: u8 = 4;
-
-pub const OWN_CYCLE: u8 = 5;
-
-pub const HIGH: u8 = 6;
-
-/// What is said of each half, in numbers.
+/// What is said of each half, in numbers, as C has it.
 #[derive(Clone, Copy, Debug, PartialEq, Eq)]
 pub struct Halves {
     pub input: u8,
@@ -53,13 +43,7 @@ impl Reason {
     fn number(self) -> u8
         ensures { result ≡ reason_number self }
     {
-        match self {
-            Reason::EnableOff => ENABLE_OFF,
-            Reason::FlagWrong => FLAG_WRONG,
-            Reason::LineLow => LINE_LOW,
-            Reason::OwnCycle => OWN_CYCLE,
-            Reason::High => HIGH,
-        }
+        self as u8
     }
 }
 

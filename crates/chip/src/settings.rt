@@ -36,7 +36,7 @@ impl Port {
 }
 
 // The side of group B that its one flag belongs to, where it has a handshake.
-fn side_of_b(word: u8) -> Side
+pub(super) fn side_of_b(word: u8) -> Side
     ensures { result ≡ cond (strobed_input word B) Input Output }
 {
     if mode::strobed_input(word, Group::B) {
@@ -59,7 +59,8 @@ impl Core {
         self.inte = Enables::default();
     }
 
-    // A pin that a handshake uses: the enable behind STB or ACK, or a flag, which is forced. INTR has nothing to set.
+    // A pin that a handshake uses: the enable behind STB or ACK, or a flag, which is forced. INTR has nothing to set. The pin is a number below 8,
+    // here and in `set_pin`: a type for it would be a number again at each bit that is asked for.
     fn set_line(&mut self, pin: u8, on: bool)
         requires { pin < 8 }
         ensures { self.new ≡ set_as self.old pin on (handshake_role (strobed_input self.old.word B) pin) }

@@ -3,20 +3,17 @@ ghost use Rattle.std.specs.Prelude.{◌≡◌};
 ghost use Rattle.chip.specs.Status.{request_of, intr_of, flag_of_b, status_of};
 
 use super::handshakes::{line_pin, running};
+use super::settings::side_of_b;
 use super::{Chip, Core};
 use channel::Side;
-use control::{Group, mode};
+use control::Group;
 
 impl Core {
     // Group B's flag: its two channels share the pin.
     fn flag_of_b(&self) -> bool
         ensures { result ≡ flag_of_b self.now }
     {
-        if mode::strobed_input(self.word, Group::B) {
-            self.flag(Group::B, Side::Input)
-        } else {
-            self.flag(Group::B, Side::Output)
-        }
+        self.flag(Group::B, side_of_b(self.word))
     }
 }
 

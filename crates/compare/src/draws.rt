@@ -1,39 +1,66 @@
-// The events of a history, each as one number: its kind, its first operand and its second, two hexadecimal digits each. Most
-// stand in an exchange; one in eight is drawn by itself.
-use super::exchanges;
+// The events of a history. Most stand in an exchange; one in eight is drawn by itself.
+use super::events::{Event, RESET};
+use super::exchanges::{EXCHANGES, Exchange, LENGTH, Planned};
+use super::random::byte;
+use bus::kinds::Kind;
 
-// The exchange that goes on: a new one at every sixth place.
-pub(super) fn exchange(number: u64, before: u64, place: u64) -> u64 {
-    if place % 6 == 0 {
-        return (number >> 40) % 256;
-    }
-    before
+// Whether a new exchange begins at a step: at every sixth.
+pub(super) fn begins(step: u64) -> bool {
+    step % LENGTH as u64 == 0
 }
 
-// An event by itself: anything at all, a reset, which is rare as it undoes so much, or most often something about the limits of kinds
-// and operands, so that every refusal occurs.
-pub(super) fn alone(number: u64) -> u64 {
+// The exchange that begins, by its number.
+pub(super) fn new_exchange(number: u64) -> u8 {
+    byte(number >> 40)
+}
+
+// An event by itself: most often one near the limits of kinds and operands, so that every refusal occurs; else anything at all, or a reset,
+// which is rare as it undoes so much.
+pub(super) fn alone(number: u64) -> Event {
     let chance = number >> 56;
     if chance < 6 {
-        return number % 0x1000000;
+        return Event::from(number);
     }
     if chance < 8 {
-        return 0;
+        return RESET;
     }
-    0x10000 + (number >> 16) % 6 * 0x10000 + (number >> 32) % 6 * 0x100 + number % 0x100
+    Event {
+        kind: (1 + (number >> 16) % 6) as u8,
+        first: ((number >> 32) % 6) as u8,
+        second: byte(number),
+    }
 }
 
-// An event as it stands in an exchange, with the bits that are drawn.
-pub(super) fn planned(event: u64, number: u64) -> u64 {
-    let fixed = ((event >> 8) & 0xffff00) | (event & 0xff);
-    fixed | (number & (event >> 8) & 0xff)
+// The event of an exchange at a step.
+pub(super) fn at(exchange: &Exchange, step: u64) -> Planned {
+    exchange[(step % LENGTH as u64) as usize]
 }
 
-// The event at a place of an exchange, both of which count from 0.
-pub(super) fn draw(number: u64, exchange: u64, place: u64) -> u64 {
+// An event as it stands in an exchange, with the bits that are drawn. Operands that its kind lacks are 0.
+pub(super) fn planned(planned: Planned, number: u64) -> Event {
+    let (kind, first, second) = match planned {
+        Planned::Reset => (Kind::Reset, 0, 0),
+        Planned::BeginRead(address) => (Kind::BeginRead, address, 0),
+        Planned::EndCycle => (Kind::EndCycle, 0, 0),
+        Planned::BeginWrite(address, drawn, set) => {
+            (Kind::BeginWrite, address, set | byte(number) & drawn)
+        }
+        Planned::OutsideLevels(port, drawn, set) => {
+            (Kind::OutsideLevels, port, set | byte(number) & drawn)
+        }
+    };
+    Event {
+        kind: kind.number(),
+        first,
+        second,
+    }
+}
+
+// The event at a step of a history, which counts from 0, in the exchange of that number.
+pub(super) fn draw(number: u64, exchange: u8, step: u64) -> Event {
     if number >> 56 < 32 {
         return alone(number);
     }
-    let at = exchange % exchanges::COUNT * 6 + place % 6;
-    planned(exchanges::EVENTS[at as usize], number)
+    let exchange = &EXCHANGES[exchange as usize % EXCHANGES.len()];
+    planned(at(exchange, step), number)
 }

@@ -2,10 +2,12 @@
 use super::apart::{Answer, Machine};
 use super::counts::Counts;
 use super::course::Models;
+use super::events::Event;
 use super::proved::Stepped;
 use super::views::View;
-use super::{apart, counts, course, draws, proved, random, views};
+use super::{apart, counts, course, draws, views};
 use chip::Chip;
+use std::mem;
 
 // Both models with their last answers, and the view of the proved one.
 #[derive(Drop)]
@@ -18,31 +20,27 @@ struct Pair {
 impl Models for Pair {
     type Counts = Counts;
 
-    fn before_start(&self) -> u64 {
-        0xffffff
+    type Event = Event;
+
+    type Exchange = u8;
+
+    fn new_exchange(&self, number: u64, _step: u64) -> u8 {
+        draws::new_exchange(number)
     }
 
-    fn exchange(&self, number: u64, before: u64, step: u64) -> u64 {
-        draws::exchange(number, before, step)
-    }
-
-    fn draw(&self, number: u64, exchange: u64, step: u64) -> u64 {
+    fn draw(&self, number: u64, exchange: u8, step: u64) -> Event {
         draws::draw(number, exchange, step)
     }
 
-    fn happen(&mut self, counts: &mut Counts, event: u64) {
-        let kind = random::byte(event >> 16);
-        let first = random::byte(event >> 8);
-        let second = random::byte(event);
-        self.proved = proved::step(self.proved.device, kind, first, second);
-        self.apart = apart::event(self.apart.machine, kind, first, second);
-        let before = self.view;
-        self.view = views::of_proved(&self.proved);
-        counts::count(counts, kind, first, &before, &self.view);
+    fn happen(&mut self, counts: &mut Counts, event: Event) {
+        self.proved = self.proved.step(event);
+        self.apart = apart::event(self.apart.machine, event.kind, event.first, event.second);
+        let before = mem::replace(&mut self.view, views::of_proved(&self.proved));
+        counts::count(counts, event, &before, &self.view);
     }
 
-    fn compare(&self, counts: &mut Counts, _number: u64, event: u64, step: u64) {
-        counts.hold(event, step, self.view, views::of_apart(&self.apart));
+    fn compare(&self, counts: &mut Counts, _number: u64, event: Event, step: u64) {
+        counts.hold(event.into(), step, self.view, views::of_apart(&self.apart));
     }
 }
 
@@ -54,7 +52,7 @@ pub(super) fn run(
     seed: u64,
     length: u64,
 ) -> u64 {
-    let proved = proved::at_start(chip);
+    let proved = Stepped::at_start(chip);
     let mut pair = Pair {
         proved,
         apart: Answer {
@@ -64,5 +62,6 @@ pub(super) fn run(
         },
         view: views::of_proved(&proved),
     };
-    course::run(&mut pair, counts, seed, 0, length)
+    counts.history();
+    course::run(&mut pair, counts, seed, 0..length)
 }

@@ -7,10 +7,10 @@ mod apart; // the second model
 mod counts;
 mod course;
 mod draws;
+mod events;
 mod exchanges;
 mod history;
 mod journals; // journals, trimmed
-mod numbers;
 mod ports_8355; // the 8355
 mod print;
 mod proved; // the proved devices

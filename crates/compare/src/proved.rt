@@ -1,8 +1,11 @@
 // The proved devices, as the second models are asked: by the numbers of an event, and answered by the state, the number and the byte.
+use super::apart::Explanation;
+use super::events::Event;
 use bus::devices::{Device, step_numbers};
-use chip::Chip;
+use bus::refusals::{self, Numbered};
 use chip::reasons::Explained;
 
+// A number beside a byte, and no `Result`, since the second models answer so.
 #[derive(Clone, Copy)]
 pub(super) struct Stepped<D> {
     pub(super) device: D,
@@ -10,42 +13,51 @@ pub(super) struct Stepped<D> {
     pub(super) byte: u8,
 }
 
-// A device before its first event.
-pub(super) fn at_start<D>(device: D) -> Stepped<D> {
-    answered(device, Ok(0))
-}
+impl<D> Stepped<D> {
+    // A device before its first event.
+    pub(super) fn at_start(device: D) -> Self {
+        Stepped {
+            device,
+            number: 0,
+            byte: 0,
+        }
+    }
 
-// A device after an event, by its byte or the number of its refusal.
-pub(super) fn answered<D>(device: D, answer: Result<u8, u8>) -> Stepped<D> {
-    let (number, byte) = match answer {
-        Ok(byte) => (0, byte),
-        Err(number) => (number, 0),
-    };
-    Stepped {
-        device,
-        number,
-        byte,
+    // A device after an event, by its answer.
+    pub(super) fn answered<R: Numbered>(device: D, answer: Result<u8, R>) -> Self {
+        Stepped {
+            device,
+            number: refusals::number(&answer),
+            byte: answer.unwrap_or(0),
+        }
     }
 }
 
-pub(super) fn step<D: Device + Copy>(mut device: D, kind: u8, first: u8, second: u8) -> Stepped<D> {
-    let answer = step_numbers(&mut device, kind, first, second);
-    answered(device, answer.map_err(|refusal| refusal.number()))
-}
-
-// What is said of an INTR, in three numbers: the refusal, the input's half and the output's.
-pub(super) fn said(explained: Explained) -> [u8; 3] {
-    let halves = explained.halves();
-    [0, halves.input, halves.output]
+impl<D: Device + Copy> Stepped<D> {
+    // The same device after one more event.
+    pub(super) fn step(&self, event: Event) -> Self {
+        let mut device = self.device;
+        let answer = step_numbers(&mut device, event.kind, event.first, event.second);
+        Stepped::answered(device, answer)
+    }
 }
 
 // There is no such group, and so no half.
-pub(super) const NO_GROUP: [u8; 3] = [2, 0, 0];
+const NO_GROUP: Explanation = Explanation {
+    number: 2,
+    input: 0,
+    output: 0,
+};
 
-// That of a group of a chip, by the group's number.
-pub(super) fn explain(chip: &Chip, group: u8) -> [u8; 3] {
-    match chip.explain_numbered(group) {
-        Some(explained) => said(explained),
-        None => NO_GROUP,
+// What is said of an INTR, in the form of the second model.
+pub(super) fn explanation(explained: Option<Explained>) -> Explanation {
+    let Some(explained) = explained else {
+        return NO_GROUP;
+    };
+    let halves = explained.halves();
+    Explanation {
+        number: 0,
+        input: halves.input,
+        output: halves.output,
     }
 }

@@ -1,11 +1,12 @@
 // What the histories of a run were made of and what happened in them: a row of counts, of which the first is that of the histories and the
-// last that of the differences between the two models, and the first difference.
+// last that of the differences between the two models, and the first difference. A row, and no struct with a name for each count: the text
+// into which it is printed names them, in their order.
 ghost use Rattle.std.specs.Prelude.{◌<◌};
 
-use bus::kinds;
+use bus::kinds::Kind;
 
-// Where a difference is: the history, the place in it and the event as one number; and of the proved model and of the second one all that was
-// compared.
+// Where a difference is: the history, the place in it, and the event as one number; and all that was compared, of the proved model and of the
+// second one.
 #[derive(Clone, Copy)]
 pub(super) struct Difference<V> {
     pub(super) history: u64,
@@ -21,27 +22,30 @@ pub(super) struct Row<V, const N: usize> {
     pub(super) first: Option<Difference<V>>,
 }
 
-// The place of a kind among the counts of kinds.
+// The place of a kind among the counts of kinds. The last of them is for numbers that are no kind.
 pub(super) fn order(kind: u8) -> usize
     ensures { result < 6 }
 {
-    match kind {
-        kinds::RESET..=kinds::BEGIN_WRITE => kind as usize,
-        kinds::OUTSIDE_LEVELS => 4,
-        _ => 5,
+    match Kind::numbered(u16::from(kind)) {
+        Some(Kind::Reset) => 0,
+        Some(Kind::BeginRead) => 1,
+        Some(Kind::EndCycle) => 2,
+        Some(Kind::BeginWrite) => 3,
+        Some(Kind::OutsideLevels) => 4,
+        None => 5,
     }
 }
 
-// The counts of so many histories, each of which is run from a seed and gives that of the next. A bound of a closure may name no const parameter,
-// so that the counts are of any type here.
-pub(super) fn of_histories<C, F: Fn(&mut C, u64) -> u64>(
-    mut counts: C,
+// The counts of so many histories, each of which is run from a seed and gives that of the next. They are of any type, and no `Row`, since the
+// bound of a closure may name no const parameter.
+pub(super) fn of_histories<C: Default, F: Fn(&mut C, u64) -> u64>(
     first: u64,
     histories: usize,
     history: F,
 ) -> C
     requires { F.IsAlwaysCallable history }
 {
+    let mut counts = C::default();
     let mut seed = first;
     for _ in 0..histories {
         seed = history(&mut counts, seed);
@@ -49,19 +53,33 @@ pub(super) fn of_histories<C, F: Fn(&mut C, u64) -> u64>(
     counts
 }
 
-impl<V: PartialEq + Copy, const N: usize> Row<V, N> {
-    pub(super) fn new() -> Self {
+impl<V, const N: usize> Default for Row<V, N> {
+    fn default() -> Self {
         Row {
             counts: [0; N],
             first: None,
         }
     }
+}
 
+impl<V: PartialEq + Copy, const N: usize> Row<V, N> {
     // Adds to the count at a place, if the row has it.
     pub(super) fn add(&mut self, place: usize, by: u64) {
         if let Some(count) = self.counts.get_mut(place) {
             *count = count.wrapping_add(by);
         }
+    }
+
+    // Adds to the counts from a place on, one after the other.
+    pub(super) fn add_all(&mut self, first: usize, by: &[u16]) {
+        for (count, by) in self.counts.iter_mut().skip(first).zip(by) {
+            *count = count.wrapping_add(u64::from(*by));
+        }
+    }
+
+    // Counts a history.
+    pub(super) fn history(&mut self) {
+        self.add(0, 1);
     }
 
     // Counts an event by its kind, in the order that all rows have.
@@ -70,7 +88,7 @@ impl<V: PartialEq + Copy, const N: usize> Row<V, N> {
         self.add(2 + order(kind), 1);
     }
 
-    // Counts a difference after an event at a place, from 0, of the history that the counts have come to, and keeps the first one.
+    // Counts a difference, if there is one, and keeps the first. The event stands at that place, from 0, of the last history that was counted.
     pub(super) fn hold(&mut self, event: u64, place: u64, one: V, other: V) {
         if one == other {
             return;

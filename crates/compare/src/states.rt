@@ -4,7 +4,7 @@ use bus::Phase;
 use channel::{Channel, Fill, Tally};
 use chip::{Chip, Core, Edition, Enables, Port, PortC};
 
-// In one of two so near its end that a few events bring it back to 0.
+// A tally: any, or in one of two a value that a few events bring back to 0.
 fn tally(number: u64) -> u16 {
     let any = (number >> 8) % 65536;
     if number % 2 == 0 {
@@ -49,11 +49,12 @@ fn port(seed: u64) -> Port {
     }
 }
 
-// No cycle, or one at any address at all: in one of two at one that there is.
-pub(super) fn phase(number: u64) -> Phase {
-    let place = byte(number >> 8);
-    let there = if number % 2 == 0 { place % 4 } else { place };
-    match (number >> 2) % 3 {
+// No cycle, or one at any address at all; in one of two at an address that there is, up to the last one, whose bits are all ones. Another number
+// decides which of the three phases it is.
+pub(super) fn phase(number: u64, which: u64, last: u8) -> Phase {
+    let any = byte(number >> 8);
+    let there = if number % 2 == 0 { any & last } else { any };
+    match which % 3 {
         0 => Phase::Idle,
         1 => Phase::Reading(there),
         _ => Phase::Writing(there, byte(number >> 16)),
@@ -88,7 +89,7 @@ pub(super) fn arbitrary(seed: u64) -> Chip {
         },
     };
     Chip {
-        phase: phase(number >> 4),
+        phase: phase(number >> 4, number >> 6, chip::CONTROL),
         edition: edition(number >> 56),
         core,
     }

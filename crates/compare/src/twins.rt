@@ -1,8 +1,8 @@
-// The state of the proved model in the form of the second one.
+// The state of the proved model in the form of the second one, whose numbers these are.
 use super::apart::Machine;
 use bus::Phase;
-use channel::{Channel, Fill};
-use chip::{Chip, Edition};
+use channel::{Channel, Fill, Tally};
+use chip::{Chip, Core, Edition};
 
 // The phases of the bus.
 pub(super) const IDLE: u8 = 0;
@@ -38,8 +38,10 @@ pub(super) fn running(phase: Phase) -> Bus {
     }
 }
 
-// How many tallies a channel has, and those of all four: A in, A out, B in, B out.
+// How many tallies a channel has; its tallies; and those of all four channels: A in, A out, B in, B out.
 pub(super) const PER_CHANNEL: usize = 7;
+
+pub(super) type Counted = [u16; PER_CHANNEL];
 
 pub(super) type Tallies = [u16; 28];
 
@@ -51,37 +53,33 @@ fn mark(channel: &Channel) -> u8 {
     }
 }
 
-pub(super) fn tallies(chip: &Chip) -> Tallies {
+// The tallies of a channel in the order of the second model.
+pub(super) fn counted(tally: &Tally) -> Counted {
     [
-        chip.core.a.input.tally.offered,
-        chip.core.a.input.tally.handed,
-        chip.core.a.input.tally.overwritten,
-        chip.core.a.input.tally.swallowed,
-        chip.core.a.input.tally.cleared,
-        chip.core.a.input.tally.planted,
-        chip.core.a.input.tally.struck,
-        chip.core.a.output.tally.offered,
-        chip.core.a.output.tally.handed,
-        chip.core.a.output.tally.overwritten,
-        chip.core.a.output.tally.swallowed,
-        chip.core.a.output.tally.cleared,
-        chip.core.a.output.tally.planted,
-        chip.core.a.output.tally.struck,
-        chip.core.b.input.tally.offered,
-        chip.core.b.input.tally.handed,
-        chip.core.b.input.tally.overwritten,
-        chip.core.b.input.tally.swallowed,
-        chip.core.b.input.tally.cleared,
-        chip.core.b.input.tally.planted,
-        chip.core.b.input.tally.struck,
-        chip.core.b.output.tally.offered,
-        chip.core.b.output.tally.handed,
-        chip.core.b.output.tally.overwritten,
-        chip.core.b.output.tally.swallowed,
-        chip.core.b.output.tally.cleared,
-        chip.core.b.output.tally.planted,
-        chip.core.b.output.tally.struck,
+        tally.offered,
+        tally.handed,
+        tally.overwritten,
+        tally.swallowed,
+        tally.cleared,
+        tally.planted,
+        tally.struck,
     ]
+}
+
+pub(super) fn tallies(chip: &Chip) -> Tallies {
+    let Core { a, b, .. } = &chip.core;
+    let channels = [
+        counted(&a.input.tally),
+        counted(&a.output.tally),
+        counted(&b.input.tally),
+        counted(&b.output.tally),
+    ];
+    std::array::from_fn(|at| channels[at / PER_CHANNEL][at % PER_CHANNEL])
+}
+
+// How far each tally moved, which may have passed its end.
+pub(super) fn moved(before: &Tallies, after: &Tallies) -> Tallies {
+    std::array::from_fn(|at| after[at].wrapping_sub(before[at]))
 }
 
 // The edition by the number of the second model.

@@ -1,17 +1,25 @@
--- An arm of a match on the group meets a definition over words and groups, by a test at every word.
+-- What is asked of a word under masks, for one group, is what a definition says of that group: a test at every word.
 -- Rests on bits' Tested.
 use mathlib.Core.Path.{◌≡◌, ◌∙◌, ap, sym}
-use mathlib.Core.Bool.{Bool}
+use mathlib.Core.Bool.{Bool, ◌||◌}
 use Prim.Native.Nat.{ℕ, ◌<◌}
-use lib.Dec.{T}
-use Rattle.bits.proofs.Tested.{all, same, alike, numbers, bits}
+use lib.Bits.{bit_and}
+use lib.Dec.{T, eqb}
+use Rattle.bits.proofs.Tested.{all, same, bits}
 use Rattle.control.specs.declared.Group.{Group}
+use Rattle.control.specs.declared.Group.TheVariants.{A, B}
 
--- The arm computes f, and the definition says d of this group.
-pub number-of-group : (f : ℕ → ℕ) (d : ℕ → Group → ℕ) (this : Group) → T (alike 256 f (λ w. d w this))
-    → (w : ℕ) (group : Group) → w < 256 → group ≡ this → f w ≡ d w group
-number-of-group f d this t w group h e = numbers 256 f (λ w. d w this) t w h ∙ ap (d w) (sym e)
+-- Bits under a mask, which is all that is asked for group B; for group A bit 6, which is mode 2, does as well.
+abbrev pub under : ℕ → ℕ → ℕ → Bool
+under mask value w = eqb (bit_and w mask) value
 
-pub bit-of-group : (f : ℕ → Bool) (d : ℕ → Group → Bool) (this : Group) → T (all 256 (λ w. same (f w) (d w this)))
-    → (w : ℕ) (group : Group) → w < 256 → group ≡ this → f w ≡ d w group
-bit-of-group f d this t w group h e = bits 256 f (λ w. d w this) t w h ∙ ap (d w) (sym e)
+abbrev pub two_or_under : ℕ → ℕ → ℕ → Bool
+two_or_under mask value w = under 0x40 0x40 w || under mask value w
+
+module _ (d : ℕ → Group → Bool) (mask value : ℕ) where
+  pub asked-of-a : T (all 256 (λ w. same (two_or_under mask value w) (d w A)))
+      → (w : ℕ) (group : Group) → w < 256 → group ≡ A → two_or_under mask value w ≡ d w group
+  asked-of-a t w group h e = bits 256 (two_or_under mask value) (λ w. d w A) t w h ∙ ap (d w) (sym e)
+
+  pub asked-of-b : T (all 256 (λ w. same (under mask value w) (d w B))) → (w : ℕ) (group : Group) → w < 256 → group ≡ B → under mask value w ≡ d w group
+  asked-of-b t w group h e = bits 256 (under mask value) (λ w. d w B) t w h ∙ ap (d w) (sym e)

@@ -3,10 +3,14 @@ use mathlib.Core.Path.{◌≡◌, ◌∙◌, refl, ap, sym}
 use mathlib.Core.List.{[], ◌∷◌}
 use Prim.Native.Nat.{ℕ}
 use lib.ListN.{get_or}
+use Rattle.std.specs.Prelude.{Option, Some, None}
 use Rattle.bits.proofs.Determined.{Determines, equation-determines}
 use Rattle.control.specs.declared.mode.Mode.{Mode}
 use Rattle.control.specs.declared.mode.Mode.TheVariants.{Zero, One, Two}
 use Rattle.control.specs.Mode.{mode_number}
+use Rattle.control.specs.declared.Role.{Role}
+use Rattle.control.specs.declared.Role.TheVariants.{Input, Output, Intr, Ibf, Obf, Stb, Ack}
+use Rattle.control.specs.Lookup.{number_told}
 use Rattle.control.specs.contracts as control_says
 use Rattle.control.proofs as control
 
@@ -48,6 +52,24 @@ outputs-determined c x y = equation-determines
 
 pub role-determined : Determines control_says.lookup.role.ended control.lookup.role.Reads.Learnt
 role-determined c x y = equation-determines
+
+-- The role that has a number, or none; and an answer is that of the number that it tells.
+abbrev role_numbered : ℕ → Option Role
+role_numbered n = get_or (Some Input ∷ Some Output ∷ Some Intr ∷ Some Ibf ∷ Some Obf ∷ Some Stb ∷ Some Ack ∷ []) n None
+
+told-so : (r : Option Role) → r ≡ role_numbered (number_told r)
+told-so None = refl
+told-so (Some Input) = refl
+told-so (Some Output) = refl
+told-so (Some Intr) = refl
+told-so (Some Ibf) = refl
+told-so (Some Obf) = refl
+told-so (Some Stb) = refl
+told-so (Some Ack) = refl
+
+pub role-of-determined : Determines control_says.Role.of.ended control.Role.of.Reads.Learnt
+role-of-determined c x y p q =
+    equation-determines (told-so x.0 ∙ ap role_numbered p) (told-so y.0 ∙ ap role_numbered q)
 
 pub row-determined : Determines control_says.chart.row.ended control.chart.row.Reads.Learnt
 row-determined c x y = equation-determines

@@ -20,6 +20,7 @@ pub enum Group {
 
 impl Group {
     /// The group of a number, as scripts and C have it: 0 is A and 1 is B; `None` of any other.
+    // An `Option` and no `TryFrom`: of a number without a group there is nothing more to tell.
     pub fn numbered(number: u8) -> Option<Group>
         ensures { result ≡ group_numbered number }
     {
@@ -38,4 +39,16 @@ pub struct Directions {
     pub upper: bool,
     pub b: bool,
     pub lower: bool,
+}
+
+/// What a pin of port C can be, with its number in the published table: free, as an input or an output, or a signal of a handshake.
+#[derive(Clone, Copy, Debug, PartialEq, Eq)]
+pub enum Role {
+    Input = 0,
+    Output = 1,
+    Intr = 2,
+    Ibf = 3,
+    Obf = 4,
+    Stb = 5,
+    Ack = 6,
 }

@@ -2,36 +2,55 @@
 ghost use Rattle.std.specs.Prelude.{◌≡◌, ◌<◌};
 ghost use Rattle.control.specs.Mode.{strobed_input};
 ghost use Rattle.control.specs.declared.Group.TheVariants.{B};
-ghost use Rattle.control.specs.Role.{number};
 ghost use Rattle.control.specs.Pins.{handshake_role};
-ghost use Rattle.control.specs.Lookup.{lookup_of};
+ghost use Rattle.control.specs.Lookup.{role_told, number_told, lookup_of};
 
-use crate::{Group, mode, roles};
+use crate::{Group, Role, mode, roles};
 
-// The number of the one role that a handshake can give to a pin, a hexadecimal digit for each, pin 0 the last: in the lower half
-// where port B is a strobed input, and in the upper half where it is not, so that pin 1 is OBF there and pin 2 is ACK. A number and no
-// array, which the compiler would build on the stack at each call.
-const HANDSHAKE: u64 = 0x4635_2642_4635_2532;
+// What stands for no role where a role is told by its number, as the published table tells it.
+const NONE: u8 = 255;
 
-// The number of the role that a handshake gives to the pin.
-fn handshake_role(word: u8, pin: u8) -> u8
+// The one role that a handshake can give to the pin, which is one of eight: group B's has pins 0 to 2, and group A's the others.
+#[tactic(auto, unfolding(crate::specs::Pins::handshake_role))]
+fn handshake_role(word: u8, pin: u8) -> Role
     requires { pin < 8 }
-    ensures { result ≡ number (handshake_role (strobed_input word B) pin) }
+    ensures { role_told result ≡ handshake_role (strobed_input word B) pin }
 {
-    let half = bits::choose(mode::strobed_input(word, Group::B), 0, 32);
-    let at = (half + 4 * pin) as u64;
-    ((HANDSHAKE >> at) % 16) as u8
+    let b_is_input = mode::strobed_input(word, Group::B);
+    match pin {
+        0 | 3 => Role::Intr,
+        1 if b_is_input => Role::Ibf,
+        1 => Role::Obf,
+        2 if b_is_input => Role::Stb,
+        2 => Role::Ack,
+        4 => Role::Stb,
+        5 => Role::Ibf,
+        6 => Role::Ack,
+        _ => Role::Obf,
+    }
 }
 
-/// The number of the role of a pin under a mode word; 255 for a word below 128 or a pin above 7.
+impl Role {
+    /// The role of a pin under a mode word; `None` for a word below 128 or a pin above 7.
+    pub fn of(word: u8, pin: u8) -> Option<Role>
+        ensures { number_told result ≡ lookup_of word pin }
+    {
+        if (word < 128) | (7 < pin) {
+            return None;
+        }
+        if bits::bit(roles::handshake(word), pin) {
+            return Some(handshake_role(word, pin));
+        }
+        if bits::bit(roles::outputs(word), pin) {
+            return Some(Role::Output);
+        }
+        Some(Role::Input)
+    }
+}
+
+/// The number of that role; 255 where there is none.
 pub fn role(word: u8, pin: u8) -> u8
     ensures { result ≡ lookup_of word pin }
 {
-    if (word < 128) | (7 < pin) {
-        return 255;
-    }
-    if bits::bit(roles::handshake(word), pin) {
-        return handshake_role(word, pin);
-    }
-    bits::choose(bits::bit(roles::outputs(word), pin), 1, 0)
+    Role::of(word, pin).map_or(NONE, |role| role as u8)
 }

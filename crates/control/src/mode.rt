@@ -32,7 +32,8 @@ impl Mode {
     }
 }
 
-/// Whether port A, the upper half of C, port B and the lower half of C are set to input.
+/// Whether port A, the upper half of C, port B and the lower half of C are set to input. The chart of the data sheet says the same row by row
+/// (chart.rt): both have one contract, so that the sheet's table is proved to be these four bits.
 #[tactic(auto, unfolding(crate::specs::Mode::input_of, crate::specs::Mode::upper_input, crate::specs::Mode::lower_input))]
 pub fn directions(word: u8) -> Directions
     ensures { result ≡ directions_of word }

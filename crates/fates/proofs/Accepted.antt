@@ -1,5 +1,5 @@
 -- An event is accepted in the history's words exactly where its number is 0, and then the chip is what the step makes of it.
--- Rests on bits' Logic, the bus's ByKind, and chip's Outcome.
+-- Rests on bits' Logic, the bus's ByKind and Phases, and chip's Outcome.
 use mathlib.Core.Path.{◌≡◌, ◌∙◌, refl, ap, sym}
 use mathlib.Core.Bool.{Bool, true, false, not, cond, ◌&&◌, ◌||◌}
 use Prim.Native.Nat.{ℕ}
@@ -9,6 +9,7 @@ use borrow.Author.Tests.{ltb-true, lt-ltb, eqb-true, eqb-false}
 use Rattle.bits.proofs.Logic.{contrary}
 use Rattle.bus.specs.Kinds.{is_kind, no_kind}
 use Rattle.bus.proofs.ByKind.{by_kind, no_row}
+use Rattle.bus.proofs.Phases.{reads-accept, writes-accept, levels-accept}
 use Rattle.bus.specs.Event.{Event, event}
 use Rattle.bus.specs.Device.{after_in, byte_in}
 use Rattle.bus.specs.Refusals.{is_busy, number_of}
@@ -21,30 +22,26 @@ use Rattle.chip.specs.Step.{Stepped, readable, limits, device, accepted, refused
 use Rattle.chip.proofs.Outcome.{step-accepts, step-refuses}
 use Rattle.fates.specs.Kinds.{unknown, kind_of, free, readable_at, accepts}
 
--- A read, by whether it can be had there and whether there is such an address, where the first asks for the second.
-read-accepts : (ph : Phase) (can there : Bool) → (can ≡ true → there ≡ true)
-    → (can && free ph) ≡ eqb (cond (not there || false) 2 (cond (not can) 3 (cond (is_busy ph) 4 0))) 0
-read-accepts ph true false among = absurd (contrary false refl (among refl))
-read-accepts Idle true true among = refl
-read-accepts (Reading p) true true among = refl
-read-accepts (Writing a d) true true among = refl
-read-accepts ph false true among = refl
-read-accepts ph false false among = refl
+-- The bus is free where no cycle runs.
+free-is : (ph : Phase) → free ph ≡ not (is_busy ph)
+free-is Idle = refl
+free-is (Reading p) = refl
+free-is (Writing a d) = refl
+
+-- Whether there is such a place need not be asked of one that can be read.
+asked_too : (can there free : Bool) → (can ≡ true → there ≡ true) → (can && free) ≡ (there && (can && free))
+asked_too true true free among = refl
+asked_too true false free among = absurd (contrary false refl (among refl))
+asked_too false true free among = refl
+asked_too false false free among = refl
 
 begin-accepts : (ed : Edition) (ph : Phase) (x : ℕ)
     → (readable_at ed x && free ph) ≡ eqb (cond (not (ltb x 4) || false) 2 (cond (not (ltb x (readable ed))) 3 (cond (is_busy ph) 4 0))) 0
-begin-accepts Older ph x = read-accepts ph (ltb x 3) (ltb x 4) (λ can. let low = ltb-true x 3 can in lt-ltb x 4 (omega (arith, low)))
-begin-accepts Newer ph x = read-accepts ph (ltb x 4) (ltb x 4) (λ can. can)
-
-write-accepts : (ph : Phase) (there : Bool) → (there && free ph) ≡ eqb (cond (not there || false) 2 (cond (is_busy ph) 4 0)) 0
-write-accepts ph false = refl
-write-accepts Idle true = refl
-write-accepts (Reading p) true = refl
-write-accepts (Writing a d) true = refl
-
-levels-accept : (there : Bool) → there ≡ eqb (cond (not there) 2 0) 0
-levels-accept true = refl
-levels-accept false = refl
+begin-accepts Older ph x =
+    rw (free-is ph) (asked_too (ltb x 3) (ltb x 4) (not (is_busy ph)) (λ can. let low = ltb-true x 3 can in lt-ltb x 4 (omega (arith, low)))
+    ∙ reads-accept (ltb x 4) (ltb x 3) (is_busy ph))
+begin-accepts Newer ph x =
+    rw (free-is ph) (asked_too (ltb x 4) (ltb x 4) (not (is_busy ph)) (λ can. can) ∙ reads-accept (ltb x 4) (ltb x 4) (is_busy ph))
 
 end-accepts : (ed : Edition) (ph : Phase) → not (free ph) ≡ eqb (number_of (limits ed) ph 2 0) 0
 unfolding number_of is_kind
@@ -63,7 +60,7 @@ accepts-number ed ph k x d =
     refl
     (begin-accepts ed ph x)
     (end-accepts ed ph)
-    (write-accepts ph (ltb x 4))
+    (rw (free-is ph) (writes-accept (ltb x 4) (is_busy ph)))
     (levels-accept (ltb x 3))
     (λ k none. rw (no_name k x d none, none))
     k

@@ -1,6 +1,6 @@
 -- What the other group's events leave of the chip: a rule at another port's address, bit set/reset of another pin, and levels on port C
 -- that differ elsewhere.
--- Rests on Alike, Pins, bits' BitLaws, chip's OnPort and OneChannel, and on the PortsAfter of settings, writes and levels.
+-- Rests on Alike, Pins, bits' BitLaws, and on chip's OnPort, OneChannel, SettingsAfter, WritesAfter and LevelsAfter.
 use mathlib.Core.Path.{◌≡◌, ◌∙◌, refl, ap}
 use mathlib.Core.Bool.{Bool, true, false, and-false, and-not_self}
 use Prim.Native.Nat.{ℕ, ◌/◌, ◌%◌}

@@ -1,8 +1,5 @@
-pub mod Behind
 pub mod Copied
-pub mod Bounds
 pub mod Cycle
-pub mod BusNumber
 pub mod Zeros
 pub mod Long
 pub mod ComesBack

@@ -1,7 +1,7 @@
 -- An image is as long as an image is: so the state that it tells is loaded from it, and over it a chip's image is saved.
 -- Rests on bits' Logic.
 use mathlib.Core.Path.{◌≡◌}
-use mathlib.Core.Bool.{true}
+use mathlib.Core.Bool.{Bool, true, ◌&&◌}
 use mathlib.Core.List.{List}
 use Prim.Native.Nat.{ℕ}
 use native.Mathlib.Omega.{arith}
@@ -17,9 +17,13 @@ use Rattle.image.specs.Loaded.{state_of}
 use Rattle.image.specs.Good.{bytes_fit, is_image}
 use Rattle.image.specs.Slices.{saved_in, loaded_from}
 
+-- What asks for a length, and for more, is met by no other length.
+pub long-and-more : (l : List ℕ) (n : ℕ) (more : Bool) → (eqb (length l) n && more) ≡ true → length l ≡ n
+long-and-more l n more good = eqb-true _ _ (both (eqb (length l) n) more good).0
+
 pub is_long : (l : List ℕ) → is_image l ≡ true → length l ≡ places.length
 unfolding is_image
-is_long l good = eqb-true _ _ (both (eqb (length l) places.length) (bytes_fit l) good).0
+is_long l good = long-and-more l places.length (bytes_fit l) good
 
 pub written_over : (l : List ℕ) (c : Chip) → length l ≡ places.length → saved_in l c ≡ image_of c
 unfolding saved_in

@@ -1,5 +1,5 @@
 -- A state that meets the conditions has exactly one image, and comes back from it; any other has none; and all other bytes are refused.
--- Rests on ComesBack, Fitting and SameBytes, and on bits' Logic.
+-- Rests on Fitting and SameBytes, and on bits' Logic.
 use mathlib.Core.Path.{◌≡◌, ◌∙◌, refl, ap, sym}
 use mathlib.Core.Bool.{Bool, true, false}
 use mathlib.Core.List.{List}

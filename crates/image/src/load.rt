@@ -1,5 +1,6 @@
-//! The state that an image tells. The length is asked for once, before any byte is read, and not at each byte.
-ghost use Rattle.std.specs.Prelude.{◌≡◌, ◌+◌, ◌<◌, length};
+//! The state that an image tells. The length is asked for once, before any byte is read, and not at each byte. Each bound is by the width of what
+//! is read there: a type of a place would need one for every width.
+ghost use Rattle.std.specs.Prelude.{◌≡◌, ◌+◌, ◌<◌};
 ghost use Rattle.image.specs.Places as places;
 ghost use Rattle.image.specs.Loaded.{wide_at, tally_at, fill_as, channel_at, enables_as, phase_as, edition_as, state_of};
 ghost use Rattle.image.specs.Slices.{loaded_from};
@@ -14,15 +15,15 @@ use chip::handshakes::{ACK_A, LINE_B, STB_A};
 use chip::{Chip, Core, Edition, Enables, Port, PortC};
 
 // The number of the two bytes from a place on.
-pub(super) fn wide(image: &[u8], at: usize) -> u16
-    requires { at + 1 < length image.now }
+pub(super) fn wide(image: &[u8; LENGTH], at: usize) -> u16
+    requires { at + 1 < places.length }
     ensures { result ≡ wide_at image.now at }
 {
     u16::from_le_bytes([image[at], image[at + 1]])
 }
 
-fn tally(image: &[u8], at: usize) -> Tally
-    requires { at + 13 < length image.now }
+fn tally(image: &[u8; LENGTH], at: usize) -> Tally
+    requires { at + 13 < places.length }
     ensures { result ≡ tally_at image.now at }
 {
     Tally {
@@ -36,6 +37,7 @@ fn tally(image: &[u8], at: usize) -> Tally
     }
 }
 
+// The condition that a byte tells. No `From`: a byte above 2 tells none, and is judged in check.rt.
 fn fill(byte: u8) -> Fill
     ensures { result ≡ fill_as byte }
 {
@@ -46,9 +48,8 @@ fn fill(byte: u8) -> Fill
     }
 }
 
-fn channel(image: &[u8], k: usize) -> Channel
-    requires image_len { length image.now ≡ places.length }
-    requires k_bound { k < 4 }
+fn channel(image: &[u8; LENGTH], k: usize) -> Channel
+    requires { k < 4 }
     ensures { result ≡ channel_at image.now k }
 {
     Channel {
@@ -58,9 +59,8 @@ fn channel(image: &[u8], k: usize) -> Channel
     }
 }
 
-fn port(image: &[u8], k: usize, outside: u8) -> Port
-    requires image_len { length image.now ≡ places.length }
-    requires k_bound { k < 3 }
+fn port(image: &[u8; LENGTH], k: usize, outside: u8) -> Port
+    requires { k < 3 }
     ensures { result ≡ record { input = channel_at image.now k; output = channel_at image.now (k + 1); outside = outside } }
 {
     Port {
@@ -106,8 +106,7 @@ pub fn edition(byte: u8) -> Edition
 
 #[inline(always)]
 #[tactic(auto, unfolding(crate::specs::Loaded::state_of))]
-fn whole(image: &[u8]) -> Chip
-    requires { length image.now ≡ places.length }
+fn whole(image: &[u8; LENGTH]) -> Chip
     ensures { result ≡ state_of image.now }
 {
     Chip {
@@ -131,10 +130,10 @@ fn whole(image: &[u8]) -> Chip
 pub fn bus(image: &[u8]) -> Phase
     ensures { result ≡ (loaded_from image.now).phase }
 {
-    if image.len() != LENGTH {
-        return Phase::Idle;
+    match image.as_array::<LENGTH>() {
+        Some(image) => phase(image[BUS], image[WRITTEN]),
+        None => Phase::Idle,
     }
-    phase(image[BUS], image[WRITTEN])
 }
 
 /// The whole state. Bytes of another length than an image's tell none: for them it is the chip at power-up.
@@ -143,9 +142,8 @@ pub fn bus(image: &[u8]) -> Phase
 pub fn state(image: &[u8]) -> Chip
     ensures { result ≡ loaded_from image.now }
 {
-    if image.len() == LENGTH {
-        whole(image)
-    } else {
-        Chip::default()
+    match image.as_array() {
+        Some(image) => whole(image),
+        None => Chip::default(),
     }
 }

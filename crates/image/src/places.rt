@@ -36,14 +36,14 @@ pub const UNUSED: usize = 73;
 pub const LENGTH: usize = 96;
 
 // The byte of the bus: below WRITES it is the address that is read, from there on the address that is written above it, and IDLE that nothing
-// runs. A chip whose cycle names no address has NOWHERE, which no image has.
+// runs. A cycle at an address that there is not is saved as NOWHERE, and such bytes are no image.
 pub const WRITES: u8 = 4;
 
 pub const IDLE: u8 = 8;
 
 pub const NOWHERE: u8 = 255;
 
-// The byte of the edition. What was saved before there were two has OLDER there.
+// The byte of the edition. Images made for the 8255A alone have OLDER there.
 pub const OLDER: u8 = 0;
 
 pub const NEWER: u8 = 1;

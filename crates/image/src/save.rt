@@ -2,35 +2,36 @@
 ghost use Rattle.std.specs.Prelude.{◌≡◌, ◌+◌, ◌≤◌, ◌<◌, length, replicate};
 ghost use Rattle.std.proofs.lemmas.List.Edits.{sets};
 ghost use Rattle.image.specs.Places as places;
-ghost use Rattle.image.specs.Layout.{wide_bytes, tally_bytes, of_channels, fill_byte, enables_byte, bus_byte, written_byte, port_bytes, core_bytes, bus_bytes, edition_byte, image_of};
+ghost use Rattle.image.specs.Layout.{wide_bytes, tally_bytes, of_channels, enables_byte, bus_byte, written_byte, port_bytes, core_bytes, bus_bytes, edition_byte, image_of};
 ghost use Rattle.image.specs.Slices.{saved_in, core_saved_in, bus_saved_in};
 
 use super::places::{
     BUS, CHANNEL_TALLIES, CONDITIONS, EDITION, ENABLES, IDLE, LATCH_C, LATCHES, LENGTH, LEVELS_A,
-    LEVELS_B, LEVELS_C, NEWER, NOWHERE, OLDER, TALLIES, UNUSED, WORD, WRITES, WRITTEN,
+    LEVELS_B, LEVELS_C, NOWHERE, TALLIES, UNUSED, WORD, WRITES, WRITTEN,
 };
 use bus::Phase;
-use channel::{Fill, Tally};
+use channel::Tally;
 use chip::{Chip, Core, Edition, Enables};
 
 // The bytes from a place on become these.
 #[inline(always)]
-fn put(image: &mut [u8], at: usize, bytes: &[u8])
-    requires { at + length bytes.now ≤ length image.old }
+#[tactic(auto, using(crate::proofs::Copied::copied))]
+fn put(image: &mut [u8; LENGTH], at: usize, bytes: &[u8])
+    requires { at + length bytes.now ≤ places.length }
     ensures { image.new ≡ sets image.old at bytes.now }
 {
     image[at..at + bytes.len()].copy_from_slice(bytes);
 }
 
-fn put_wide(image: &mut [u8], at: usize, value: u16)
-    requires { at + 1 < length image.old }
+fn put_wide(image: &mut [u8; LENGTH], at: usize, value: u16)
+    requires { at + 1 < places.length }
     ensures { image.new ≡ sets image.old at (wide_bytes value) }
 {
     put(image, at, &value.to_le_bytes());
 }
 
-fn put_tally(image: &mut [u8], at: usize, tally: &Tally)
-    requires { at + 13 < length image.old }
+fn put_tally(image: &mut [u8; LENGTH], at: usize, tally: &Tally)
+    requires { at + 13 < places.length }
     ensures { image.new ≡ sets image.old at (tally_bytes tally.now) }
 {
     put_wide(image, at, tally.offered);
@@ -42,24 +43,13 @@ fn put_tally(image: &mut [u8], at: usize, tally: &Tally)
     put_wide(image, at + 12, tally.struck);
 }
 
-fn put_tallies(image: &mut [u8], core: &Core)
-    requires { length image.old ≡ places.length }
+fn put_tallies(image: &mut [u8; LENGTH], core: &Core)
     ensures { image.new ≡ sets image.old places.tallies (of_channels tally_bytes core.now) }
 {
     put_tally(image, TALLIES, &core.a.input.tally);
     put_tally(image, TALLIES + CHANNEL_TALLIES, &core.a.output.tally);
     put_tally(image, TALLIES + 2 * CHANNEL_TALLIES, &core.b.input.tally);
     put_tally(image, TALLIES + 3 * CHANNEL_TALLIES, &core.b.output.tally);
-}
-
-fn fill(fill: Fill) -> u8
-    ensures { result ≡ fill_byte fill }
-{
-    match fill {
-        Fill::Empty => 0,
-        Fill::Waiting => 1,
-        Fill::Fetching => 2,
-    }
 }
 
 pub(super) fn enables(inte: Enables) -> u8
@@ -97,17 +87,14 @@ fn written(phase: Phase) -> u8
     }
 }
 
+// A function, since with the cast in place the proof of the whole does not close.
 fn edition_byte(edition: Edition) -> u8
     ensures { result ≡ edition_byte edition }
 {
-    match edition {
-        Edition::Older => OLDER,
-        Edition::Newer => NEWER,
-    }
+    edition as u8
 }
 
-fn put_ports(image: &mut [u8], core: &Core)
-    requires { length image.old ≡ places.length }
+fn put_ports(image: &mut [u8; LENGTH], core: &Core)
     ensures { image.new ≡ sets image.old places.levels_a (port_bytes core.now) }
 {
     image[LEVELS_A] = core.a.outside;
@@ -118,14 +105,13 @@ fn put_ports(image: &mut [u8], core: &Core)
     image[LATCHES + 1] = core.a.output.latch;
     image[LATCHES + 2] = core.b.input.latch;
     image[LATCHES + 3] = core.b.output.latch;
-    image[CONDITIONS] = fill(core.a.input.fill);
-    image[CONDITIONS + 1] = fill(core.a.output.fill);
-    image[CONDITIONS + 2] = fill(core.b.input.fill);
-    image[CONDITIONS + 3] = fill(core.b.output.fill);
+    image[CONDITIONS] = core.a.input.fill as u8;
+    image[CONDITIONS + 1] = core.a.output.fill as u8;
+    image[CONDITIONS + 2] = core.b.input.fill as u8;
+    image[CONDITIONS + 3] = core.b.output.fill as u8;
 }
 
-fn put_core(image: &mut [u8], core: &Core)
-    requires { length image.old ≡ places.length }
+fn put_core(image: &mut [u8; LENGTH], core: &Core)
     ensures { image.new ≡ sets image.old places.tallies (core_bytes core.now) }
 {
     put_tallies(image, core);
@@ -134,8 +120,7 @@ fn put_core(image: &mut [u8], core: &Core)
     image[ENABLES] = enables(core.inte);
 }
 
-fn put_bus(image: &mut [u8], phase: Phase)
-    requires { length image.old ≡ places.length }
+fn put_bus(image: &mut [u8; LENGTH], phase: Phase)
     ensures { image.new ≡ sets image.old places.bus (bus_bytes phase) }
 {
     image[BUS] = bus_byte(phase);
@@ -143,8 +128,7 @@ fn put_bus(image: &mut [u8], phase: Phase)
 }
 
 #[tactic(auto, unfolding(crate::specs::Layout::image_of))]
-fn whole(image: &mut [u8], chip: &Chip)
-    requires { length image.old ≡ places.length }
+fn whole(image: &mut [u8; LENGTH], chip: &Chip)
     ensures { image.new ≡ image_of chip.now }
 {
     put_core(image, &chip.core);
@@ -158,7 +142,7 @@ fn whole(image: &mut [u8], chip: &Chip)
 pub fn state(image: &mut [u8], chip: &Chip)
     ensures { image.new ≡ saved_in image.old chip.now }
 {
-    if image.len() == LENGTH {
+    if let Some(image) = image.as_mut_array() {
         whole(image, chip);
     }
 }
@@ -168,7 +152,7 @@ pub fn state(image: &mut [u8], chip: &Chip)
 pub fn core(image: &mut [u8], core: &Core)
     ensures { image.new ≡ core_saved_in image.old core.now }
 {
-    if image.len() == LENGTH {
+    if let Some(image) = image.as_mut_array() {
         put_core(image, core);
     }
 }
@@ -178,7 +162,7 @@ pub fn core(image: &mut [u8], core: &Core)
 pub fn bus(image: &mut [u8], phase: Phase)
     ensures { image.new ≡ bus_saved_in image.old phase }
 {
-    if image.len() == LENGTH {
+    if let Some(image) = image.as_mut_array() {
         put_bus(image, phase);
     }
 }

@@ -17,7 +17,7 @@ read-determined c x y = equation-determines
 pub pack-determined : Determines journal_says.words.Logged.pack.ended journal.words.Logged.pack.Reads.Learnt
 pack-determined c x y = equation-determines
 
-pub number-determined : Determines journal_says.TrimRefusal.number.ended journal.TrimRefusal.number.Reads.Learnt
+pub number-determined : Determines journal_says.TrimRefusalNumbered.number.ended journal.TrimRefusalNumbered.number.Reads.Learnt
 number-determined c x y = equation-determines
 
 -- An outcome is what its answer tells.

@@ -5,3 +5,4 @@ pub mod Derived
 pub mod Keeping
 pub mod Trimming
 pub mod Determined
+pub mod Editions

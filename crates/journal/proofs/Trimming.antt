@@ -24,54 +24,37 @@ kept-at-most c (w ∷ ws) = go (kept_from (after_word c w) ws) (same_state c (af
     go ks true most = omega (arith, most)
     go ks false most = omega (arith, most)
 
--- A trim is accepted where there are not too many words, and all are frames.
-pub record Accepted (ws : List ℕ) : Type 0 where
-  pub fits : length ws ≤ most_words
-  pub frames : all_frames ws ≡ true
+module _ (ws : List ℕ) (edition a b c : ℕ) where
+  pub refused_answer : ¬ (trim_number ws edition ≡ 0) → trim_number ws edition ≡ trim_answer ws edition a b c
+  unfolding trim_answer
+  refused_answer refused = rw (ne_eqb (trim_number ws edition) 0 refused)
 
-module _ (ws : List ℕ) (edition : ℕ) where
-  pub when-accepted : trim_number ws edition ≡ 0 → Accepted ws
-  unfolding trim_number
-  when-accepted zero = go (edition_fits edition) (ltb most_words (length ws)) refl (all_frames ws) refl zero
+  pub refused-words : ¬ (trim_number ws edition ≡ 0) → ws ≡ trimmed_words ws edition a b c
+  unfolding trimmed_words
+  refused-words refused = rw (ne_eqb (trim_number ws edition) 0 refused)
+
+  pub accepted_answer : trim_number ws edition ≡ 0 → 256 * length (kept_of ws edition a b c) ≡ trim_answer ws edition a b c
+  unfolding trim_answer
+  accepted_answer zero = rw (eq-eqb (trim_number ws edition) 0 zero)
+
+  pub accepted-words : trim_number ws edition ≡ 0 → filled_up (kept_of ws edition a b c) (length ws) ≡ trimmed_words ws edition a b c
+  unfolding trimmed_words
+  accepted-words zero = rw (eq-eqb (trim_number ws edition) 0 zero)
+
+  -- No answer is greater than that of the longest journal, all of which is kept.
+  pub answer-at-most : trim_answer ws edition a b c ≤ 256 * most_words
+  unfolding trim_number trim_answer
+  answer-at-most = go (edition_fits edition) (ltb most_words (length ws)) refl (all_frames ws)
     where
-      go : (known many : Bool) → ltb most_words (length ws) ≡ many → (all : Bool) → all_frames ws ≡ all
-          → cond (not known) no_edition_number (cond many too_long_number (cond all 0 no_frame_number)) ≡ 0 → Accepted ws
-      go false many m all a e = absurd (omega (arith, e))
-      go true true m all a e = absurd (omega (arith, e))
-      go true false m false a e = absurd (omega (arith, e))
-      go true false m true a e = record { fits = ltb-false most_words (length ws) m; frames = a }
+      count : ℕ
+      count = length (kept_of ws edition a b c)
 
-  module _ (a b c : ℕ) where
-    pub refused_answer : ¬ (trim_number ws edition ≡ 0) → trim_number ws edition ≡ trim_answer ws edition a b c
-    unfolding trim_answer
-    refused_answer refused = rw (ne_eqb (trim_number ws edition) 0 refused)
+      answer_by : ℕ → ℕ
+      answer_by n = cond (eqb n 0) (256 * count) n
 
-    pub refused-words : ¬ (trim_number ws edition ≡ 0) → ws ≡ trimmed_words ws edition a b c
-    unfolding trimmed_words
-    refused-words refused = rw (ne_eqb (trim_number ws edition) 0 refused)
-
-    pub accepted_answer : trim_number ws edition ≡ 0 → 256 * length (kept_of ws edition a b c) ≡ trim_answer ws edition a b c
-    unfolding trim_answer
-    accepted_answer zero = rw (eq-eqb (trim_number ws edition) 0 zero)
-
-    pub accepted-words : trim_number ws edition ≡ 0 → filled_up (kept_of ws edition a b c) (length ws) ≡ trimmed_words ws edition a b c
-    unfolding trimmed_words
-    accepted-words zero = rw (eq-eqb (trim_number ws edition) 0 zero)
-
-    -- No answer is greater than that of the longest journal, all of which is kept.
-    pub answer-at-most : trim_answer ws edition a b c ≤ 256 * most_words
-    unfolding trim_number trim_answer
-    answer-at-most = go (edition_fits edition) (ltb most_words (length ws)) refl (all_frames ws)
-      where
-        count : ℕ
-        count = length (kept_of ws edition a b c)
-
-        answer_by : ℕ → ℕ
-        answer_by n = cond (eqb n 0) (256 * count) n
-
-        go : (known many : Bool) → ltb most_words (length ws) ≡ many → (all : Bool)
-            → answer_by (cond (not known) no_edition_number (cond many too_long_number (cond all 0 no_frame_number))) ≤ 256 * most_words
-        go false many m all = omega arith
-        go true true m all = omega arith
-        go true false m false = omega arith
-        go true false m true = omega (arith, kept-at-most (power_up_as (edition_as edition) (levels_by a b c)) ws, ltb-false most_words (length ws) m)
+      go : (known many : Bool) → ltb most_words (length ws) ≡ many → (all : Bool)
+          → answer_by (cond (not known) no_edition_number (cond many too_long_number (cond all 0 no_frame_number))) ≤ 256 * most_words
+      go false many m all = omega arith
+      go true true m all = omega arith
+      go true false m false = omega arith
+      go true false m true = omega (arith, kept-at-most (power_up_as (edition_as edition) (levels_by a b c)) ws, ltb-false most_words (length ws) m)

@@ -1,5 +1,6 @@
 -- The trim of a journal: what is kept, its number, its answer, and the words that it leaves ("Trimming the journal").
-use Rattle.std.specs.Prelude.{Bool, cond, not, List, [], ◌∷◌, ◌++◌, ℕ, ◌-◌, ◌*◌, eqb, ltb, length, replicate, Option, Some, None, Result, Ok, Err}
+use Rattle.std.specs.Prelude.{refl, Bool, cond, not, List, [], ◌∷◌, ◌++◌, ℕ, ◌-◌, ◌*◌, eqb, ltb, length, replicate, Result, Ok, Err}
+use Rattle.bus.specs.Never0.{Never0}
 use Rattle.chip.specs.declared.Chip.{Chip}
 use Rattle.chip.specs.declared.Edition.{Edition}
 use Rattle.chip.specs.declared.Edition.TheVariants.{Older, Newer}
@@ -26,9 +27,6 @@ edition_fits n = not (ltb 1 n)
 abbrev pub edition_as : ℕ → Edition
 edition_as n = cond (eqb n 0) Older Newer
 
-abbrev pub edition_numbered : ℕ → Option Edition
-edition_numbered n = cond (edition_fits n) (Some (edition_as n)) None
-
 -- They are kept from a power-up on, whose edition and levels the caller names.
 abbrev pub kept_of : List ℕ → ℕ → ℕ → ℕ → ℕ → List ℕ
 kept_of ws edition a b c = kept_from (power_up_as (edition_as edition) (levels_by a b c)) ws
@@ -51,6 +49,11 @@ abbrev pub refusal_number : TrimRefusal → ℕ
 refusal_number NoEdition = no_edition_number
 refusal_number TooLong = too_long_number
 refusal_number NoFrame = no_frame_number
+
+pub refusal-never-0 : Never0 refusal_number
+refusal-never-0 NoEdition = refl
+refusal-never-0 TooLong = refl
+refusal-never-0 NoFrame = refl
 
 -- The number of a trim: that of the first refusal that applies, and 0 where none does.
 unfoldable pub trim_number : List ℕ → ℕ → ℕ

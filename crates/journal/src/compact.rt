@@ -25,7 +25,7 @@ fn changes(chip: &Chip, copy: &mut Chip, word: u32) -> bool
 }
 
 // Moves the words whose events change the chip to the front, leaves zero words behind them, and gives their count. Each word is taken out of its
-// place before it is known whether it is kept, so that one pass does both.
+// place before it is known whether it is kept, so that one pass does both. By an index, since the words are moved within the one slice that is lent.
 pub(super) fn keep(words: &mut [u32], mut chip: Chip) -> usize
     requires { all_frames words.old ≡ true }
     ensures value { result ≡ length (kept_from chip words.old) }

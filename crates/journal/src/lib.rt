@@ -3,11 +3,13 @@
 #![tactic(auto)]
 
 ghost use Rattle.std.specs.Prelude.{◌≡◌};
-ghost use Rattle.journal.specs.Trim.{edition_numbered, refusal_number, answer_told, trim_answer, trimmed_words};
+ghost use Rattle.chip.specs.State.{edition_number};
+ghost use Rattle.journal.specs.Trim.{refusal_number, refusal-never-0, answer_told, trim_answer, trimmed_words};
 
 mod compact;
 pub mod words;
 
+use bus::refusals::Numbered;
 use chip::{Chip, Edition, Levels};
 
 // How many words a journal may have.
@@ -17,45 +19,30 @@ const MOST_WORDS: usize = 8192;
 #[derive(Clone, Copy, Debug, PartialEq, Eq)]
 pub enum TrimRefusal {
     /// A word is no frame.
-    NoFrame,
+    NoFrame = 1,
     /// There are too many words.
-    TooLong,
+    TooLong = 6,
     /// There is no such edition.
-    NoEdition,
+    NoEdition = 8,
 }
 
-impl TrimRefusal {
-    /// The number of the refusal.
-    pub fn number(self) -> u8
-        ensures { result ≡ refusal_number self }
-    {
-        match self {
-            TrimRefusal::NoFrame => 1,
-            TrimRefusal::TooLong => 6,
-            TrimRefusal::NoEdition => 8,
-        }
-    }
-}
+impl Numbered for TrimRefusal {
+    ghost number_of = { refusal_number };
 
-// The edition by its number, as C names it.
-fn edition_numbered(number: u8) -> Option<Edition>
-    ensures { result ≡ edition_numbered number }
-{
-    match number {
-        0 => Some(Edition::Older),
-        1 => Some(Edition::Newer),
-        _ => None,
+    ghost never_0 = { refusal-never-0 };
+
+    fn number(&self) -> u8 {
+        *self as u8
     }
 }
 
 /// Keeps the words whose events change the chip, from a power-up of that edition under those levels on, and gives their count. A refused
 /// call changes no word.
-#[tactic(auto, unfolding(crate::specs::Trim::trim_number, crate::specs::Trim::trim_answer, crate::specs::Trim::trimmed_words))]
-pub fn trim(words: &mut [u32], edition: u8, levels: Levels) -> Result<usize, TrimRefusal>
-    ensures value { answer_told result ≡ trim_answer words.old edition levels.a levels.b levels.c }
-    ensures words_after { words.new ≡ trimmed_words words.old edition levels.a levels.b levels.c }
+#[tactic(auto, using(crate::proofs::Editions::edition_fits, crate::proofs::Editions::edition_as_named), unfolding(crate::specs::Trim::trim_number, crate::specs::Trim::trim_answer, crate::specs::Trim::trimmed_words))]
+pub fn trim(words: &mut [u32], edition: Edition, levels: Levels) -> Result<usize, TrimRefusal>
+    ensures value { answer_told result ≡ trim_answer words.old (edition_number edition) levels.a levels.b levels.c }
+    ensures words_after { words.new ≡ trimmed_words words.old (edition_number edition) levels.a levels.b levels.c }
 {
-    let edition = edition_numbered(edition).ok_or(TrimRefusal::NoEdition)?;
     if words.len() > MOST_WORDS {
         return Err(TrimRefusal::TooLong);
     }
@@ -65,13 +52,24 @@ pub fn trim(words: &mut [u32], edition: u8, levels: Levels) -> Result<usize, Tri
     Ok(compact::keep(words, Chip::new(edition, levels)))
 }
 
+// The same, by the number of the edition, if there is such a one.
+#[tactic(auto, using(chip::proofs::Editions::edition_back, crate::proofs::Editions::no_edition), unfolding(crate::specs::Trim::trim_number, crate::specs::Trim::trim_answer, crate::specs::Trim::trimmed_words))]
+fn trim_numbered(words: &mut [u32], edition: u8, levels: Levels) -> Result<usize, TrimRefusal>
+    ensures value { answer_told result ≡ trim_answer words.old edition levels.a levels.b levels.c }
+    ensures words_after { words.new ≡ trimmed_words words.old edition levels.a levels.b levels.c }
+{
+    let edition = Edition::numbered(edition).ok_or(TrimRefusal::NoEdition)?;
+    trim(words, edition, levels)
+}
+
 /// The same in numbers, as C has it: the count above the number 0, or the number of the refusal.
+// Not by one function with calls: there a u16 is given, and here a count whose bound the trim alone knows.
 pub fn towanchor_trim(words: &mut [u32], edition: u8, a: u8, b: u8, c: u8) -> u32
     ensures value { result ≡ trim_answer words.old edition a b c }
     ensures words_after { words.new ≡ trimmed_words words.old edition a b c }
 {
-    match trim(words, edition, Levels { a, b, c }) {
+    match trim_numbered(words, edition, Levels { a, b, c }) {
         Ok(kept) => 256 * kept as u32,
-        Err(refusal) => refusal.number() as u32,
+        Err(refusal) => u32::from(refusal.number()),
     }
 }

@@ -1,9 +1,11 @@
 //! The words of a journal: an event packed in 32 bits, what a word packs, and whether it is a frame.
 ghost use Rattle.std.specs.Prelude.{◌≡◌};
+ghost use Rattle.bus.specs.Answers.{raw};
 ghost use Rattle.bus.specs.Event.{event};
 ghost use Rattle.journal.specs.Words.{word_of, event_in, logged_in, unused_zero, is_frame, all_frames};
 
-use bus::kinds;
+use bus::events::Event;
+use bus::kinds::Kind;
 
 /// An event as it was logged. The number of its kind may be no byte, for all upper sixteen bits of a word are the kind.
 #[derive(Clone, Copy, Debug, PartialEq, Eq)]
@@ -18,10 +20,11 @@ impl Logged {
     pub fn read(word: u32) -> Self
         ensures { result ≡ logged_in word }
     {
+        let [high, low, first, second] = word.to_be_bytes();
         Logged {
-            kind: (word / 65536) as u16,
-            first: (word / 256 % 256) as u8,
-            second: (word % 256) as u8,
+            kind: u16::from_be_bytes([high, low]),
+            first,
+            second,
         }
     }
 
@@ -29,18 +32,38 @@ impl Logged {
     pub fn pack(self) -> u32
         ensures { result ≡ word_of (event self.kind self.first self.second) }
     {
-        65536 * (self.kind as u32) + 256 * (self.first as u32) + (self.second as u32)
+        let [high, low] = self.kind.to_be_bytes();
+        u32::from_be_bytes([high, low, self.first, self.second])
+    }
+
+    // Whether nothing stands where a kind of so many operands has none: in both of them, in the second, or nowhere.
+    fn is_exact(self, operands: u8) -> bool
+        ensures { result ≡ unused_zero operands (event self.kind self.first self.second) }
+    {
+        match operands {
+            0 => (self.first == 0) & (self.second == 0),
+            1 => self.second == 0,
+            _ => true,
+        }
     }
 }
 
-// Whether nothing stands where a kind of so many operands has none: in both lower bytes, in the lowest, or nowhere.
-fn is_exact(word: u32, operands: u8) -> bool
-    ensures { result ≡ unused_zero operands (event_in word) }
-{
-    match operands {
-        0 => word % 65536 == 0,
-        1 => word % 256 == 0,
-        _ => true,
+impl From<Event> for Logged {
+    ghost from_gives = { λ given logged. event logged.kind logged.first logged.second ≡ raw given };
+
+    fn from(event: Event) -> Self {
+        let (kind, first, second) = match event {
+            Event::Reset => (Kind::Reset, 0, 0),
+            Event::BeginRead(address) => (Kind::BeginRead, address, 0),
+            Event::EndCycle => (Kind::EndCycle, 0, 0),
+            Event::BeginWrite(address, byte) => (Kind::BeginWrite, address, byte),
+            Event::OutsideLevels(port, levels) => (Kind::OutsideLevels, port, levels),
+        };
+        Logged {
+            kind: u16::from(kind.number()),
+            first,
+            second,
+        }
     }
 }
 
@@ -49,8 +72,12 @@ fn is_exact(word: u32, operands: u8) -> bool
 fn is_frame(word: u32) -> bool
     ensures { result ≡ is_frame (event_in word) }
 {
-    let kind = (word / 65536) as u16;
-    kinds::is_kind(kind) & is_exact(word, kinds::operands(kind))
+    let logged = Logged::read(word);
+    // By a match, into which the prover goes as it does not go into a closure.
+    match Kind::numbered(logged.kind) {
+        Some(kind) => logged.is_exact(kind.operands()),
+        None => false,
+    }
 }
 
 // Whether all words are frames.

@@ -1,5 +1,5 @@
 -- Levels that are there already, and that go through to no latch that holds something else, leave the core as it is.
--- Rests on bits' Logic.
+-- Rests on nothing.
 use mathlib.Core.Path.{◌≡◌, ◌∙◌, refl, ap, sym}
 use mathlib.Core.Bool.{Bool, true, false, cond, not, ◌&&◌, and-false}
 use Prim.Native.Nat.{ℕ}

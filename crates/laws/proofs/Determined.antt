@@ -1,12 +1,10 @@
--- The contracts of the public functions of bits, channel and chip, of the methods of the chip as a device, and of a frame's refusal made from an
--- event's, leave no choice: two outcomes that one allows of a call are equal.
+-- The contracts of the public functions of bits, channel and chip, and of the methods of the chip as a device, leave no choice: two outcomes that one
+-- allows of a call are equal.
 -- Rests on bits' Determined.
 use mathlib.Core.Path.{refl}
 use Rattle.bits.proofs.Determined.{Determines, equation-determines, equations-determine}
 use Rattle.bits.specs.contracts as bits_says
 use Rattle.bits.proofs as bits
-use Rattle.bus.specs.contracts as bus_says
-use Rattle.bus.proofs as bus
 use Rattle.channel.specs.contracts as channel_says
 use Rattle.channel.proofs as channel
 use Rattle.chip.specs.contracts as chip_says
@@ -23,9 +21,6 @@ byte-determined c x y = equation-determines
 
 pub blend-determined : Determines bits_says.blend.ended bits.blend.Reads.Learnt
 blend-determined c x y = equation-determines
-
-pub pair-determined : Determines bits_says.pair.ended bits.pair.Reads.Learnt
-pair-determined c x y = equation-determines
 
 pub choose-determined : Determines bits_says.choose.ended bits.choose.Reads.Learnt
 choose-determined c x y = equation-determines
@@ -50,6 +45,9 @@ clear-determined c x y p q = equations-determine (refl, p) (refl, q)
 
 pub force-determined : Determines channel_says.Channel.force.ended channel.Channel.force.Reads.Learnt
 force-determined c x y p q = equations-determine (refl, p) (refl, q)
+
+pub edition-numbered-determined : Determines chip_says.Edition.numbered.ended chip.Edition.numbered.Reads.Learnt
+edition-numbered-determined c x y = equation-determines
 
 pub power-up-determined : Determines chip_says.Chip.new.ended chip.Chip.new.Reads.Learnt
 power-up-determined c x y = equation-determines
@@ -122,7 +120,3 @@ device-begin-write-determined c x y p q = equations-determine (refl, p) (refl, q
 
 pub device-put-levels-determined : Determines chip_says.device.ChipDevice.put_levels.ended chip.device.ChipDevice.put_levels.Reads.Learnt
 device-put-levels-determined c x y p q = equations-determine (refl, p) (refl, q)
-
-pub frame-refusal-from-determined
-    : Determines bus_says.refusals.FrameRefusalFromRefusal.from.ended bus.refusals.FrameRefusalFromRefusal.from.Reads.Learnt
-frame-refusal-from-determined c x y = equation-determines

@@ -16,15 +16,12 @@ use Rattle.control.specs.declared.Group.TheVariants.{A, B}
 use Rattle.control.specs.Mode.{mode_of, input_of, upper_input, lower_input, strobed_input, output_of}
 use Rattle.control.specs.Role.{input, number, uses_of, free_role, role_of}
 use Rattle.control.proofs.PinByMasks.{number-one}
-use Rattle.channel.specs.declared.Side.{Side}
-use Rattle.channel.specs.declared.Side.TheVariants.{Input, Output}
 use Rattle.channel.proofs.ConditionsLeft.{clear-empties, clear-zeroes, clear-counts}
 use Rattle.chip.specs.declared.Core.{Core}
 use Rattle.chip.specs.declared.Chip.{Chip}
-use Rattle.chip.specs.State.{no_enables, port_of, channel_of}
-use Rattle.chip.specs.Handshakes.{enable_of}
+use Rattle.chip.specs.State.{port_of, channel_of}
 use Rattle.chip.specs.ModeWord.{cleared_port, after_mode_word}
-use Rattle.chip.proofs.SettingsAfter.{mode-word-channel, mode-word-word, mode-word-ports, mode-word-lines, mode-word-latch, mode-word-enables, mode-word}
+use Rattle.chip.proofs.SettingsAfter.{mode-word-channel, mode-word-word, mode-word-ports, mode-word-lines, mode-word-latch, mode-word-enable, mode-word}
 use Rattle.chip.specs.Write.{after_write_ends}
 use Rattle.chip.specs.Reads.{read_port}
 use Rattle.chip.specs.Pins.{drives_port, pins_of_port, pins_of_lines, pins_of}
@@ -38,17 +35,11 @@ anew c w = record {
   empty = λ g s. ap (λ ch. ch.fill) (mode-word-channel c w g s) ∙ clear-empties (channel_of c g s);
   latches = λ g s. ap (λ ch. ch.latch) (mode-word-channel c w g s) ∙ clear-zeroes (channel_of c g s);
   lines = mode-word-latch c w;
-  enables = λ g s. rw (mode-word-enables c w) (off g s);
+  enables = mode-word-enable c w;
   tallies = λ g s. ap (λ ch. ch.tally) (mode-word-channel c w g s) ∙ clear-counts (channel_of c g s);
   levels = mode-word-ports c w;
   lines_levels = mode-word-lines c w;
 }
-  where
-    off : (g : Group) (s : Side) → enable_of no_enables g s ≡ false
-    off A Input = refl
-    off A Output = refl
-    off B Input = refl
-    off B Output = refl
 
 -- A mode word, whatever the last one was.
 mode-write : (c : Core) (w : ℕ) → bit_of w 7 ≡ true → after_write_ends c 3 w ≡ after_mode_word c w

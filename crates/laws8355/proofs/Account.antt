@@ -68,7 +68,7 @@ module _ (c : Chip8355) (a : Account) (k : Agrees c a) where
       answers true = levels-shown e.first
       answers false = refl
 
--- Over a history.
+-- Over a history. The 8255A has an induction of its own: `run` and `over` are other functions there, and no fold that both share.
 agrees-over : (es : List Event) (c : Chip8355) (a : Account) → Agrees c a → Agrees (run c es) (over a es)
 agrees-over [] c a k = k
 agrees-over (e ∷ es) c a k = agrees-over es _ (account_next a e) (agrees-next c a e k)

@@ -14,7 +14,7 @@ use Rattle.bus.specs.Refusals.{is_busy, number_of}
 use Rattle.i8355.specs.Step.{limits}
 use Rattle.laws8355.specs.Table.{begun, unknown, row_of}
 
--- A cycle that begins, on an idle bus or not.
+-- A cycle that begins, on an idle bus or not. The table has its own `begun`, as the account of the 8255A has, so that each says this of its own.
 on-bus : (ph : Phase) → ◌≡◌ {A = ℕ} (cond (is_busy ph) 4 0) (begun ph)
 on-bus Idle = refl
 on-bus (Reading x) = refl

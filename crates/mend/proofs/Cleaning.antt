@@ -5,9 +5,12 @@ use mathlib.Core.Bool.{Bool, true, false, cond}
 use mathlib.Core.List.{List, [], ◌∷◌, ◌++◌, map, flat_map}
 use Prim.Native.Nat.{ℕ, suc, ◌+◌, ◌≤◌}
 use native.Mathlib.Omega.{arith}
+use denote.Ref.{Bor}
 use lib.Dec.{eqb}
 use lib.ListN.{length, drop, length-append}
 use lib.Seq.{append_snoc}
+use Rattle.std.specs.List.{sum_by}
+use Rattle.std.proofs.lemmas.List.Sums.{sum_by-cons}
 use Rattle.text.specs.Lines.{lf, Line, ended, rest, before_lines, lines_of}
 use Rattle.text.specs.declared.line.Line as lent
 use Rattle.text.specs.Answers.{line_of, bytes_lent}
@@ -22,9 +25,12 @@ abbrev pub clean_in : Line → List ℕ
 clean_in l = clean_line (bytes_of l)
 
 -- The bytes of a line as they are lent.
-pub bytes-lent : (l : lent.Line) → (bytes_lent l).now ≡ bytes_of (line_of l)
+bytes-lent : (l : lent.Line) → (bytes_lent l).now ≡ bytes_of (line_of l)
 bytes-lent (lent.TheVariants.Ended bytes) = refl
 bytes-lent (lent.TheVariants.Rest bytes) = refl
+
+pub bytes-got : (l : lent.Line) (bytes : Bor (List ℕ)) → bytes ≡ bytes_lent l → bytes.now ≡ bytes_of (line_of l)
+bytes-got l bytes is = ap (λ (b : Bor (List ℕ)). b.now) is ∙ bytes-lent l
 
 module _ (line : List ℕ) where
   pub of-a-fit : is_frame (mended line) ≡ true → clean_line line ≡ mended line ++ lf ∷ []
@@ -52,6 +58,15 @@ module _ (line : List ℕ) where
       go : (t : Bool) → is_frame (mended line) ≡ t → length (clean_line line) ≤ length line + 1
       go true is = omega (arith, fit_length is, no_longer line)
       go false is = omega (arith, ap length (of-another is))
+
+-- The clean script is as long as what it has of each line together.
+abbrev pub clean_length : Line → ℕ
+clean_length l = length (clean_in l)
+
+pub lengths-add-up : (ls : List Line) → sum_by clean_length ls ≡ length (flat_map clean_in ls)
+unfolding flat_map
+lengths-add-up [] = refl
+lengths-add-up (l ∷ ls) = omega (arith, sum_by-cons clean_length l ls, lengths-add-up ls, length-append (clean_in l) (flat_map clean_in ls))
 
 -- The lines of a text, each with an LF.
 abbrev with_ends : List Line → ℕ

@@ -22,7 +22,7 @@ told-so (Ok m) = refl
 told-so (Err TooLong) = refl
 told-so (Err NoRoom) = refl
 
-pub number-determined : Determines mend_says.MendRefusal.number.ended mend.MendRefusal.number.Reads.Learnt
+pub number-determined : Determines mend_says.MendRefusalNumbered.number.ended mend.MendRefusalNumbered.number.Reads.Learnt
 number-determined c x y = equation-determines
 
 -- Before both outputs stands the text, which is not written.

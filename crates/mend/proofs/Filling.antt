@@ -1,5 +1,5 @@
 -- An output while the bytes of some items are written into it, one after the other: each turn changes it, and what it will hold at the end
--- stays the same. The items are the bytes of a line, or the lines of a text.
+-- stays the same. The items are the lines of a text, and an item's bytes what the clean script has of it, or its sign.
 -- Rests on script's Filling.
 use mathlib.Core.Path.{◌≡◌, ◌∙◌, refl, ap, sym}
 use mathlib.Core.List.{List, [], ◌∷◌, ◌++◌, map, flat_map, append_assoc}
@@ -44,7 +44,7 @@ module _ {A : Type 0} (part : A → List ℕ) where
     unfolding flat_map
     split = length-append (part x) (flat_map part xs)
 
-    pub fits : at + length (part x) ≤ length out
+    fits : at + length (part x) ≤ length out
     fits = omega (arith, way.room, split)
 
     pub room-for-one : length (part x) ≤ length (take (length out - at) (drop at out))

@@ -1,7 +1,8 @@
 -- The mending of a captured script: the clean script, the report, the number, the answer, and what both outputs then hold
 -- ("Mending captured scripts").
-use Rattle.std.specs.Prelude.{cond, ◌||◌, ℕ, ◌+◌, ◌*◌, eqb, ltb, length, drop, Result, Ok, Err}
+use Rattle.std.specs.Prelude.{refl, cond, ◌||◌, ℕ, ◌+◌, ◌*◌, eqb, ltb, length, drop, Result, Ok, Err}
 use mathlib.Core.List.{List, ◌++◌, map, flat_map}
+use Rattle.bus.specs.Never0.{Never0}
 use Rattle.text.specs.Lines.{Line, lines_of, line_count}
 use Rattle.script.specs.Run.{too_long, too_long_number, no_room_number}
 use Rattle.mend.specs.declared.Mended.{Mended}
@@ -28,6 +29,10 @@ mend_number text clean_room report_room =
 abbrev pub mend_refusal_number : MendRefusal → ℕ
 mend_refusal_number TooLong = too_long_number
 mend_refusal_number NoRoom = no_room_number
+
+pub mend-refusal-never-0 : Never0 mend_refusal_number
+mend-refusal-never-0 TooLong = refl
+mend-refusal-never-0 NoRoom = refl
 
 -- What a call comes to: its number, and both lengths, which are 0 where it is refused.
 pub record Outcome : Type 0 where

@@ -7,7 +7,7 @@ use crate::line;
 use text::lines::Lines;
 
 // How many bytes the clean script has of a line: its own and LF where it is fit, and else none.
-#[tactic(auto, unfolding(crate::specs::Line::clean_line))]
+#[tactic(auto, using(crate::proofs::Cleaning::fit_length), unfolding(crate::specs::Line::clean_line))]
 fn length_of(line: &[u8]) -> usize
     ensures { result ≡ length (clean_line line.now) }
 {
@@ -22,15 +22,11 @@ fn length_of(line: &[u8]) -> usize
 pub(super) fn length(text: &[u8]) -> usize
     ensures { result ≡ length (clean_of text.now) }
 {
-    let mut length = 0;
-    for line in Lines::new(text) {
-        length += length_of(line.bytes());
-    }
-    length
+    Lines::new(text).map(|line| length_of(line.bytes())).sum()
 }
 
 // Puts what the clean script has of a line at the start of an output; how many bytes that is.
-#[tactic(auto, unfolding(crate::specs::Line::clean_line))]
+#[tactic(auto, using(crate::proofs::Cleaning::fit_length), unfolding(crate::specs::Line::clean_line))]
 fn put_line(out: &mut [u8], line: &[u8]) -> usize
     requires { length (clean_line line.now) ≤ length out.old }
     ensures value { result ≡ length (clean_line line.now) }
@@ -44,7 +40,8 @@ fn put_line(out: &mut [u8], line: &[u8]) -> usize
     bytes.len() + 1
 }
 
-// Writes the clean script to the front of an output, each line from where the last one stopped.
+// Writes the clean script to the front of an output, each line from where the last one stopped. A walk by `split_at_mut` would be no plainer:
+// how much of the output a line takes is known once it is put.
 #[tactic(auto, unfolding(crate::specs::Mend::clean_of))]
 pub(super) fn write(text: &[u8], out: &mut [u8])
     requires { length (clean_of text.now) ≤ length out.old }

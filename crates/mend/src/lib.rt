@@ -2,8 +2,9 @@
 #![tactic(auto)]
 
 ghost use Rattle.std.specs.Prelude.{◌≡◌, length};
-ghost use Rattle.mend.specs.Mend.{mend_refusal_number, mend_told, outcome_of, mend_answer, clean_left, report_left};
+ghost use Rattle.mend.specs.Mend.{mend_refusal_number, mend-refusal-never-0, mend_told, outcome_of, mend_answer, clean_left, report_left};
 
+use bus::refusals::Numbered;
 use script::LONGEST;
 use text::lines;
 
@@ -18,24 +19,22 @@ pub struct Mended {
     pub report: usize,
 }
 
-/// Why a call is refused.
+/// Why a call is refused. Not the refusal of a run: that one knows neither a clean form nor a second output.
 #[derive(Clone, Copy, Debug, PartialEq, Eq)]
 pub enum MendRefusal {
     /// The text or its clean form is longer than a script may be.
-    TooLong,
+    TooLong = 6,
     /// One of the outputs has too little room.
-    NoRoom,
+    NoRoom = 7,
 }
 
-impl MendRefusal {
-    /// The number of the refusal.
-    pub fn number(self) -> u8
-        ensures { result ≡ mend_refusal_number self }
-    {
-        match self {
-            MendRefusal::TooLong => 6,
-            MendRefusal::NoRoom => 7,
-        }
+impl Numbered for MendRefusal {
+    ghost number_of = { mend_refusal_number };
+
+    ghost never_0 = { mend-refusal-never-0 };
+
+    fn number(&self) -> u8 {
+        *self as u8
     }
 }
 

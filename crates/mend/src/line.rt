@@ -11,9 +11,6 @@ use text::line::Line;
 // What some captures have before LF.
 const CR: u8 = 13;
 
-// What the small letters have more than the capitals.
-const SMALL: u8 = 32;
-
 // The longest frame is a kind and two operands.
 const LONGEST_FRAME: usize = 6;
 
@@ -23,7 +20,7 @@ fn raise(code: u8) -> u8
     ensures { result ≡ raised code }
 {
     match code {
-        b'a'..=b'f' => code - SMALL,
+        b'a'..=b'f' => code.to_ascii_uppercase(),
         _ => code,
     }
 }
@@ -40,13 +37,16 @@ pub(super) fn put(out: &mut [u8], bytes: &[u8])
     requires { length bytes.now < length out.old }
     ensures { out.new ≡ map raised bytes.now ++ lf ∷ drop (suc (length bytes.now)) out.old }
 {
-    for (at, &code) in bytes.iter().enumerate() {
-        out[at] = raise(code);
+    let line = &mut out[..bytes.len()];
+    line.copy_from_slice(bytes);
+    for code in line.iter_mut() {
+        *code = raise(*code);
     }
     out[bytes.len()] = LF;
 }
 
 // Whether a line is a frame when it is mended: it is mended in a room that has just the longest one and its LF.
+#[tactic(auto, using(crate::proofs::Fit::too_wide))]
 pub(super) fn is_fit(line: &[u8]) -> bool
     ensures { result ≡ is_frame (mended line.now) }
 {
@@ -85,7 +85,7 @@ impl Sign {
         Sign::Unfit
     }
 
-    // Its letter in the report.
+    // Its letter in the report. By discriminants it would be no plainer: they are of type `isize`, and each letter would be cast to it.
     pub(super) fn letter(self) -> u8
         ensures { result ≡ letter_of self }
     {

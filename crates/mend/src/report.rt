@@ -11,6 +11,7 @@ pub(super) fn write(text: &[u8], out: &mut [u8])
     requires { line_count text.now ≤ length out.old }
     ensures { out.new ≡ in_front (report_of text.now) out.old }
 {
+    // A zip with the output tells the prover nothing of what was written.
     for (at, line) in Lines::new(text).enumerate() {
         out[at] = Sign::of(line).letter();
     }

@@ -1,5 +1,5 @@
 -- What is promised of a call: its number, and where it is accepted what it leaves and what that means.
--- Rests on AllLines and Calls, on mend's Numbers and Cleaning, on script's History, and on text's LineCount.
+-- Rests on AllLines, OneLine and Calls, on mend's Numbers and Cleaning, and on script's History.
 use mathlib.Core.Path.{◌≡◌, ◌∙◌, refl, ap, sym}
 use mathlib.Core.Bool.{true, ◌||◌, or-true}
 use mathlib.Core.List.{List, ◌∷◌, ◌++◌, map, flat_map}

@@ -1,16 +1,14 @@
 -- An older image is as long as older images are.
--- Rests on bits' Logic.
+-- Rests on image's Long.
 use mathlib.Core.Path.{◌≡◌}
 use mathlib.Core.Bool.{true}
 use mathlib.Core.List.{List}
 use Prim.Native.Nat.{ℕ}
-use lib.Dec.{eqb}
 use lib.ListN.{length}
-use borrow.Author.Tests.{eqb-true}
-use Rattle.bits.proofs.Logic.{both}
+use Rattle.image.proofs.Long.{long-and-more}
 use Rattle.older.specs.Places as places
 use Rattle.older.specs.Good.{bytes_fit, is_older}
 
 pub is_long : (l : List ℕ) → is_older l ≡ true → length l ≡ places.length
 unfolding is_older
-is_long l good = eqb-true _ _ (both (eqb (length l) places.length) (bytes_fit l) good).0
+is_long l good = long-and-more l places.length (bytes_fit l) good

@@ -4,29 +4,32 @@
 
 ghost use Rattle.std.specs.Prelude.{◌≡◌, ◌+◌, ◌≤◌, length};
 ghost use Rattle.std.proofs.lemmas.List.Edits.{sets};
-ghost use Rattle.older.specs.Places as places;
 ghost use Rattle.image.specs.Places as now;
 ghost use Rattle.older.specs.Loaded.{phase_as};
 ghost use Rattle.older.specs.Good.{cycle_fits, bytes_fit, is_older};
 ghost use Rattle.older.specs.Slices.{moved_of, converted_of, converted_in};
 
-pub mod places;
+mod places;
 
 use bus::Phase;
+use chip::CONTROL;
 use image::places as now;
-use places::{ADDRESS, BUS, CHANNEL_TALLIES, LENGTH, LEVELS_A, TALLIES, UNUSED, WRITTEN};
+use places::{
+    ADDRESS, BUS, CHANNEL_TALLIES, IDLE, LENGTH, LEVELS_A, READS, TALLIES, UNUSED, WRITES, WRITTEN,
+};
 
-// The bytes from a place on become those of a part.
-fn put(moved: &mut [u8], at: usize, part: &[u8])
-    requires { at + length part.now ≤ length moved.old }
+// The bytes from a place on become those of a part. A function of its own: copied in place, the first three parts leave the bounds of the fourth
+// unproved. The crate image has the same, which asks for its bounds: and no function asks anything of another crate.
+#[tactic(auto, using(image::proofs::Copied::copied))]
+fn put(moved: &mut [u8; now::LENGTH], at: usize, part: &[u8])
+    requires { at + length part.now ≤ now.length }
     ensures { moved.new ≡ sets moved.old at part.now }
 {
     moved[at..at + part.len()].copy_from_slice(part);
 }
 
 // The bytes at the places of an image of the older edition, on an idle bus. The two tallies that an older image lacks are 0.
-fn moved(older: &[u8]) -> [u8; now::LENGTH]
-    requires { length older.now ≡ places.length }
+fn moved(older: &[u8; LENGTH]) -> [u8; now::LENGTH]
     ensures { result ≡ moved_of older.now }
 {
     let mut moved = [0u8; now::LENGTH];
@@ -53,19 +56,19 @@ fn moved(older: &[u8]) -> [u8; now::LENGTH]
     moved
 }
 
+// Whether these three bytes are those of a cycle of the older edition, which does not read control.
 fn cycle(bus: u8, address: u8, written: u8) -> bool
     ensures { result ≡ cycle_fits bus address written }
 {
     match bus {
-        0 => (address == 0) & (written == 0),
-        1 => (address < 3) & (written == 0),
-        2 => address < 4,
+        IDLE => (address == 0) & (written == 0),
+        READS => (address < CONTROL) & (written == 0),
+        WRITES => address <= CONTROL,
         _ => false,
     }
 }
 
-fn fits(image: &[u8]) -> bool
-    requires { length image.now ≡ places.length }
+fn fits(image: &[u8; LENGTH]) -> bool
     ensures { result ≡ bytes_fit image.now }
 {
     let moved = moved(image);
@@ -77,9 +80,9 @@ fn fits(image: &[u8]) -> bool
 pub fn good(image: &[u8]) -> bool
     ensures { result ≡ is_older image.now }
 {
-    if image.len() != LENGTH {
+    let Some(image) = image.as_array() else {
         return false;
-    }
+    };
     fits(image)
 }
 
@@ -87,20 +90,19 @@ fn phase(bus: u8, address: u8, written: u8) -> Phase
     ensures { result ≡ phase_as bus address written }
 {
     match bus {
-        0 => Phase::Idle,
-        1 => Phase::Reading(address),
+        IDLE => Phase::Idle,
+        READS => Phase::Reading(address),
         _ => Phase::Writing(address, written),
     }
 }
 
-fn whole(older: &[u8], image: &mut [u8])
-    requires older_len { length older.now ≡ places.length }
-    requires image_len { length image.old ≡ now.length }
+#[tactic(auto, unfolding(crate::specs::Loaded::older_state))]
+fn whole(older: &[u8; LENGTH], image: &mut [u8; now::LENGTH])
     ensures { image.new ≡ converted_of older.now }
 {
     let moved = moved(older);
     let phase = phase(older[BUS], older[ADDRESS], older[WRITTEN]);
-    image.copy_from_slice(&moved);
+    *image = moved;
     image::save::bus(image, phase);
 }
 
@@ -110,7 +112,9 @@ fn whole(older: &[u8], image: &mut [u8])
 pub fn convert(older: &[u8], image: &mut [u8])
     ensures { image.new ≡ converted_in older.now image.old }
 {
-    if (older.len() == LENGTH) & (image.len() == now::LENGTH) {
+    if let Some(older) = older.as_array()
+        && let Some(image) = image.as_mut_array()
+    {
         whole(older, image);
     }
 }

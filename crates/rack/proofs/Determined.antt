@@ -3,32 +3,27 @@
 use mathlib.Core.Path.{◌≡◌, ◌∙◌, refl, ap₂}
 use Rattle.std.specs.Prelude.{cond, ℕ, eqb, Result, Ok, Err}
 use Rattle.bits.proofs.Determined.{Determines, equation-determines, equations-determine}
-use Rattle.bus.specs.Answers.{byte_told}
-use Rattle.bus.specs.declared.refusals.Refusal.{Refusal}
+use Rattle.bus.proofs.Determined as bus
+use Rattle.bus.proofs.Determined.{answer_of}
+use Rattle.bus.specs.Answers.{frame_number, number_told, byte_told}
 use Rattle.bus.specs.declared.refusals.Refusal.TheVariants.{OutOfRange, NotReadable, CycleRuns, NoCycleRuns}
-use Rattle.rack.specs.Answers.{number_told, frame_number_told}
+use Rattle.rack.specs.Answers.{refusal_number}
 use Rattle.rack.specs.Bases.{no_card_number}
 use Rattle.rack.specs.declared.refusals.RackRefusal.{RackRefusal}
 use Rattle.rack.specs.declared.refusals.RackRefusal.TheVariants.{NoCard, Card}
-use Rattle.rack.specs.declared.refusals.RackFrameRefusal.{RackFrameRefusal}
-use Rattle.rack.specs.declared.refusals.RackFrameRefusal.TheVariants.{NoSuchKind, Event}
+use Rattle.bus.specs.declared.refusals.FrameRefusal.{FrameRefusal}
+use Rattle.bus.specs.declared.refusals.FrameRefusal.TheVariants.{NoSuchKind, Event}
 use Rattle.rack.specs.contracts as rack_says
 use Rattle.rack.proofs as rack
 
--- The refusal that has a number, and the answer that tells a number and a byte.
-abbrev of_card : ℕ → Refusal
-of_card n = cond (eqb n 2) OutOfRange (cond (eqb n 3) NotReadable (cond (eqb n 4) CycleRuns NoCycleRuns))
+-- The refusal that has a number.
+abbrev pub refusal_of : ℕ → RackRefusal
+refusal_of n = cond (eqb n no_card_number) NoCard (Card (bus.refusal_of n))
 
-abbrev refusal_of : ℕ → RackRefusal
-refusal_of n = cond (eqb n no_card_number) NoCard (Card (of_card n))
-
-abbrev frame_of : ℕ → RackFrameRefusal
+abbrev pub frame_of : ℕ → FrameRefusal RackRefusal
 frame_of n = cond (eqb n 1) NoSuchKind (Event (refusal_of n))
 
-abbrev answer_of : {E : Type 0} → (ℕ → E) → ℕ → ℕ → Result ℕ E
-answer_of refusal n b = cond (eqb n 0) (Ok b) (Err (refusal n))
-
-told-so : (r : Result ℕ RackRefusal) → r ≡ answer_of refusal_of (number_told r) (byte_told r)
+told-so : (r : Result ℕ RackRefusal) → r ≡ answer_of refusal_of (number_told refusal_number r) (byte_told r)
 told-so (Ok b) = refl
 told-so (Err NoCard) = refl
 told-so (Err (Card OutOfRange)) = refl
@@ -36,7 +31,7 @@ told-so (Err (Card NotReadable)) = refl
 told-so (Err (Card CycleRuns)) = refl
 told-so (Err (Card NoCycleRuns)) = refl
 
-frame-told-so : (r : Result ℕ RackFrameRefusal) → r ≡ answer_of frame_of (frame_number_told r) (byte_told r)
+pub frame-told-so : (r : Result ℕ (FrameRefusal RackRefusal)) → r ≡ answer_of frame_of (number_told (frame_number refusal_number) r) (byte_told r)
 frame-told-so (Ok b) = refl
 frame-told-so (Err NoSuchKind) = refl
 frame-told-so (Err (Event NoCard)) = refl
@@ -66,14 +61,11 @@ explain-numbered-determined c x y = equation-determines
 pub numbered-determined : Determines rack_says.events.RackEvent.numbered.ended rack.events.RackEvent.numbered.Reads.Learnt
 numbered-determined c x y = equation-determines
 
-pub bad-rack-number-determined : Determines rack_says.refusals.BadRack.number.ended rack.refusals.BadRack.number.Reads.Learnt
+pub bad-rack-number-determined : Determines rack_says.refusals.BadRackNumbered.number.ended rack.refusals.BadRackNumbered.number.Reads.Learnt
 bad-rack-number-determined c x y = equation-determines
 
-pub refusal-number-determined : Determines rack_says.refusals.RackRefusal.number.ended rack.refusals.RackRefusal.number.Reads.Learnt
+pub refusal-number-determined : Determines rack_says.refusals.RackRefusalNumbered.number.ended rack.refusals.RackRefusalNumbered.number.Reads.Learnt
 refusal-number-determined c x y = equation-determines
-
-pub frame-number-determined : Determines rack_says.refusals.RackFrameRefusal.number.ended rack.refusals.RackFrameRefusal.number.Reads.Learnt
-frame-number-determined c x y = equation-determines
 
 pub step-determined : Determines rack_says.Rack.step.ended rack.Rack.step.Reads.Learnt
 step-determined c x y p q =
@@ -119,7 +111,3 @@ default-determined c x y = equation-determines
 
 pub refusal-from-determined : Determines rack_says.refusals.RackRefusalFromRefusal.from.ended rack.refusals.RackRefusalFromRefusal.from.Reads.Learnt
 refusal-from-determined c x y = equation-determines
-
-pub frame-refusal-from-determined
-    : Determines rack_says.refusals.RackFrameRefusalFromRackRefusal.from.ended rack.refusals.RackFrameRefusalFromRackRefusal.from.Reads.Learnt
-frame-refusal-from-determined c x y = equation-determines

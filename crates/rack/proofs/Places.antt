@@ -1,15 +1,16 @@
 -- Places and addresses in numbers.
 -- Rests on the laws of truth values.
-use mathlib.Core.Path.{◌≡◌, ◌∙◌}
-use mathlib.Core.Bool.{true, false}
-use mathlib.Core.List.{List}
+use mathlib.Core.Path.{◌≡◌, refl, sym}
+use mathlib.Core.Bool.{Bool, true, false}
+use mathlib.Core.List.{List, [], ◌∷◌}
 use Rattle.std.specs.Prelude.{Some, None}
-use Prim.Native.Nat.{ℕ, suc, ◌<◌, ◌≤◌, ◌+◌}
+use Prim.Native.Nat.{ℕ, zero, suc, min, ◌<◌, ◌≤◌, ◌+◌}
+use native.Mathlib.Nat.{add-zero}
 use native.Mathlib.Omega.{arith}
 use lib.Dec.{ltb, leb}
-use lib.ListN.{length, take, drop, get_or, length-take, drop_of_length-le}
-use lib.Seq.{drop-cons, get_or-take}
-use borrow.Author.Tests.{leb-true}
+use lib.ListN.{length, take, get_or, length-take}
+use lib.Seq.{take_all, take-take}
+use borrow.Author.Tests.{leb-true, ltb-true, ltb-false}
 use Rattle.bits.proofs.Logic.{both}
 use Rattle.rack.specs.Bases.{most_cards, card_width}
 use Rattle.rack.specs.Targets.{answers_at, register_at, target_from, bases_in}
@@ -19,24 +20,31 @@ pub not-before : (base address : ℕ) → answers_at base address ≡ true → b
 unfolding answers_at
 not-before base address e = leb-true _ _ (both (leb base address) (ltb address (base + card_width)) e).0
 
--- The cards are looked through from a place on: none is left, the one at the place answers, or it does not.
-module _ (count place address : ℕ) (bases : List ℕ) where
-  there : place < count → place < length bases → place < most_cards → place < length (bases_in count bases)
-  there h g f = omega (arith, h, g, f, length-take most_cards (take count bases), length-take count bases)
+-- The bases up to the count, and at most eight, are those of the cards that there are.
+pub in-rack : (count : ℕ) (bases : List ℕ) → take (min count most_cards) bases ≡ bases_in count bases
+in-rack count bases = go (ltb count most_cards) refl
+  where
+    go : (t : Bool) → ltb count most_cards ≡ t → take (min count most_cards) bases ≡ bases_in count bases
+    go true few =
+        let short : min count most_cards ≡ count = omega (arith, ltb-true count most_cards few) in
+        rw (short) (sym (take_all most_cards (take count bases) (omega (arith, length-take count bases, ltb-true count most_cards few))))
+    go false many =
+        let full : min count most_cards ≡ most_cards = omega (arith, ltb-false count most_cards many) in
+        rw (full) (sym (take-take most_cards count bases (ltb-false count most_cards many)))
 
-  here : place < count → place < most_cards → get_or (bases_in count bases) place 0 ≡ get_or bases place 0
-  here h f = get_or-take most_cards (take count bases) place 0 f ∙ get_or-take count bases place 0 h
+-- The first that answers, of cards at the places from i on; or none does.
+pub at-first : (address : ℕ) (bases : List ℕ) (i place : ℕ) {found : ℕ} → found ≡ i + place → place < length bases → answers_at (get_or bases place 0) address ≡ true
+    → ((k : ℕ) → k < place → answers_at (get_or bases k 0) address ≡ false)
+    → target_from i bases address ≡ Some (found, register_at (get_or bases place 0) address)
+unfolding target_from
+at-first address [] i place at there is before = absurd (omega (arith, there))
+at-first address (b ∷ bs) i zero at there is before = rw (is, at, add-zero i) refl
+at-first address (b ∷ bs) i (suc place) at there is before =
+    rw (before 0 (omega arith))
+    (at-first address bs (suc i) place (omega (arith, at)) (omega (arith, there)) is (λ k h. before (suc k) (omega (arith, h))))
 
-  pub no_more : length (bases_in count bases) ≤ place → target_from place (drop place (bases_in count bases)) address ≡ None
-  unfolding target_from
-  no_more h = rw (drop_of_length-le (bases_in count bases) h)
-
-  pub found : place < count → place < length bases → place < most_cards → answers_at (get_or bases place 0) address ≡ true
-      → target_from place (drop place (bases_in count bases)) address ≡ Some (place, register_at (get_or bases place 0) address)
-  unfolding target_from
-  found h g f e = rw (drop-cons (bases_in count bases) place 0 (there h g f), here h f, e)
-
-  pub passed : place < count → place < length bases → place < most_cards → answers_at (get_or bases place 0) address ≡ false
-      → target_from place (drop place (bases_in count bases)) address ≡ target_from (suc place) (drop (suc place) (bases_in count bases)) address
-  unfolding target_from
-  passed h g f e = rw (drop-cons (bases_in count bases) place 0 (there h g f), here h f, e)
+pub at-none : (address : ℕ) (bases : List ℕ) (i : ℕ) → ((k : ℕ) → k < length bases → answers_at (get_or bases k 0) address ≡ false)
+    → target_from i bases address ≡ None
+unfolding target_from
+at-none address [] i none = refl
+at-none address (b ∷ bs) i none = rw (none 0 (omega arith)) (at-none address bs (suc i) (λ k h. none (suc k) (omega (arith, h))))

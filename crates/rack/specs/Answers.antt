@@ -1,5 +1,5 @@
 -- Events and refusals of a rack by their numbers, and what it gives for an event ("Events and numbers", "A rack of cards").
-use Rattle.std.specs.Prelude.{cond, ℕ, eqb, Option, Some, None, Result, Ok, Err}
+use Rattle.std.specs.Prelude.{cond, ℕ, eqb, Option, Some, None}
 use Rattle.bus.specs.Kinds as kinds
 use Rattle.bus.specs.declared.events.Event as devices
 use Rattle.bus.specs.Device.{Given}
@@ -11,9 +11,8 @@ use Rattle.rack.specs.declared.events.RackEvent.{RackEvent}
 use Rattle.rack.specs.declared.events.RackEvent.TheVariants.{Reset, BeginRead, EndCycle, BeginWrite, OutsideLevels}
 use Rattle.rack.specs.declared.refusals.RackRefusal.{RackRefusal}
 use Rattle.rack.specs.declared.refusals.RackRefusal.TheVariants.{NoCard, Card}
-use Rattle.rack.specs.declared.refusals.RackFrameRefusal.{RackFrameRefusal}
-use Rattle.rack.specs.declared.refusals.RackFrameRefusal.TheVariants.{NoSuchKind, Event}
-use Rattle.rack.specs.Bases.{no_card_number}
+use Rattle.rack.specs.declared.refusals.BadRack.{BadRack}
+use Rattle.rack.specs.Bases.{bad_rack_number, no_card_number}
 use Rattle.rack.specs.Step.{Stepped, device, step_of}
 
 -- The event that four numbers name, where the first is a kind.
@@ -26,24 +25,14 @@ event_numbered k x y z =
     (cond (eqb k kinds.outside_levels) (Some (OutsideLevels x y z))
     None))))
 
+-- The refusal of bases that make no rack, by its number.
+abbrev pub bad_rack_told : BadRack → ℕ
+bad_rack_told r = bad_rack_number
+
 -- The refusals of a rack by their numbers: there is no card; or those of a device.
 abbrev pub refusal_number : RackRefusal → ℕ
 refusal_number NoCard = no_card_number
 refusal_number (Card r) = card.refusal_number r
-
--- 1 stands before them: there is no such kind.
-abbrev pub frame_number : RackFrameRefusal → ℕ
-frame_number NoSuchKind = 1
-frame_number (Event r) = refusal_number r
-
--- The number that an answer tells: 0 where the event was accepted.
-abbrev pub number_told : {A : Type 0} → Result A RackRefusal → ℕ
-number_told (Ok a) = 0
-number_told (Err r) = refusal_number r
-
-abbrev pub frame_number_told : {A : Type 0} → Result A RackFrameRefusal → ℕ
-frame_number_told (Ok a) = 0
-frame_number_told (Err r) = frame_number r
 
 -- What the rack gives for an event; the operands that its kind lacks are zeros.
 abbrev pub stepped : Rack → RackEvent → Stepped

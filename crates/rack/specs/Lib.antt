@@ -4,3 +4,4 @@ pub mod Targets
 pub mod Step
 pub mod Views
 pub mod Answers
+pub mod Never0

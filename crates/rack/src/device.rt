@@ -11,13 +11,13 @@ use chip::POWER_UP_WORD;
 use std::mem;
 
 // The place of a number, and its register there.
-fn place_of(number: u8) -> usize
+pub(super) fn place_of(number: u8) -> usize
     ensures { result ≡ place_of number }
 {
     (number % PLACES) as usize
 }
 
-fn register_of(number: u8) -> u8
+pub(super) fn register_of(number: u8) -> u8
     ensures { result ≡ register_of number }
 {
     number / PLACES
@@ -45,11 +45,13 @@ impl Device for Rack {
     }
 
     fn answer(&self, number: u8) -> u8 {
-        self.chip_at(number % PLACES).answer(register_of(number))
+        self.chip_at(place_of(number) as u8)
+            .answer(register_of(number))
     }
 
     fn pins(&self, number: u8) -> Pins {
-        self.chip_at(number % PLACES).pins(register_of(number))
+        self.chip_at(place_of(number) as u8)
+            .pins(register_of(number))
     }
 
     // Every place is reset, whether a card is there or not.

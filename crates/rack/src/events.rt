@@ -2,9 +2,10 @@
 ghost use Rattle.std.specs.Prelude.{◌≡◌};
 ghost use Rattle.rack.specs.Answers.{event_numbered};
 
-use bus::kinds::{BEGIN_READ, BEGIN_WRITE, END_CYCLE, OUTSIDE_LEVELS, RESET};
+use bus::kinds::Kind;
 
-/// An event of a rack: a beginning names an address, and of a write the byte; outside levels name a place and a port.
+/// An event of a rack. It has a type of its own, since an address of a rack is wider than a device's, and levels name a place besides. A
+/// beginning names an address, and of a write the byte; outside levels name a place and a port.
 #[derive(Clone, Copy, Debug, PartialEq, Eq)]
 pub enum RackEvent {
     Reset,
@@ -19,13 +20,12 @@ impl RackEvent {
     pub fn numbered(kind: u8, first: u16, second: u8, third: u8) -> Option<RackEvent>
         ensures { result ≡ event_numbered kind first second third }
     {
-        match kind {
-            RESET => Some(RackEvent::Reset),
-            BEGIN_READ => Some(RackEvent::BeginRead(first)),
-            END_CYCLE => Some(RackEvent::EndCycle),
-            BEGIN_WRITE => Some(RackEvent::BeginWrite(first, second)),
-            OUTSIDE_LEVELS => Some(RackEvent::OutsideLevels(first, second, third)),
-            _ => None,
-        }
+        Some(match Kind::numbered(u16::from(kind))? {
+            Kind::Reset => RackEvent::Reset,
+            Kind::BeginRead => RackEvent::BeginRead(first),
+            Kind::EndCycle => RackEvent::EndCycle,
+            Kind::BeginWrite => RackEvent::BeginWrite(first, second),
+            Kind::OutsideLevels => RackEvent::OutsideLevels(first, second, third),
+        })
     }
 }

@@ -2,7 +2,7 @@
 #![tactic(auto)]
 
 ghost use Rattle.std.specs.Prelude.{◌≡◌, []};
-ghost use Rattle.rack.specs.Bases.{is_base, is_among, are_bases};
+ghost use Rattle.rack.specs.Bases.{is_base, are_bases};
 ghost use Rattle.rack.specs.State.{rack_of, built_of};
 
 mod device;
@@ -33,7 +33,8 @@ const CARD_EDITION: Edition = Edition::Older;
 
 /// A rack: what runs on its one bus, how many cards there are, their bases, and what is in each of the eight places. The bus numbers the
 /// registers through: register r of the card at place p is 8 x r + p. So there is no rack on which two cycles run.
-/// It asks for no heap: the places are an array, with a count beside it.
+/// The places are arrays with a count beside them: each place has a core, with a card or without, since a reset is of all of them, and a rack is
+/// copied as a chip is, which an `ArrayVec` is not.
 #[derive(Clone, Copy, Debug, PartialEq, Eq)]
 pub struct Rack {
     pub phase: Phase,
@@ -49,24 +50,15 @@ fn is_base(base: u16) -> bool
     base % CARD_WIDTH == 0 && base <= LAST_BASE
 }
 
-// Whether the base is one of those.
-fn among(base: u16, bases: &[u16]) -> bool
-    ensures { result ≡ is_among base bases.now }
-{
-    bases.contains(&base)
-}
-
-// Whether each is a base, and none comes again behind itself.
+// Whether each is a base, and none comes again behind itself. The recursion is eight deep at most: longer lists are refused before.
 #[tactic(auto, unfolding(crate::specs::Bases::are_bases))]
 fn are_bases(bases: &[u16]) -> bool
     ensures { result ≡ are_bases bases.now }
 {
-    for (at, base) in bases.iter().enumerate() {
-        if !is_base(*base) || among(*base, &bases[at + 1..]) {
-            return false;
-        }
+    match bases {
+        [] => true,
+        [base, later @ ..] => is_base(*base) && !later.contains(base) && are_bases(later),
     }
-    true
 }
 
 impl Rack {

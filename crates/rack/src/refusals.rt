@@ -1,21 +1,21 @@
 //! Why bases make no rack, and why a rack refuses an event; and the numbers that scripts and C have for it.
 ghost use Rattle.std.specs.Prelude.{◌≡◌};
-ghost use Rattle.rack.specs.Bases.{bad_rack_number};
-ghost use Rattle.rack.specs.Answers.{refusal_number, frame_number};
+ghost use Rattle.rack.specs.Answers.{bad_rack_told, refusal_number};
+ghost use Rattle.rack.specs.Never0.{bad-rack-never-0, refusal-never-0};
 ghost use Rattle.rack.specs.declared.refusals.RackRefusal.TheVariants as refusals;
-ghost use Rattle.rack.specs.declared.refusals.RackFrameRefusal.TheVariants as frames;
 
-use bus::refusals::Refusal;
+use bus::refusals::{Numbered, Refusal};
 
 /// The bases make no rack.
 #[derive(Clone, Copy, Debug, PartialEq, Eq)]
 pub struct BadRack;
 
-impl BadRack {
-    /// The number of the refusal.
-    pub fn number(self) -> u8
-        ensures { result ≡ bad_rack_number }
-    {
+impl Numbered for BadRack {
+    ghost number_of = { bad_rack_told };
+
+    ghost never_0 = { bad-rack-never-0 };
+
+    fn number(&self) -> u8 {
         9
     }
 }
@@ -29,11 +29,12 @@ pub enum RackRefusal {
     Card(Refusal),
 }
 
-impl RackRefusal {
-    /// The number of the refusal.
-    pub fn number(self) -> u8
-        ensures { result ≡ refusal_number self }
-    {
+impl Numbered for RackRefusal {
+    ghost number_of = { refusal_number };
+
+    ghost never_0 = { refusal-never-0 };
+
+    fn number(&self) -> u8 {
         match self {
             RackRefusal::NoCard => 10,
             RackRefusal::Card(refusal) => refusal.number(),
@@ -46,32 +47,5 @@ impl From<Refusal> for RackRefusal {
 
     fn from(refusal: Refusal) -> Self {
         RackRefusal::Card(refusal)
-    }
-}
-
-/// Why a frame, which names the kind of an event by number, is refused: there is no such kind, or the rack refuses the event.
-#[derive(Clone, Copy, Debug, PartialEq, Eq)]
-pub enum RackFrameRefusal {
-    NoSuchKind,
-    Event(RackRefusal),
-}
-
-impl RackFrameRefusal {
-    /// The number of the refusal.
-    pub fn number(self) -> u8
-        ensures { result ≡ frame_number self }
-    {
-        match self {
-            RackFrameRefusal::NoSuchKind => 1,
-            RackFrameRefusal::Event(refusal) => refusal.number(),
-        }
-    }
-}
-
-impl From<RackRefusal> for RackFrameRefusal {
-    ghost from_gives = { λ refusal given. given ≡ frames.Event refusal };
-
-    fn from(refusal: RackRefusal) -> Self {
-        RackFrameRefusal::Event(refusal)
     }
 }

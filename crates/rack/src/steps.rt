@@ -1,16 +1,17 @@
 //! One event of the rack: it is for one card, or for every card, and then one of the rack as a device.
 ghost use Rattle.std.specs.Prelude.{◌≡◌, ◌<◌, min};
-ghost use Rattle.bus.specs.Answers.{byte_told};
+ghost use Rattle.bus.specs.Answers.{frame_number, number_told, byte_told};
 ghost use Rattle.rack.specs.Bases.{most_cards};
 ghost use Rattle.rack.specs.State.{number_at};
 ghost use Rattle.rack.specs.Step.{as_stepped, step_of};
-ghost use Rattle.rack.specs.Answers.{given_on_bus, number_told, frame_number_told, stepped};
+ghost use Rattle.rack.specs.Answers.{given_on_bus, refusal_number, stepped};
 
 use super::events::RackEvent;
-use super::refusals::{RackFrameRefusal, RackRefusal};
+use super::refusals::RackRefusal;
 use super::{PLACES, Rack};
 use bus::devices;
 use bus::events::Event;
+use bus::refusals::FrameRefusal;
 use chip::CONTROL;
 
 // A register's or a port's number on the bus of the rack. There is no port at control or above, and so one number, which is a byte, stands for
@@ -49,7 +50,7 @@ impl Rack {
     /// One event: the byte of a read, and 00 of any other event; or why it is refused, and then the rack is as it was.
     pub fn step(&mut self, event: RackEvent) -> Result<u8, RackRefusal>
         ensures state { self.new ≡ (stepped self.old event).rack }
-        ensures number { number_told result ≡ (stepped self.old event).number }
+        ensures number { number_told refusal_number result ≡ (stepped self.old event).number }
         ensures byte { byte_told result ≡ (stepped self.old event).byte }
     {
         let event = self.placed(event).ok_or(RackRefusal::NoCard)?;
@@ -63,14 +64,14 @@ impl Rack {
         first: u16,
         second: u8,
         third: u8,
-    ) -> Result<u8, RackFrameRefusal>
+    ) -> Result<u8, FrameRefusal<RackRefusal>>
         ensures state { self.new ≡ (step_of self.old kind first second third).rack }
-        ensures number { frame_number_told result ≡ (step_of self.old kind first second third).number }
+        ensures number { number_told (frame_number refusal_number) result ≡ (step_of self.old kind first second third).number }
         ensures byte { byte_told result ≡ (step_of self.old kind first second third).byte }
     {
         match RackEvent::numbered(kind, first, second, third) {
             Some(event) => Ok(self.step(event)?),
-            None => Err(RackFrameRefusal::NoSuchKind),
+            None => Err(FrameRefusal::NoSuchKind),
         }
     }
 }

@@ -18,14 +18,9 @@ impl Rack {
         ensures first { result ≡ target_from 0 (bases_in self.now.count self.now.bases) address }
         ensures inside { IfSome result (λ target. (target.0 < most_cards) × (target.1 < 4)) }
     {
-        // By places, since the place is what is looked for.
-        for place in 0..self.count.min(PLACES) {
-            let base = self.bases[place as usize];
-            if answers(base, address) {
-                return Some((place, ((address - base) % REGISTERS) as u8));
-            }
-        }
-        None
+        let bases = &self.bases[..self.count.min(PLACES) as usize];
+        let place = bases.iter().position(|&base| answers(base, address))?;
+        Some((place as u8, ((address - bases[place]) % REGISTERS) as u8))
     }
 
     // Whether there is a card at the place.

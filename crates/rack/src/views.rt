@@ -4,7 +4,8 @@ ghost use Rattle.rack.specs.Bases.{most_cards};
 ghost use Rattle.rack.specs.State.{seen_at, chip_at};
 ghost use Rattle.rack.specs.Views.{card_of, card_pins, card_tally, card_explained, card_explained_numbered};
 
-use super::{CARD_EDITION, PLACES, Rack};
+use super::device::{place_of, register_of};
+use super::{CARD_EDITION, Rack};
 use bus::devices::Device;
 use bus::{Phase, Pins};
 use channel::{Side, Tally};
@@ -18,15 +19,18 @@ impl Rack {
         ensures { result ≡ seen_at place self.now.phase }
     {
         match self.phase {
-            Phase::Reading(number) if number % PLACES == place => Phase::Reading(number / PLACES),
-            Phase::Writing(number, byte) if number % PLACES == place => {
-                Phase::Writing(number / PLACES, byte)
+            Phase::Reading(number) if place_of(number) == place as usize => {
+                Phase::Reading(register_of(number))
+            }
+            Phase::Writing(number, byte) if place_of(number) == place as usize => {
+                Phase::Writing(register_of(number), byte)
             }
             _ => Phase::Idle,
         }
     }
 
-    // What is at one of the eight places, as a chip alone would be.
+    // What is at one of the eight places, as a chip alone would be. The place is a number, as callers have it: a type for it would be made of
+    // one at each call, and be an index again here.
     #[tactic(auto, unfolding(crate::specs::State::chip_at))]
     pub(super) fn chip_at(&self, place: u8) -> Chip
         requires { place < most_cards }

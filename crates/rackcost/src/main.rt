@@ -3,7 +3,6 @@
 #![tactic(auto)]
 
 mod alone;
-mod decimal;
 mod in_a_rack;
 mod round;
 
@@ -37,9 +36,17 @@ fn word<'a>(rt: &impl Env, at: usize, room: &'a mut [u8]) -> &'a [u8] {
     }
 }
 
+// The rounds that an argument asks for: none where it is no number.
+fn count(word: &[u8]) -> usize {
+    str::from_utf8(word)
+        .ok()
+        .and_then(|digits| digits.parse().ok())
+        .unwrap_or(0)
+}
+
 // The first word names one of the two, the second the rounds.
 fn main(rt: HostRuntime) -> io::Result<()> {
-    let rounds = decimal::value(word(&rt, 2, &mut [0; 4]));
+    let rounds = count(word(&rt, 2, &mut [0; 4]));
     match word(&rt, 1, &mut [0; 4]) {
         b"chip" => on_a_chip(&rt, rounds),
         b"rack" => on_a_card(&rt, rounds),

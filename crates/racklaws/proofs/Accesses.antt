@@ -1,5 +1,5 @@
 -- What a rack gives for a cycle that begins or ends, or for levels, is told by whom the event reaches.
--- Rests on Seek, Inside, Targets and OneCard, on the bus's Numbering, on the chip's facts about cycles, and on the fates' Accepted.
+-- Rests on Seek, Inside, Targets, OnCard and OneCard, on bits' Logic, on the bus's Numbering, on laws' Cycles, and on fates' Accepted.
 use mathlib.Core.Path.{◌≡◌, refl, sym, ap, ◌∙◌}
 use mathlib.Core.Bool.{Bool, true, false, cond}
 use mathlib.Core.List.{List, [], ◌∷◌}

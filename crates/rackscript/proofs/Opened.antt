@@ -17,15 +17,17 @@ use Rattle.script.proofs.Numbers.{number-given, has-room}
 use Rattle.text.specs.Lines.{Line, lines_of, line_count}
 use Rattle.rackscript.specs.declared.Ran as counts
 use Rattle.rackscript.specs.declared.RackRunRefusal.{RackRunRefusal}
+use Rattle.rackscript.specs.declared.RackRunRefusal.TheVariants.{Run}
 use Rattle.rackscript.specs.Bases.{rack_of_line, rack_for, further_lines}
 use Rattle.rackscript.specs.Answers.{answering}
 use Rattle.rackscript.specs.Run.{to_answer, run_number, run_refusal_number, run_told, refused_run, ran_of, output_left}
 use Rattle.rackscript.proofs.FirstLine.{no-longer}
 
--- What an error tells, by its number.
-pub told-as : (r : Result counts.Ran RackRunRefusal) (n : ℕ) → IsErrAnd r (λ given. run_refusal_number given ≡ n) → run_told r ≡ refused_run n
-told-as (Ok ran) n none = absurd none
-told-as (Err given) n is = ap refused_run is
+-- What an error tells that was made of the refusal of a run.
+pub told-as : (r : Result counts.Ran RackRunRefusal) (why : RunRefusal) → IsErrAnd r (λ given. given ≡ Run why)
+    → run_told r ≡ refused_run (scripts.run_refusal_number why)
+told-as (Ok ran) why none = absurd none
+told-as (Err given) why is = ap (λ given. refused_run (run_refusal_number given)) is
 
 module _ (text left out : List ℕ) (l : Line) (r : Rack) (short : length text ≤ longest_script) (is : lines_of text ≡ l ∷ lines_of left)
     (made : rack_of_line l ≡ Ok r) where

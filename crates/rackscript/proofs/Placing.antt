@@ -1,12 +1,10 @@
--- The bases of a line, while they are put into places: each one changes the places, and the bases that there will be stay the same.
+-- The bases of a line, while they are read one after the other.
 -- Rests on Naming.
-use mathlib.Core.Path.{◌≡◌, ◌∙◌, refl, sym}
+use mathlib.Core.Path.{◌≡◌, refl, sym}
 use mathlib.Core.List.{List, [], ◌∷◌, ◌++◌, append_assoc, append-nil}
-use Prim.Native.Nat.{ℕ, min, ◌+◌, ◌≤◌, ◌<◌}
-use native.Mathlib.Numerals.{add-one}
+use Prim.Native.Nat.{ℕ, min, ◌<◌}
 use native.Mathlib.Omega.{arith}
-use lib.ListN.{length, take, set, length-append, length-set}
-use lib.Seq.{length-take-le, take-suc-set}
+use lib.ListN.{length, length-append}
 use Rattle.rack.specs.Bases.{most_cards}
 use Rattle.rack.specs.State.{built_of}
 use Rattle.rackscript.specs.Bases.{base_digits, no_base, leading_base, bases_of_line, no_rack}
@@ -31,37 +29,28 @@ unfolding bases_of_line
 blank [] none = refl
 blank (a ∷ codes) none = absurd (omega (arith, none))
 
--- n bases are in their places, and with those of what is left they are the line's.
-pub record Placed (line places : List ℕ) (n : ℕ) (left : List ℕ) : Type 0 where
-  pub eight : length places ≡ most_cards
-  pub few : n ≤ most_cards
-  pub comes : take n places ++ bases_of_line left ≡ bases_of_line line
+-- The bases that were read, and those of what is left, which is cut into pieces of a base's size, are the line's.
+pub record Placed (line bases left : List ℕ) (size : ℕ) : Type 0 where
+  pub four : size ≡ base_digits
+  pub comes : bases ++ bases_of_line left ≡ bases_of_line line
 
 -- A turn takes digits off the front of what is left.
-module _ (line places : List ℕ) (n : ℕ) (left digits later : List ℕ) (so : Placed line places n left) (whole : left ≡ digits ++ later)
-    (cut : length digits ≡ min base_digits (length left)) (some : 0 < length left) where
-  goes-on : take n places ++ (leading_base digits ∷ bases_of_line later) ≡ bases_of_line line
-  goes-on = rw (← first-base digits later (rw (whole) at cut) (rw (whole) at some), ← whole) so.comes
+module _ (line bases left : List ℕ) (size : ℕ) (digits later : List ℕ) (so : Placed line bases left size) (whole : left ≡ digits ++ later)
+    (cut : length digits ≡ min size (length left)) (some : 0 < length left) where
+  goes-on : bases ++ (leading_base digits ∷ bases_of_line later) ≡ bases_of_line line
+  goes-on = rw (← first-base digits later (rw (so.four, whole) at cut) (rw (whole) at some), ← whole) so.comes
 
-  -- Where every place is taken, there are too many; where the digits write no base, there is no rack; else the base goes into its place.
-  pub one-too-many : n ≡ most_cards → no_rack ≡ built_of (bases_of_line line)
+  -- Where every place is taken, there are too many; where the digits write no base, there is no rack; else the base is one more.
+  pub one-too-many : length bases ≡ most_cards → no_rack ≡ built_of (bases_of_line line)
   one-too-many full =
-      let front : length (take n places) ≡ n = length-take-le n places (omega (arith, so.eight, so.few)) in
-      let long = length-append (take n places) (leading_base digits ∷ bases_of_line later) in
-      sym (too_many (bases_of_line line) (rw (← goes-on) (omega (arith, long, front, full))))
+      let long = length-append bases (leading_base digits ∷ bases_of_line later) in
+      sym (too_many (bases_of_line line) (rw (← goes-on) (omega (arith, long, full))))
 
   pub none-there : no_base ≡ leading_base digits → no_rack ≡ built_of (bases_of_line line)
-  none-there none = sym (rw (← goes-on, ← none) (missing-digits (take n places) (bases_of_line later)))
+  none-there none = sym (rw (← goes-on, ← none) (missing-digits bases (bases_of_line later)))
 
-  pub one-more : ¬ (n ≡ most_cards) → (b : ℕ) → b ≡ leading_base digits → Placed line (set places n b) (n + 1) later
-  one-more room b is =
-      let free : n < length places = omega (arith, so.eight, so.few, room) in
-      let front : take (n + 1) (set places n b) ≡ take n places ++ (b ∷ []) = rw (add-one n) (take-suc-set places n b free) in
-      record {
-        eight = length-set places n b ∙ so.eight;
-        few = omega (arith, so.few, room);
-        comes = rw (front, append_assoc (take n places) (b ∷ []) (bases_of_line later), is) goes-on;
-      }
+  pub one-more : (b : ℕ) → b ≡ leading_base digits → Placed line (bases ++ (b ∷ [])) later size
+  one-more b is = record { four = so.four; comes = rw (append_assoc bases (b ∷ []) (bases_of_line later), is) goes-on }
 
-pub all_placed : (line places : List ℕ) (n : ℕ) (left : List ℕ) → Placed line places n left → length left ≡ 0 → take n places ≡ bases_of_line line
-all_placed line places n left so none = rw (← so.comes, blank left none, append-nil (take n places))
+pub all_placed : (line bases left : List ℕ) (size : ℕ) → Placed line bases left size → length left ≡ 0 → bases ≡ bases_of_line line
+all_placed line bases left size so none = rw (← so.comes, blank left none, append-nil bases)

@@ -1,11 +1,11 @@
 -- Every event that a frame can hold is read back from it, and so are good bases from the digits that write them.
 -- Rests on bits' Logic and text's Written.
 use mathlib.Core.Path.{◌≡◌, refl, ap₂}
-use mathlib.Core.Bool.{true, not, ◌&&◌}
+use mathlib.Core.Bool.{Bool, true, cond, not, ◌&&◌}
 use mathlib.Core.List.{List, [], ◌∷◌, ◌++◌}
 use Prim.Native.Nat.{ℕ, ◌+◌, ◌*◌, ◌/◌, ◌%◌, ◌<◌}
 use native.Mathlib.Omega.{arith}
-use lib.Dec.{eqb, leb}
+use lib.Dec.{eqb, leb, ltb}
 use borrow.Author.Tests.{lt-ltb, leb-true}
 use Rattle.bits.proofs.Logic.{both}
 use Rattle.bus.specs.Kinds as kinds
@@ -14,12 +14,16 @@ use Rattle.rack.specs.Bases.{card_width, last_base, is_base, is_among, are_bases
 use Rattle.text.specs.Digits.{no_byte, digit_code, pair_value, in_digits}
 use Rattle.text.specs.Frames.{leading_byte}
 use Rattle.text.proofs.Written.{pair-written}
-use Rattle.rackscript.specs.Bases.{base_of, leading_base, bases_of_line}
-use Rattle.rackscript.specs.Frames.{Event, operand_bytes, is_rack_frame, event_of, rack_frame_of}
+use Rattle.rackscript.specs.Bases.{no_base, base_of, leading_base, bases_of_line}
+use Rattle.rackscript.specs.Frames.{Event, NoFrame, operand_bytes, is_rack_frame, event_of, rack_frame_of}
 
 -- An address, or a base, in four digits.
 abbrev pub in_four : ℕ → List ℕ
 in_four a = in_digits (a / 256) ++ in_digits (a % 256)
+
+-- The byte that two digits write.
+abbrev byte_written : ℕ → ℕ
+byte_written n = pair_value (digit_code (n / 16)) (digit_code n)
 
 module _ (a : ℕ) (fits : a < 65536) where
   high_fits : a / 256 < no_byte
@@ -40,48 +44,34 @@ unfolding rack_frame_of is_rack_frame event_of operand_bytes is_kind leading_byt
 end-written = rw (pair-written kinds.end_cycle (omega arith))
 
 module _ (a : ℕ) (fits : a < 65536) where
-  high_read : pair_value (digit_code (a / 256 / 16)) (digit_code (a / 256)) ≡ a / 256
-  high_read = pair-written (a / 256) (high_fits a fits)
-
-  low_read : pair_value (digit_code (a % 256 / 16)) (digit_code (a % 256)) ≡ a % 256
-  low_read = pair-written (a % 256) (low_fits a fits)
+  -- Four digits write two bytes: each passes the test of a byte, and together they are the address, whatever is made of these three.
+  in-four-read : {X : Type 0} (make : Bool → Bool → ℕ → X)
+      → make (ltb (byte_written (a / 256)) no_byte) (ltb (byte_written (a % 256)) no_byte) (byte_written (a % 256) + 256 * byte_written (a / 256))
+      ≡ make true true a
+  in-four-read make =
+      rw (
+        pair-written (a / 256) (high_fits a fits),
+        pair-written (a % 256) (low_fits a fits),
+        lt-ltb (a / 256) no_byte (high_fits a fits),
+        lt-ltb (a % 256) no_byte (low_fits a fits),
+        together a fits,
+      )
 
   pub read-written : rack_frame_of (in_digits kinds.begin_read ++ in_four a) ≡ Event kinds.begin_read a 0 0
   unfolding rack_frame_of is_rack_frame event_of operand_bytes is_kind leading_byte
   read-written =
-      rw (
-        pair-written kinds.begin_read (omega arith),
-        high_read,
-        low_read,
-        lt-ltb (a / 256) no_byte (high_fits a fits),
-        lt-ltb (a % 256) no_byte (low_fits a fits),
-        together a fits,
-      )
+      rw (pair-written kinds.begin_read (omega arith))
+      (in-four-read (λ high low a. cond (high && low && true) (Event kinds.begin_read a 0 0) NoFrame))
 
   pub write-written : (d : ℕ) → d < no_byte → rack_frame_of (in_digits kinds.begin_write ++ in_four a ++ in_digits d) ≡ Event kinds.begin_write a d 0
   unfolding rack_frame_of is_rack_frame event_of operand_bytes is_kind leading_byte
   write-written d hd =
-      rw (
-        pair-written kinds.begin_write (omega arith),
-        high_read,
-        low_read,
-        pair-written d hd,
-        lt-ltb (a / 256) no_byte (high_fits a fits),
-        lt-ltb (a % 256) no_byte (low_fits a fits),
-        lt-ltb d no_byte hd,
-        together a fits,
-      )
+      rw (pair-written kinds.begin_write (omega arith), pair-written d hd, lt-ltb d no_byte hd)
+      (in-four-read (λ high low a. cond (high && low && true) (Event kinds.begin_write a d 0) NoFrame))
 
   base-written : (later : List ℕ) → leading_base (in_four a ++ later) ≡ a
   unfolding leading_base base_of
-  base-written later =
-      rw (
-        high_read,
-        low_read,
-        lt-ltb (a / 256) no_byte (high_fits a fits),
-        lt-ltb (a % 256) no_byte (low_fits a fits),
-        together a fits,
-      )
+  base-written later = in-four-read (λ high low a. cond (high && low) a no_base)
 
 pub levels-written : (place port d : ℕ) → place < no_byte → port < no_byte → d < no_byte
     → rack_frame_of (in_digits kinds.outside_levels ++ in_digits place ++ in_digits port ++ in_digits d) ≡ Event kinds.outside_levels place port d

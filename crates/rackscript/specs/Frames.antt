@@ -4,6 +4,7 @@ use Rattle.bus.specs.Kinds as kinds
 use Rattle.bus.specs.Kinds.{is_kind, begins}
 use Rattle.rack.specs.declared.events.RackEvent.{RackEvent}
 use Rattle.rack.specs.declared.events.RackEvent.TheVariants.{Reset, BeginRead, EndCycle, BeginWrite, OutsideLevels}
+use Rattle.rack.specs.Answers.{event_numbered}
 use Rattle.text.specs.Digits.{no_byte}
 use Rattle.text.specs.Frames.{leading_byte, kind_in, first_in, second_in}
 use Rattle.text.specs.Lines.{Line, ended, rest}
@@ -43,6 +44,10 @@ rack_frame_of line = cond (is_rack_frame line) (event_of (kind_in line) (first_i
 unfoldable pub rack_frame_in : Line → RackFrame
 rack_frame_in (ended bytes) = rack_frame_of bytes
 rack_frame_in (rest bytes) = NoFrame
+
+-- The event that a kind and the bytes behind it name.
+abbrev pub event_named : ℕ → ℕ → ℕ → ℕ → Option RackEvent
+event_named k x y z = cond (begins k) (event_numbered k (y + 256 * x) z 0) (event_numbered k x y z)
 
 -- What an answer tells of a line: an event by its numbers, with zeros for the operands that its kind lacks; or that the line is no frame.
 abbrev pub rack_frame_told : Option RackEvent → RackFrame

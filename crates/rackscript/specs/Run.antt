@@ -6,11 +6,15 @@ use Rattle.rack.specs.declared.Rack.{Rack}
 use Rattle.rack.specs.Bases.{bad_rack_number}
 use Rattle.rack.specs.State.{rack_of}
 use Rattle.script.specs.Answers.{answers_from}
+use Rattle.bus.specs.Never0.{Never0}
+use Rattle.rack.specs.Answers.{bad_rack_told}
+use Rattle.rack.specs.Never0.{bad-rack-never-0}
+use Rattle.script.specs.Run as runs
 use Rattle.script.specs.Run.{too_long, too_long_number, no_room_number, width_of}
 use Rattle.text.specs.Lines.{Line, lines_of}
 use Rattle.rackscript.specs.declared.Ran as counts
 use Rattle.rackscript.specs.declared.RackRunRefusal.{RackRunRefusal}
-use Rattle.rackscript.specs.declared.RackRunRefusal.TheVariants.{TooLong, BadRack, NoRoom}
+use Rattle.rackscript.specs.declared.RackRunRefusal.TheVariants.{BadRack, Run}
 use Rattle.rackscript.specs.Bases.{rack_for, further_lines}
 use Rattle.rackscript.specs.Answers.{answering}
 
@@ -41,9 +45,12 @@ run_number text room =
     0))
 
 abbrev pub run_refusal_number : RackRunRefusal → ℕ
-run_refusal_number TooLong = too_long_number
-run_refusal_number BadRack = bad_rack_number
-run_refusal_number NoRoom = no_room_number
+run_refusal_number (BadRack r) = bad_rack_told r
+run_refusal_number (Run r) = runs.run_refusal_number r
+
+pub run-refusal-never-0 : Never0 run_refusal_number
+run-refusal-never-0 (BadRack r) = bad-rack-never-0 r
+run-refusal-never-0 (Run r) = runs.run-refusal-never-0 r
 
 -- The number of a run, how many lines it answers, and how many bytes the answers have.
 pub record Ran : Type 0 where

@@ -2,9 +2,10 @@
 ghost use Rattle.std.specs.Prelude.{◌≡◌};
 
 use super::frames;
+use bus::refusals::FrameRefusal;
 use rack::Rack;
-use rack::refusals::RackFrameRefusal;
-use script::{Answer, Scripted};
+use rack::refusals::RackRefusal;
+use script::Scripted;
 use std::marker::Model;
 use text::line::Line;
 
@@ -24,22 +25,13 @@ impl Model for Answering {
 impl Scripted for Answering {
     ghost use Rattle.rackscript.specs.Answers.{answering};
 
+    type Refusal = RackRefusal;
+
     ghost answerer = { answering };
 
-    fn take(&mut self, line: Line<'_>) -> Answer {
-        let Some(event) = frames::event(line) else {
-            return Answer {
-                number: RackFrameRefusal::NoSuchKind.number(),
-                byte: 0,
-            };
-        };
-        match self.0.step(event) {
-            Ok(byte) => Answer { number: 0, byte },
-            Err(refusal) => Answer {
-                number: refusal.number(),
-                byte: 0,
-            },
-        }
+    fn take(&mut self, line: Line<'_>) -> Result<u8, FrameRefusal<RackRefusal>> {
+        let event = frames::event(line).ok_or(FrameRefusal::NoSuchKind)?;
+        Ok(self.0.step(event)?)
     }
 
     fn cards(&self) -> u8 {

@@ -4,6 +4,7 @@ ghost use Rattle.rack.specs.State.{built_of};
 ghost use Rattle.text.specs.Answers.{line_of};
 ghost use Rattle.rackscript.specs.Bases.{no_base, leading_base, bases_of_line, rack_of_line};
 
+use arrayvec::ArrayVec;
 use rack::refusals::BadRack;
 use rack::{MOST_CARDS, Rack};
 use text::line::{Line, byte_at};
@@ -25,17 +26,12 @@ fn base(digits: &[u8]) -> Option<u16>
 fn named(line: &[u8]) -> Result<Rack, BadRack>
     ensures { result ≡ built_of (bases_of_line line.now) }
 {
-    // An array with a count: there is no heap here, and a line may name fewer than eight.
-    let mut bases = [0; MOST_CARDS];
-    let mut count = 0;
+    let mut bases = ArrayVec::<u16, MOST_CARDS>::new();
     for digits in line.chunks(BASE_DIGITS) {
-        if count == MOST_CARDS {
-            return Err(BadRack);
-        }
-        bases[count] = base(digits).ok_or(BadRack)?;
-        count += 1;
+        let base = base(digits).ok_or(BadRack)?;
+        bases.try_push(base).map_err(|_full| BadRack)?;
     }
-    Rack::new(&bases[..count])
+    Rack::new(&bases)
 }
 
 // The rack that a line names. A rest names none, however well it is formed.

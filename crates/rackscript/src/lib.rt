@@ -2,21 +2,21 @@
 #![tactic(auto)]
 
 ghost use Rattle.std.specs.Prelude.{◌≡◌, length};
-ghost use Rattle.rack.specs.Bases.{bad_rack_number};
-ghost use Rattle.rackscript.specs.Run.{run_refusal_number, run_told, ran_of, output_left};
-ghost use Rattle.script.specs.Run as scripts;
+ghost use Rattle.rackscript.specs.Run.{run_refusal_number, run-refusal-never-0, run_told, ran_of, output_left};
+ghost use Rattle.rackscript.specs.declared.RackRunRefusal.TheVariants as refusals;
 
 mod answers;
 mod first;
 mod frames;
 
 use answers::Answering;
+use bus::refusals::Numbered;
 use rack::refusals::BadRack;
 use script::{LONGEST, RunRefusal, Scripted};
 use text::lines::Lines;
 
 /// The room that is enough for the answers to any script: 4,096 lines, each as wide as with eight cards, 53 bytes.
-pub const MOST_ROOM: usize = 217_088;
+pub const MOST_ROOM: usize = LONGEST * 53;
 
 /// What an accepted run has written: the answers to so many lines, in so many bytes.
 #[derive(Clone, Copy, Debug, PartialEq, Eq)]
@@ -28,43 +28,38 @@ pub struct Ran {
 /// Why a run is refused.
 #[derive(Clone, Copy, Debug, PartialEq, Eq)]
 pub enum RackRunRefusal {
-    /// The text is longer than a script may be.
-    TooLong,
     /// The first line is no rack.
-    BadRack,
-    /// The output has no room for the answers.
-    NoRoom,
+    BadRack(BadRack),
+    /// The text is too long, or the output has no room for the answers.
+    Run(RunRefusal),
 }
 
-impl RackRunRefusal {
-    /// The number of the refusal.
-    pub fn number(self) -> u8
-        ensures { result ≡ run_refusal_number self }
-    {
+impl Numbered for RackRunRefusal {
+    ghost number_of = { run_refusal_number };
+
+    ghost never_0 = { run-refusal-never-0 };
+
+    fn number(&self) -> u8 {
         match self {
-            RackRunRefusal::TooLong => 6,
-            RackRunRefusal::BadRack => 9,
-            RackRunRefusal::NoRoom => 7,
+            RackRunRefusal::BadRack(refusal) => refusal.number(),
+            RackRunRefusal::Run(refusal) => refusal.number(),
         }
     }
 }
 
 impl From<BadRack> for RackRunRefusal {
-    ghost from_gives = { λ _ given. run_refusal_number given ≡ bad_rack_number };
+    ghost from_gives = { λ refusal given. given ≡ refusals.BadRack refusal };
 
-    fn from(_refusal: BadRack) -> Self {
-        RackRunRefusal::BadRack
+    fn from(refusal: BadRack) -> Self {
+        RackRunRefusal::BadRack(refusal)
     }
 }
 
 impl From<RunRefusal> for RackRunRefusal {
-    ghost from_gives = { λ refusal given. run_refusal_number given ≡ scripts.run_refusal_number refusal };
+    ghost from_gives = { λ refusal given. given ≡ refusals.Run refusal };
 
     fn from(refusal: RunRefusal) -> Self {
-        match refusal {
-            RunRefusal::TooLong => RackRunRefusal::TooLong,
-            RunRefusal::NoRoom => RackRunRefusal::NoRoom,
-        }
+        RackRunRefusal::Run(refusal)
     }
 }
 
@@ -75,7 +70,7 @@ pub fn run(text: &[u8], out: &mut [u8]) -> Result<Ran, RackRunRefusal>
     ensures output { out.new ≡ output_left text.now out.old }
 {
     if LONGEST < text.len() {
-        return Err(RackRunRefusal::TooLong);
+        return Err(RunRefusal::TooLong.into());
     }
     let mut lines = Lines::new(text);
     let first = lines.next().ok_or(BadRack)?;

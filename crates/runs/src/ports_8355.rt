@@ -2,23 +2,16 @@
 use super::show;
 use std::io;
 
-fn run(rt: &(impl Print + AllocGlobal), size: usize) -> io::Result<()> {
-    show::run_8355(
-        rt,
-        b"03015A\n02\n0303FF\n02\n0101\n02\n0102\n0502AA\n04\n",
-        size,
-    )
-}
+const SCRIPT: &[u8] = b"03015A\n02\n0303FF\n02\n0101\n02\n0102\n0502AA\n04\n";
 
 pub(super) fn all(rt: &(impl Print + AllocGlobal)) -> io::Result<()> {
     show::title(
         rt,
         "the 8355: 99 bytes of output, one less, none, and more; a blank line and a rest; no text",
     )?;
-    run(rt, 99)?;
-    run(rt, 98)?;
-    run(rt, 0)?;
-    run(rt, 120)?;
+    for size in [99, 98, 0, 120] {
+        show::run_8355(rt, SCRIPT, size)?;
+    }
     show::run_8355(rt, b"\n0500AB", 22)?;
     show::run_8355(rt, b"", 5)
 }

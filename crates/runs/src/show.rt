@@ -1,4 +1,5 @@
 //! One run, shown: its number, the lines that it counts, and the output, which was full of dots.
+use bus::refusals;
 use chip::{Chip, Edition, Levels};
 use i8355::Chip8355;
 use script::{RunRefusal, Scripted};
@@ -14,10 +15,11 @@ pub(super) fn chip() -> Chip {
 }
 
 pub(super) fn ran(rt: &impl Print, ran: Result<usize, RunRefusal>) -> io::Result<()> {
-    match ran {
-        Ok(lines) => println!(rt; "number 0, lines {lines}"),
-        Err(refusal) => println!(rt; "number {}, lines 0", refusal.number()),
-    }
+    println!(rt;
+        "number {}, lines {}",
+        refusals::number(&ran),
+        ran.unwrap_or(0)
+    )
 }
 
 // A text run into an output of that size.

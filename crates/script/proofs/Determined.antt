@@ -1,8 +1,9 @@
 -- The contract of each public function of script leaves no choice: of the output and the subject that a run was lent neither. Nor does that of a
 -- method by which a device answers scripts. What a run tells, no other answer tells. Rests on bits' Determined.
-use mathlib.Core.Path.{◌≡◌, ◌∙◌, refl, ap, sym}
+use mathlib.Core.Path.{◌≡◌, ◌∙◌, refl, ap, ap₂, sym}
 use Rattle.std.specs.Prelude.{cond, ℕ, eqb, Result, Ok, Err}
 use Rattle.bits.proofs.Determined.{Determines, equation-determines, equations-determine}
+use Rattle.bus.proofs.Determined.{answer_of, frame_of, frame-told-so}
 use Rattle.script.specs.declared.RunRefusal.{RunRefusal}
 use Rattle.script.specs.declared.RunRefusal.TheVariants.{TooLong, NoRoom}
 use Rattle.script.specs.Run.{Ran, run_told}
@@ -11,46 +12,52 @@ use Rattle.script.specs.contracts as script_says
 use Rattle.script.proofs as script
 
 -- The answer that tells a number, and counts so many.
-abbrev answer_of : ℕ → ℕ → Result ℕ RunRefusal
-answer_of n count = cond (eqb n 0) (Ok count) (cond (eqb n 6) (Err TooLong) (Err NoRoom))
+abbrev run_answer : ℕ → ℕ → Result ℕ RunRefusal
+run_answer n count = cond (eqb n 0) (Ok count) (cond (eqb n 6) (Err TooLong) (Err NoRoom))
 
-told-so : (r : Result ℕ RunRefusal) → r ≡ answer_of (run_told r).number (run_told r).lines
+told-so : (r : Result ℕ RunRefusal) → r ≡ run_answer (run_told r).number (run_told r).lines
 told-so (Ok n) = refl
 told-so (Err TooLong) = refl
 told-so (Err NoRoom) = refl
 
-left-so : {S : Type 0} (r : Result ℕ RunRefusal) (s : S) → (r ≡ answer_of (left_told r s).number (left_told r s).refused) × (s ≡ (left_told r s).state)
+left-so : {S : Type 0} (r : Result ℕ RunRefusal) (s : S) → (r ≡ run_answer (left_told r s).number (left_told r s).refused) × (s ≡ (left_told r s).state)
 left-so (Ok n) s = (refl, refl)
 left-so (Err TooLong) s = (refl, refl)
 left-so (Err NoRoom) s = (refl, refl)
 
-pub number-determined : Determines script_says.RunRefusal.number.ended script.RunRefusal.number.Reads.Learnt
+pub number-determined : Determines script_says.RunRefusalNumbered.number.ended script.RunRefusalNumbered.number.Reads.Learnt
 number-determined c x y = equation-determines
 
 pub line-width-determined : Determines script_says.line_width.ended script.line_width.Reads.Learnt
 line-width-determined c x y = equation-determines
 
-pub run-determined : (S : _) (lS : _) (G : _) (t : _) → Determines (script_says.run.ended S G t) (script.run.Reads.Learnt S lS G t)
-run-determined S lS G t c x y p q =
-    let result = told-so x.0 ∙ ap (λ (r : Ran). answer_of r.number r.lines) (p.0 ∙ sym q.0) ∙ sym (told-so y.0) in
+pub run-determined
+    : (S : _) (lS : _) (R : _) (lR : _) (copy : _) (G : _) (t : _) (H : _) (u : _) (K : _) (v : _)
+    → Determines (script_says.run.ended S R G t H u K v) (script.run.Reads.Learnt S R lS lR copy G t H u K v)
+run-determined S lS R lR copy G t H u K v c x y p q =
+    let result = told-so x.0 ∙ ap (λ (r : Ran). run_answer r.number r.lines) (p.0 ∙ sym q.0) ∙ sym (told-so y.0) in
     let out = p.1.0 ∙ sym q.1.0 in
     let subject = p.1.1 ∙ sym q.1.1 in
     λ i. (result i, (subject i, (tt, (out i, tt))))
 
 pub take-all-determined
-    : (S : _) (lS : _) (G : _) (t : _) → Determines (script_says.left.take_all.ended S G t) (script.left.take_all.Reads.Learnt S lS G t)
-take-all-determined S lS G t c x y p q =
+    : (S : _) (lS : _) (R : _) (lR : _) (copy : _) (G : _) (t : _) (H : _) (u : _) (K : _) (v : _)
+    → Determines (script_says.left.take_all.ended S R G t H u K v) (script.left.take_all.Reads.Learnt S R lS lR copy G t H u K v)
+take-all-determined S lS R lR copy G t H u K v c x y p q =
     let same = p ∙ sym q in
     let a = left-so x.0 x.1.0 in
     let b = left-so y.0 y.1.0 in
-    let result = a.0 ∙ ap (λ (l : Left S.Denot). answer_of l.number l.refused) same ∙ sym b.0 in
+    let result = a.0 ∙ ap (λ (l : Left S.Denot). run_answer l.number l.refused) same ∙ sym b.0 in
     let subject = a.1 ∙ ap (λ (l : Left S.Denot). l.state) same ∙ sym b.1 in
     λ i. (result i, (subject i, (tt, tt)))
 
 pub scripted-take-determined
     : (D : _) (lD : _) (G : _) (t : _)
     → Determines (script_says.devices.AnyScripted.take.ended D G t) (script.devices.AnyScripted.take.Reads.Learnt D lD G t)
-scripted-take-determined D lD G t c x y p q = equations-determine (p.1, p.0) (q.1, q.0)
+scripted-take-determined D lD G t c x y p q =
+    equations-determine
+    (frame-told-so x.0 ∙ ap₂ (answer_of frame_of) p.1.0 p.1.1, p.0)
+    (frame-told-so y.0 ∙ ap₂ (answer_of frame_of) q.1.0 q.1.1, q.0)
 
 pub scripted-cards-determined
     : (D : _) (lD : _) (G : _) (t : _)

@@ -6,7 +6,6 @@ use Rattle.bus.specs.declared.Pins.{Pins}
 use Rattle.text.specs.Digits.{in_digits}
 use Rattle.text.specs.Lines.{lf, Line, lines_of}
 use Rattle.text.specs.Frames.{Frame, Event, NoFrame, frame_in}
-use Rattle.script.specs.declared.Answer.{Answer}
 
 -- Whoever answers scripts, and has states S: what it makes of a line, how many cards there are, and the levels that a port of a card shows. The last
 -- field is a law: no line changes the number of cards, so that every answer line is as wide as the first.
@@ -33,10 +32,6 @@ by_device dev pins = record {
   levels = λ s i p. (pins s p).levels;
   cards-stay = λ s l. refl;
 }
-
--- What a line gives, as its answer.
-abbrev pub answer_given : {S : Type 0} → Given S → Answer
-answer_given g = record { number = g.number; byte = g.byte }
 
 -- The levels of A, B and C of a card.
 abbrev pub levels_text : ℕ → ℕ → ℕ → List ℕ

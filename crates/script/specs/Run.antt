@@ -1,5 +1,6 @@
 -- The run of a text into an output: its number, the lines that it counts, and what it leaves ("Events and numbers", "Script and program").
-use Rattle.std.specs.Prelude.{Bool, cond, List, ◌++◌, ℕ, ◌*◌, eqb, ltb, length, drop, Result, Ok, Err}
+use Rattle.std.specs.Prelude.{refl, Bool, cond, List, ◌++◌, ℕ, ◌*◌, eqb, ltb, length, drop, Result, Ok, Err}
+use Rattle.bus.specs.Never0.{Never0}
 use Rattle.text.specs.Lines.{line_count}
 use Rattle.script.specs.declared.RunRefusal.{RunRefusal}
 use Rattle.script.specs.declared.RunRefusal.TheVariants.{TooLong, NoRoom}
@@ -26,6 +27,10 @@ no_room_number = 7
 abbrev pub run_refusal_number : RunRefusal → ℕ
 run_refusal_number TooLong = too_long_number
 run_refusal_number NoRoom = no_room_number
+
+pub run-refusal-never-0 : Never0 run_refusal_number
+run-refusal-never-0 TooLong = refl
+run-refusal-never-0 NoRoom = refl
 
 -- The number of a run: that of the first refusal that applies, and 0 where none does.
 unfoldable pub run_number : ℕ → List ℕ → ℕ → ℕ
@@ -56,7 +61,7 @@ run_told (Ok n) = accepted_run n
 run_told (Err r) = refused_run (run_refusal_number r)
 
 module _ {S : Type 0} (a : Answerer S) where
-  -- The bytes of an answer line, and the number of the run of a text from a state into an output of that length.
+  -- The bytes of an answer line, from a state on.
   abbrev pub width_of : S → ℕ
   width_of s = line_width (a.cards s)
 

@@ -3,29 +3,20 @@ ghost use Rattle.std.specs.Prelude.{◌≡◌};
 ghost use Rattle.text.specs.Answers.{line_of};
 ghost use Rattle.script.specs.Answers.{by_device};
 
-use super::{Answer, Scripted};
+use super::Scripted;
 use bus::devices::{Device, step};
-use bus::refusals::FrameRefusal;
+use bus::refusals::{FrameRefusal, Refusal};
 use text::line::Line;
 
 #[tactic(auto, unfolding(crate::specs::Answers::acted_in))]
 impl<D: Device> Scripted for D {
+    type Refusal = Refusal;
+
     ghost answerer = { by_device D.device D.shown };
 
-    fn take(&mut self, line: Line<'_>) -> Answer {
-        let Some(event) = line.event() else {
-            return Answer {
-                number: FrameRefusal::NoSuchKind.number(),
-                byte: 0,
-            };
-        };
-        match step(self, event) {
-            Ok(byte) => Answer { number: 0, byte },
-            Err(refusal) => Answer {
-                number: refusal.number(),
-                byte: 0,
-            },
-        }
+    fn take(&mut self, line: Line<'_>) -> Result<u8, FrameRefusal<Refusal>> {
+        let event = line.event().ok_or(FrameRefusal::NoSuchKind)?;
+        Ok(step(self, event)?)
     }
 
     fn cards(&self) -> u8 {

@@ -12,10 +12,10 @@ pub fn take_all<S: Scripted>(subject: &mut S, text: &[u8]) -> Result<usize, RunR
     if LONGEST < text.len() {
         return Err(RunRefusal::TooLong);
     }
+    // A loop and no chain of filters: each line changes the subject.
     let mut refused = 0;
     for line in Lines::new(text) {
-        let answer = subject.take(line);
-        if answer.number != 0 {
+        if subject.take(line).is_err() {
             refused += 1;
         }
     }

@@ -2,10 +2,12 @@
 #![tactic(auto)]
 
 ghost use Rattle.std.specs.Prelude.{◌≡◌, ◌≤◌, length};
+ghost use Rattle.bus.specs.Answers.{frame_number, number_told, byte_told};
 ghost use Rattle.text.specs.Answers.{line_of};
-ghost use Rattle.script.specs.Answers.{Answerer, answer_given, line_width, left_after};
-ghost use Rattle.script.specs.Run.{run_refusal_number, run_told, room_for, ran_of, filled, output_left, subject_left};
+ghost use Rattle.script.specs.Answers.{Answerer, line_width, left_after};
+ghost use Rattle.script.specs.Run.{run_refusal_number, run-refusal-never-0, run_told, room_for, ran_of, filled, output_left, subject_left};
 
+use bus::refusals::{FrameRefusal, Numbered};
 use text::line::Line;
 use text::lines::{self, Lines};
 
@@ -14,6 +16,7 @@ pub mod left;
 mod writer;
 
 /// How many bytes a script may have.
+// Whoever takes a text asks this first: one function for it would have to name each refusal.
 pub const LONGEST: usize = 4096;
 
 // How many digits the number and the byte have, and the levels of a card.
@@ -31,22 +34,19 @@ pub fn line_width(cards: u8) -> usize
     FRONT_DIGITS + CARD_DIGITS * usize::from(cards) + 1
 }
 
-/// What a line is answered: the number, and the byte of a read. An answer line shows both, and the byte as 00 where the number is a refusal's.
-#[derive(Clone, Copy, Debug, PartialEq, Eq)]
-pub struct Answer {
-    pub number: u8,
-    pub byte: u8,
-}
-
 /// Whoever answers scripts: some cards, each with ports A, B and C, whose levels stand in every answer line.
 pub trait Scripted {
+    /// Why an event of it is refused.
+    type Refusal: Numbered;
+
     /// What a line makes of it, and what an answer line shows of it.
     ghost answerer: { Answerer Self };
 
-    /// Takes a line, well formed or not, and answers it.
-    fn take(&mut self, line: Line<'_>) -> Answer
+    /// Takes a line, well formed or not: the byte of a read, and 00 of any other event; or why it is refused.
+    fn take(&mut self, line: Line<'_>) -> Result<u8, FrameRefusal<Self::Refusal>>
         ensures state { self.new ≡ (answerer.takes self.old (line_of line.entry)).state }
-        ensures answer { result ≡ answer_given (answerer.takes self.old (line_of line.entry)) };
+        ensures number { number_told (frame_number Self.Refusal.number_of) result ≡ (answerer.takes self.old (line_of line.entry)).number }
+        ensures byte { byte_told result ≡ (answerer.takes self.old (line_of line.entry)).byte };
 
     /// How many cards there are.
     fn cards(&self) -> u8
@@ -61,24 +61,23 @@ pub trait Scripted {
 #[derive(Clone, Copy, Debug, PartialEq, Eq)]
 pub enum RunRefusal {
     /// The text is longer than a script may be.
-    TooLong,
+    TooLong = 6,
     /// The output has no room for the answers.
-    NoRoom,
+    NoRoom = 7,
 }
 
-impl RunRefusal {
-    /// The number of the refusal.
-    pub fn number(self) -> u8
-        ensures { result ≡ run_refusal_number self }
-    {
-        match self {
-            RunRefusal::TooLong => 6,
-            RunRefusal::NoRoom => 7,
-        }
+impl Numbered for RunRefusal {
+    ghost number_of = { run_refusal_number };
+
+    ghost never_0 = { run-refusal-never-0 };
+
+    fn number(&self) -> u8 {
+        *self as u8
     }
 }
 
-// Answers every line of a text, each from where the last answer stopped. The output is lent whole, so a cursor says where that is.
+// Answers every line of a text, each from where the last answer stopped. By a cursor: after a loop over the lines and over chunks
+// of the output the prover does not know what was written.
 fn answer_all<S: Scripted>(subject: &mut S, text: &[u8], out: &mut [u8])
     requires { room_for (line_width (S.answerer.cards subject.old)) text.now ≤ length out.old }
     ensures output { out.new ≡ filled S.answerer subject.old text.now out.old }

@@ -1,4 +1,4 @@
-//! The mode 0 chart, row by row, as the compiled table has it.
+//! The mode 0 chart, row by row, as the compiled table has it. The bits of a row are plain arithmetic here, apart from the model's own.
 use control::chart;
 use std::io;
 

@@ -1,6 +1,6 @@
 //! The summary of port C's pins by mode. Each cell is gathered from what the lookup answers for every word that it speaks of; which
 //! words those are is plain arithmetic here, apart from the model's own decoding.
-use control::lookup;
+use control::Role;
 use std::{fmt, io};
 
 // The sheet's columns: mode 0 in and out, mode 1 in and out, mode 2.
@@ -61,10 +61,10 @@ fn half_is_input(word: u8, pin: u8) -> bool {
     }
 }
 
-// What a cell says: a role from 2 to 6, by its number, a free pin, or answers that do not agree.
+// What a cell says: a role in a handshake, a free pin, or answers that do not agree.
 #[derive(Clone, Copy, Debug, PartialEq, Eq)]
 enum Entry {
-    Role(u8),
+    Role(Role),
     Free,
     Mixed,
 }
@@ -72,11 +72,15 @@ enum Entry {
 impl Entry {
     // The answer for a word as the sheet would name it. A free pin has to follow the direction of its half.
     fn of(word: u8, pin: u8) -> Entry {
-        let free = if half_is_input(word, pin) { 0 } else { 1 };
-        match lookup::role(word, pin) {
-            role @ 2.. => Entry::Role(role),
-            role if role == free => Entry::Free,
-            _ => Entry::Mixed,
+        let free = if half_is_input(word, pin) {
+            Role::Input
+        } else {
+            Role::Output
+        };
+        match Role::of(word, pin) {
+            Some(role) if role == free => Entry::Free,
+            Some(Role::Input | Role::Output) | None => Entry::Mixed,
+            Some(role) => Entry::Role(role),
         }
     }
 
@@ -105,11 +109,11 @@ impl Cell {
 impl fmt::Display for Cell {
     fn fmt<W: fmt::Write>(&self, f: &mut fmt::Formatter<W>) -> fmt::Result {
         f.write_str(match (self.entry, self.column) {
-            (Some(Entry::Role(2)), _) => "INTR",
-            (Some(Entry::Role(3)), _) => "IBF",
-            (Some(Entry::Role(4)), _) => "OBF",
-            (Some(Entry::Role(5)), _) => "STB",
-            (Some(Entry::Role(6)), _) => "ACK",
+            (Some(Entry::Role(Role::Intr)), _) => "INTR",
+            (Some(Entry::Role(Role::Ibf)), _) => "IBF",
+            (Some(Entry::Role(Role::Obf)), _) => "OBF",
+            (Some(Entry::Role(Role::Stb)), _) => "STB",
+            (Some(Entry::Role(Role::Ack)), _) => "ACK",
             (Some(Entry::Free), Column::Mode0In) => "IN",
             (Some(Entry::Free), Column::Mode0Out) => "OUT",
             (Some(Entry::Free), _) => "I/O",

@@ -1,5 +1,6 @@
 //! The published table of port C roles: entry (word - 128) x 8 + pin, for the mode words 80 to FF and the pins 0 to 7.
-//! 0 input, 1 output, 2 INTR, 3 IBF, 4 OBF, 5 STB, 6 ACK. Beside each entry stand its mode word and its pin.
+//! 0 input, 1 output, 2 INTR, 3 IBF, 4 OBF, 5 STB, 6 ACK. Beside each entry stand its mode word and its pin. Numbers in one row, and no enum:
+//! so the table is published, and so it can be compared line by line.
 ghost use Rattle.std.specs.Prelude.{◌≡◌};
 ghost use Rattle.bits.specs.Table.{table};
 ghost use Rattle.table.specs.Entry.{entry_at};

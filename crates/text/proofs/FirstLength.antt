@@ -1,32 +1,16 @@
--- How long the first line is, seen from a place inside it: over at LF and at the end, else one byte more; and never longer than the text.
+-- How long the first line is: never longer than the text, and as long as there is no LF before.
 -- Rests on nothing.
 use mathlib.Core.Path.{◌≡◌, ◌∙◌, refl, ap}
 use mathlib.Core.Bool.{Bool, true, false, cond}
 use mathlib.Core.List.{List, [], ◌∷◌}
 use Prim.Native.Nat.{ℕ, suc, ◌+◌, ◌<◌, ◌≤◌}
-use native.Mathlib.Numerals.{add-one}
 use native.Mathlib.Omega.{arith}
 use lib.Dec.{eqb}
-use lib.ListN.{length, get_or, drop, drop_of_length-le}
-use lib.Seq.{drop-cons}
-use borrow.Author.Tests.{eq-eqb, ne_eqb}
+use lib.ListN.{length, get_or}
 use Rattle.std.proofs.lemmas.List.Recursion.{is_position_or_len}
 use Rattle.std.proofs.lemmas.List.Sums.{position_or_len_is}
 use Rattle.text.specs.Lines.{lf}
 use Rattle.text.specs.LineEnds.{first_length}
-
-pub at-end : (text : List ℕ) (at : ℕ) → length text ≤ at → first_length (drop at text) ≡ 0
-unfolding first_length
-at-end text at h = rw (drop_of_length-le text {i = at} h)
-
-pub at-lf : (text : List ℕ) (at : ℕ) → at < length text → get_or text at 0 ≡ lf → first_length (drop at text) ≡ 0
-unfolding first_length
-at-lf text at h e = rw (drop-cons text at 0 h, eq-eqb _ _ e)
-
-pub within : (text : List ℕ) (at : ℕ) → at < length text → ¬ (get_or text at 0 ≡ lf)
-    → first_length (drop at text) ≡ suc (first_length (drop (at + 1) text))
-unfolding first_length
-within text at h other = rw (add-one at, drop-cons text at 0 h, ne_eqb _ _ other)
 
 pub no_longer : (text : List ℕ) → first_length text ≤ length text
 unfolding first_length

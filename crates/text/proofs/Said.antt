@@ -1,20 +1,19 @@
 -- What an answer says: a number that is there is below its bound, and an event is told by the numbers that name it.
--- Rests on bits' Logic, the bus's ByKind and Leading.
+-- Rests on the bus's ByKind and on Leading.
 use mathlib.Core.Path.{◌≡◌, ◌∙◌, refl, sym, ap}
 use mathlib.Core.Bool.{Bool, true, false, cond, ◌&&◌}
 use mathlib.Core.List.{List}
 use Prim.Native.Nat.{ℕ, ◌+◌, ◌*◌, ◌<◌, ◌≤◌}
 use native.Mathlib.Omega.{arith}
-use lib.Dec.{eqb, ltb}
+use lib.Dec.{ltb}
 use lib.ListN.{length}
 use borrow.Author.Tests.{eq-eqb, lt-ltb, ltb-true, ltb-false}
 use Rattle.std.proofs.Common.{Option, Some, None}
-use Rattle.bits.proofs.Logic.{contrary, neither}
-use Rattle.bus.specs.Kinds.{reset, begin_read, end_cycle, begin_write, outside_levels, is_kind, no_kind, operands_of}
+use Rattle.bus.specs.Kinds.{is_kind, operands_of}
 use Rattle.bus.specs.declared.events.Event as events
 use Rattle.bus.specs.declared.events.Event.TheVariants.{Reset, BeginRead, EndCycle, BeginWrite, OutsideLevels}
 use Rattle.bus.specs.Answers.{event_numbered}
-use Rattle.bus.proofs.ByKind.{by_kind, kind-small}
+use Rattle.bus.proofs.ByKind.{by_known_kind, none_above, last-choice}
 use Rattle.text.specs.Digits.{no_byte}
 use Rattle.text.specs.Frames.{Frame, Event, NoFrame, kind_in, first_in, second_in, is_frame, frame_of}
 use Rattle.text.specs.Answers.{if_below, frame_told}
@@ -28,6 +27,10 @@ there bound n v is = go (ltb n bound) refl is
     go true below is = ((cc), ltb-true n bound below)
     go false above is = absurd (cc)
 
+-- So it is with a byte that was read.
+pub byte-there : {v : ℕ} (n : ℕ) → Some v ≡ if_below no_byte n → (v ≡ n) × (n < no_byte)
+byte-there {v} n read = there no_byte n v (sym read)
+
 -- Nothing is there where the number is not below the bound.
 pub none_there : (bound n : ℕ) → if_below bound n ≡ None → bound ≤ n
 none_there bound n is = go (ltb n bound) refl is
@@ -36,28 +39,17 @@ none_there bound n is = go (ltb n bound) refl is
     go true below is = absurd (cc)
     go false above is = ltb-false n bound above
 
--- Numbers of which the first is no kind name no event.
-no-kind-named : (k x d : ℕ) → is_kind k ≡ false → event_numbered k x d ≡ None
-unfolding is_kind
-no-kind-named k x d none =
-    let a = neither (eqb k reset) _ none in
-    let b = neither (eqb k begin_read) _ a.1 in
-    let c = neither (eqb k end_cycle) _ b.1 in
-    let d = neither (eqb k begin_write) (eqb k outside_levels) c.1 in
-    rw (a.0, b.0, c.0, d.0, d.1) refl
-
 -- A kind and its operands, with zeros for those that it lacks, are told as they are named.
 named-told : (k : ℕ) → is_kind k ≡ true → (x d : ℕ) → (operands_of k ≡ 0 → x ≡ 0) → (operands_of k < 2 → d ≡ 0)
     → frame_told (event_numbered k x d) ≡ Event k x d
 unfolding operands_of
 named-told =
-    by_kind (λ k. is_kind k ≡ true → (x d : ℕ) → (operands_of k ≡ 0 → x ≡ 0) → (operands_of k < 2 → d ≡ 0) → frame_told (event_numbered k x d) ≡ Event k x d)
-    (λ is x d none few. rw (none refl, few (omega arith)) refl)
-    (λ is x d none few. rw (few (omega arith)) refl)
-    (λ is x d none few. rw (none refl, few (omega arith)) refl)
-    (λ is x d none few. refl)
-    (λ is x d none few. refl)
-    (λ k none is. absurd (contrary (no_kind k) (rw (is)) none))
+    by_known_kind (λ k. (x d : ℕ) → (operands_of k ≡ 0 → x ≡ 0) → (operands_of k < 2 → d ≡ 0) → frame_told (event_numbered k x d) ≡ Event k x d)
+    (λ x d none few. rw (none refl, few (omega arith)) refl)
+    (λ x d none few. rw (few (omega arith)) refl)
+    (λ x d none few. rw (none refl, few (omega arith)) refl)
+    (λ x d none few. refl)
+    (λ x d none few. refl)
 
 -- A line as long as its kind has it, whose operands are bytes, says the event that they name: none, where there is no such kind.
 pub told-by-kind : (line : List ℕ) → length line ≡ 2 + 2 * operands_of (kind_in line) → first_in line < no_byte → second_in line < no_byte
@@ -73,21 +65,12 @@ told-by-kind line exact first second =
         named-told (kind_in line) kind (first_in line) (second_in line)
         (λ none. none_left line 2 (omega (arith, exact, none)))
         (λ few. none_left line 4 (omega (arith, exact, few)))
-    go false none = ap frame_told (no-kind-named (kind_in line) (first_in line) (second_in line) none)
+    go false none = ap frame_told (last-choice _ _ _ _ _ None (kind_in line) (rw (none) refl))
 
 -- A line that does not begin with a byte is no frame.
 pub no-kind-told : (line : List ℕ) → no_byte ≤ kind_in line → NoFrame ≡ frame_of line
 unfolding frame_of is_frame
-no-kind-told line above = go (is_kind (kind_in line)) refl
-  where
-    go : (t : Bool) → is_kind (kind_in line) ≡ t
-        → NoFrame
-        ≡ cond
-        (t && eqb (length line) (2 + 2 * operands_of (kind_in line)) && ltb (first_in line) no_byte && ltb (second_in line) no_byte)
-        (Event (kind_in line) (first_in line) (second_in line))
-        NoFrame
-    go true kind = absurd (omega (arith, above, kind-small (kind_in line) kind))
-    go false none = refl
+no-kind-told line above = rw (none_above (kind_in line) (omega (arith, above))) refl
 
 -- What is told is told of one answer alone.
 named : Frame → Option events.Event

@@ -1,5 +1,5 @@
 -- Every event, written out as a frame, is read as that event.
--- Rests on events' ByKind and bits' Tested.
+-- Rests on the bus's ByKind and bits' Tested.
 use mathlib.Core.Path.{◌≡◌}
 use mathlib.Core.Bool.{true}
 use mathlib.Core.List.{◌++◌}

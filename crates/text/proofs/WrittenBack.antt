@@ -1,5 +1,5 @@
 -- Every line that is a frame is the event that it says, written out: two lines that say the same are the same.
--- Rests on bits' Logic and Tested, events' ByKind, Leading and Written.
+-- Rests on bits' Logic and Tested, the bus's ByKind, Leading and Written.
 use mathlib.Core.Path.{◌≡◌, ◌∙◌, refl, ap, sym}
 use mathlib.Core.Bool.{Bool, true, false, cond, ◌&&◌}
 use mathlib.Core.List.{List, [], ◌∷◌, ◌++◌}
@@ -9,11 +9,11 @@ use lib.Dec.{eqb, ltb}
 use lib.ListN.{length, drop, get_or, length-drop, drop_of_length-le}
 use lib.Seq.{drop-drop}
 use borrow.Author.Tests.{eqb-true, ltb-true, ltb-false, lt-ltb, ne_eqb}
-use Rattle.bits.proofs.Logic.{both, contrary}
+use Rattle.bits.proofs.Logic.{both}
 use Rattle.bits.proofs.Tested.{numbers}
-use Rattle.bus.specs.Kinds.{is_kind, no_kind, operands_of}
+use Rattle.bus.specs.Kinds.{is_kind, operands_of}
 use Rattle.bus.specs.Event.{Event, event}
-use Rattle.bus.proofs.ByKind.{by_kind, kind-small}
+use Rattle.bus.proofs.ByKind.{by_known_kind, kind-small}
 use Rattle.text.specs.Digits.{digits, place_from, digit_value, digit_code, in_digits, no_byte, pair_value}
 use Rattle.text.specs.Frames.{Event as Frame-as-Event, leading_byte, kind_in, first_in, second_in, is_frame, frame_of}
 use Rattle.text.specs.Written.{operands_out, written_out, Exact}
@@ -78,10 +78,7 @@ leading-back (high ∷ low ∷ later) long byte = let k = pair-back high low byt
 
 few-operands : (k : ℕ) → is_kind k ≡ true → operands_of k ≤ 2
 unfolding operands_of
-few-operands =
-    by_kind (λ k. is_kind k ≡ true → operands_of k ≤ 2)
-    (λ is. omega arith) (λ is. omega arith) (λ is. omega arith) (λ is. omega arith) (λ is. omega arith)
-    (λ k none is. absurd (contrary (no_kind k) (rw (is)) none))
+few-operands = by_known_kind (λ k. operands_of k ≤ 2) (omega arith) (omega arith) (omega arith) (omega arith) (omega arith)
 
 -- The event that a line says, where it is a frame.
 abbrev pub event_in : List ℕ → Event

@@ -3,7 +3,7 @@ ghost use Rattle.std.specs.Prelude.{◌≡◌, ◌+◌, ◌*◌};
 ghost use Rattle.text.specs.Digits.{digit_value, digit_code, in_digits, no_byte, pair_value};
 ghost use Rattle.text.specs.Answers.{if_below};
 
-// What a code is worth as a digit.
+// What a code is worth as a digit. The library's `to_digit` takes small letters too, which no script has.
 #[tactic(auto, unfolding(crate::specs::Digits::digit_value))]
 fn value(code: u8) -> Option<u8>
     ensures { result ≡ if_below 16 (digit_value code) }

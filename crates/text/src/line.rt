@@ -6,7 +6,7 @@ ghost use Rattle.text.specs.Answers.{if_below, frame_told, line_of, bytes_lent};
 
 use crate::digits;
 use bus::events::Event;
-use bus::kinds;
+use bus::kinds::Kind;
 
 /// A line of a text.
 #[derive(Clone, Copy, Debug, PartialEq, Eq)]
@@ -28,6 +28,7 @@ impl<'a> Line<'a> {
     }
 
     /// The event that the line says; `None` where it is no frame. A rest says nothing, however well it is formed.
+    // By a match, here and in rackscript: a function that gives the bytes of an ended line would save no line.
     #[tactic(auto, unfolding(crate::specs::Frames::frame_in))]
     pub fn event(self) -> Option<Event>
         ensures { frame_told result ≡ frame_in (line_of self.entry) }
@@ -40,6 +41,7 @@ impl<'a> Line<'a> {
 }
 
 /// The byte that two digits make at that place of a line: `None` where they are no two digits, and 0 where the line is over.
+// By a place, since a frame has each of its bytes at a place of its own.
 #[tactic(auto, unfolding(crate::specs::Frames::leading_byte))]
 pub fn byte_at(line: &[u8], at: usize) -> Option<u8>
     ensures { result ≡ if_below no_byte (leading_byte (drop at line.now)) }
@@ -56,11 +58,13 @@ pub fn byte_at(line: &[u8], at: usize) -> Option<u8>
 fn event(line: &[u8]) -> Option<Event>
     ensures { frame_told result ≡ frame_of line.now }
 {
-    let kind = byte_at(line, 0)?;
+    let number = byte_at(line, 0)?;
     let first = byte_at(line, 2)?;
     let second = byte_at(line, 4)?;
-    if line.len() != 2 + 2 * kinds::operands(kind as u16) as usize {
+    let kind = Kind::numbered(u16::from(number))?;
+    if line.len() != 2 + 2 * usize::from(kind.operands()) {
         return None;
     }
-    Event::numbered(kind, first, second)
+    // Its kind is asked for once more: an event of a kind would be one more public function, for this one caller.
+    Event::numbered(number, first, second)
 }

@@ -11,12 +11,12 @@ use Rattle.script.specs.Run.{run_told, longest_script, too_long, too_long_number
 use Rattle.script.proofs.Numbers.{number-given}
 use Rattle.script.proofs.Outcome.{room-enough}
 use Rattle.script.proofs.Pieces.{answers-length}
-use Rattle.towanchor.specs.Printed.{refusal, kept_of, printed_by}
+use Rattle.towanchor.specs.Printed.{refusal_text, kept_of, printed_by}
 
 -- What is to be printed of a run.
-abbrev given : Result ℕ RunRefusal → Result ℕ ℕ
+abbrev given : Result ℕ RunRefusal → Result ℕ RunRefusal
 given (Ok lines) = Ok (answer_width * lines)
-given (Err r) = Err (run_refusal_number r)
+given (Err r) = Err r
 
 -- No refusal has the number 0.
 pub some-refusal : (r : RunRefusal) → run_refusal_number r ≢ 0
@@ -54,19 +54,19 @@ module _ {S R : Type 0} (dev : Device S R) (pins : S → ℕ → Pins) (s : S) (
           (take_at answers (drop (room_for answer_width text) out) (room_for answer_width text) (answers-length (by_device dev pins) s text))
 
   -- A refused one.
-  pub refused : (r : Ran) → r ≡ ran_of answer_width text (length out) → r.number ≢ 0 → refusal r.number ≡ printed_by (by_device dev pins) s text
+  pub refused : (r : Ran) → r ≡ ran_of answer_width text (length out) → r.number ≢ 0 → refusal_text r.number ≡ printed_by (by_device dev pins) s text
   unfolding printed_by
   refused r is other = go (too_long text) refl
     where
       given : r.number ≡ run_number answer_width text (length out)
       given = number-given answer_width text (length out) r is
 
-      go : (long : Bool) → too_long text ≡ long → refusal r.number ≡ printed_by (by_device dev pins) s text
+      go : (long : Bool) → too_long text ≡ long → refusal_text r.number ≡ printed_by (by_device dev pins) s text
       go true e = rw (given, number-by true e, e) refl
       go false e = absurd (other (given ∙ number-by false e))
 
   -- What is printed of an accepted run or of a refused one.
   pub kept : (r : Result ℕ RunRefusal) → run_told r ≡ ran_of answer_width text (length out)
-      → kept_of (given r) (output_left (by_device dev pins) s text out) ≡ printed_by (by_device dev pins) s text
+      → kept_of run_refusal_number (given r) (output_left (by_device dev pins) s text out) ≡ printed_by (by_device dev pins) s text
   kept (Ok lines) is = answered _ is refl
   kept (Err refusal) is = refused _ is (some-refusal refusal)

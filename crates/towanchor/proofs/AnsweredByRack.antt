@@ -6,23 +6,24 @@ use Rattle.rack.specs.Bases.{bad_rack_number}
 use Rattle.script.specs.Answers.{answers_from}
 use Rattle.rackscript.specs.declared.Ran as counts
 use Rattle.rackscript.specs.declared.RackRunRefusal.{RackRunRefusal}
-use Rattle.rackscript.specs.declared.RackRunRefusal.TheVariants.{TooLong, BadRack, NoRoom}
+use Rattle.rackscript.specs.declared.RackRunRefusal.TheVariants.{BadRack, Run}
+use Rattle.script.specs.declared.RunRefusal.TheVariants.{TooLong, NoRoom}
 use Rattle.rackscript.specs.Answers.{answering}
 use Rattle.rackscript.specs.Run.{run_told, names_rack, rack_named, to_answer, room_for_text, run_number, run_refusal_number, Ran, ran_of, output_left}
 use Rattle.rackscript.proofs.Room.{most_room}
 use Rattle.rackscript.proofs.Enough.{answers-length, room-enough}
-use Rattle.towanchor.specs.Printed.{refusal, kept_of, printed_of_rack}
+use Rattle.towanchor.specs.Printed.{refusal_text, kept_of, printed_of_rack}
 
 -- What is to be printed of a run.
-abbrev given : Result counts.Ran RackRunRefusal → Result ℕ ℕ
+abbrev given : Result counts.Ran RackRunRefusal → Result ℕ RackRunRefusal
 given (Ok ran) = Ok ran.length
-given (Err r) = Err (run_refusal_number r)
+given (Err r) = Err r
 
 -- No refusal has the number 0.
 pub some-refusal : (r : RackRunRefusal) → run_refusal_number r ≢ 0
-some-refusal TooLong e = omega (arith, e)
-some-refusal BadRack e = omega (arith, e)
-some-refusal NoRoom e = omega (arith, e)
+some-refusal (BadRack r) e = omega (arith, e)
+some-refusal (Run TooLong) e = omega (arith, e)
+some-refusal (Run NoRoom) e = omega (arith, e)
 
 module _ (text out : List ℕ) (enough : most_room ≤ length out) where
   -- The number by the first two tests: the third finds room.
@@ -59,17 +60,17 @@ module _ (text out : List ℕ) (enough : most_room ≤ length out) where
           (answers-length (rack_named text) (to_answer text)))
 
   -- A refused one.
-  pub refused : (r : Ran) → r ≡ ran_of text (length out) → r.number ≢ 0 → refusal r.number ≡ printed_of_rack text
+  pub refused : (r : Ran) → r ≡ ran_of text (length out) → r.number ≢ 0 → refusal_text r.number ≡ printed_of_rack text
   unfolding printed_of_rack
   refused r is other = go (too_long text) (names_rack text) refl refl
     where
-      go : (long rack : Bool) → too_long text ≡ long → names_rack text ≡ rack → refusal r.number ≡ printed_of_rack text
+      go : (long rack : Bool) → too_long text ≡ long → names_rack text ≡ rack → refusal_text r.number ≡ printed_of_rack text
       go true rack l k = rw (number-given r is, number-by true rack l k, l) refl
       go false false l k = rw (number-given r is, number-by false false l k, l, k) refl
       go false true l k = absurd (other (number-given r is ∙ number-by false true l k))
 
   -- What is printed of an accepted run or of a refused one.
   pub kept : (r : Result counts.Ran RackRunRefusal) → run_told r ≡ ran_of text (length out)
-      → kept_of (given r) (output_left text out) ≡ printed_of_rack text
+      → kept_of run_refusal_number (given r) (output_left text out) ≡ printed_of_rack text
   kept (Ok ran) is = answered _ is refl
   kept (Err refusal) is = refused _ is (some-refusal refusal)

@@ -18,17 +18,17 @@ use Rattle.towanchor.specs.declared.answers.Device.{Device}
 use Rattle.towanchor.specs.declared.answers.Device.TheVariants.{I8255A, I82C55A, I8355}
 
 -- A number alone on its line.
-abbrev pub refusal : ℕ → List ℕ
-refusal n = in_digits n ++ (lf ∷ [])
+abbrev pub refusal_text : ℕ → List ℕ
+refusal_text n = in_digits n ++ (lf ∷ [])
 
--- What is printed of an output after a run that names so many bytes of it, or the number of a refusal.
-abbrev pub kept_of : Result ℕ ℕ → List ℕ → List ℕ
-kept_of (Ok n) out = take n out
-kept_of (Err n) out = refusal n
+-- What is printed of an output after a run that names so many bytes of it, or the number of its refusal.
+abbrev pub kept_of : {R : Type 0} → (R → ℕ) → Result ℕ R → List ℕ → List ℕ
+kept_of number (Ok n) out = take n out
+kept_of number (Err r) out = refusal_text (number r)
 
 -- The answers of whoever meets the text in a state, or 06 where the text is longer than a script may be.
 unfoldable pub printed_by : {S : Type 0} → Answerer S → S → List ℕ → List ℕ
-printed_by a s text = cond (too_long text) (refusal too_long_number) (answers_of a s text)
+printed_by a s text = cond (too_long text) (refusal_text too_long_number) (answers_of a s text)
 
 -- Those of a device at its power-up. A chip of either edition has every line high then, and so has an 8355.
 unfoldable pub printed : Device → List ℕ → List ℕ
@@ -39,6 +39,6 @@ printed I8355 text = printed_by (by_device i8355.device i8355_views.pins_of) i83
 -- Those of a rack, which the first line names; or 06, or 09 where that is no rack.
 unfoldable pub printed_of_rack : List ℕ → List ℕ
 printed_of_rack text =
-    cond (too_long text) (refusal too_long_number)
-    (cond (not (names_rack text)) (refusal bad_rack_number)
+    cond (too_long text) (refusal_text too_long_number)
+    (cond (not (names_rack text)) (refusal_text bad_rack_number)
     (answers_from answering (rack_named text) (to_answer text)))

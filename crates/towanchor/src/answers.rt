@@ -21,7 +21,7 @@ pub(super) enum Device {
 // Enough for the answers to all the lines that a script can have.
 const MOST_ROOM: usize = ANSWER_WIDTH * LONGEST;
 
-// Those of a device in whatever state; or the number of the refusal.
+// The answers of a device in whatever state; or the number of the refusal.
 fn answer_by<D: devices::Device>(
     alloc: Global,
     device: &mut D,
@@ -29,12 +29,13 @@ fn answer_by<D: devices::Device>(
 ) -> Result<Vec<u8>, AllocError>
     ensures { IfOk result (λ out. out.items ≡ printed_by (by_device D.device D.shown) device.old text.now) }
 {
+    // By a match and no `map`: that the product fits is known of the lines that the run has answered, and not of any number.
     output::of_run(
         alloc,
         MOST_ROOM,
         |out| match script::run(device, text, out) {
             Ok(lines) => Ok(ANSWER_WIDTH * lines),
-            Err(refusal) => Err(refusal.number()),
+            Err(refusal) => Err(refusal),
         },
     )
 }

@@ -1,9 +1,10 @@
 // Standard output, and what stands there in place of answers.
 ghost use Rattle.std.specs.Prelude.{◌≡◌, IfOk, List, ℕ, Result, length, vec_len};
 ghost use Rattle.std.specs.Fn.{FnOnceReturnsAtMut};
-ghost use Rattle.towanchor.specs.Printed.{refusal, kept_of};
+ghost use Rattle.towanchor.specs.Printed.{refusal_text, kept_of};
 
 use anyhow::Context;
+use bus::refusals::Numbered;
 use std::alloc::{AllocError, Global};
 use text::{LF, digits};
 
@@ -12,15 +13,15 @@ pub(super) fn write(rt: &impl Print, bytes: &[u8]) -> anyhow::Result<()> {
 }
 
 // The number of a refusal, in two digits, and LF.
-pub(super) fn refusal(alloc: Global, number: u8) -> Result<Vec<u8>, AllocError>
-    ensures { IfOk result (λ out. out.items ≡ refusal number) }
+pub(super) fn refusal<R: Numbered>(alloc: Global, refusal: R) -> Result<Vec<u8>, AllocError>
+    ensures { IfOk result (λ out. out.items ≡ refusal_text (R.number_of refusal)) }
 {
-    let [high, low] = digits::of_byte(number);
+    let [high, low] = digits::of_byte(refusal.number());
     Ok(vec![in alloc; high, low, LF]?)
 }
 
-// Room for so many bytes of answers. In a function of its own, so that the proof of the answers is one for any bytes, and not for so many
-// zeros.
+// Room for so many bytes of answers. In a function of its own: its contract speaks of the length alone, so that the proof above need not carry
+// so many zeros.
 fn room(alloc: Global, size: usize) -> Result<Vec<u8>, AllocError>
     ensures { IfOk result (λ out. vec_len out ≡ size) }
 {
@@ -28,13 +29,13 @@ fn room(alloc: Global, size: usize) -> Result<Vec<u8>, AllocError>
 }
 
 // What is printed of a run, which says how many bytes of the room that it got are answers, or the number of its refusal.
-pub(super) fn of_run<F: FnOnce(&mut [u8]) -> Result<usize, u8>>(
+pub(super) fn of_run<R: Numbered, F: FnOnce(&mut [u8]) -> Result<usize, R>>(
     alloc: Global,
     size: usize,
     run: F,
 ) -> Result<Vec<u8>, AllocError>
     requires { F.IsAlwaysCallable run }
-    ensures { IfOk result (λ out. (before after : List ℕ) × (ran : Result ℕ ℕ) × (length before ≡ size) × FnOnceReturnsAtMut F.FnOnce run before ran after × (out.items ≡ kept_of ran after)) }
+    ensures { IfOk result (λ out. (before after : List ℕ) × (ran : Result ℕ R) × (length before ≡ size) × FnOnceReturnsAtMut F.FnOnce run before ran after × (out.items ≡ kept_of R.number_of ran after)) }
 {
     let mut out = room(alloc, size)?;
     match run(&mut out) {
@@ -42,6 +43,6 @@ pub(super) fn of_run<F: FnOnce(&mut [u8]) -> Result<usize, u8>>(
             out.truncate(length);
             Ok(out)
         }
-        Err(number) => refusal(alloc, number),
+        Err(why) => refusal(alloc, why),
     }
 }

@@ -10,6 +10,7 @@ use control::Group;
 use script::{RunRefusal, left};
 use std::alloc::{AllocError, Global};
 
+// A function and no `Display` of the reason: the words depend on the side too.
 fn words(side: Side, reason: Reason) -> &'static str {
     match (reason, side) {
         (Reason::EnableOff, _) => "low, the interrupt is not enabled",

@@ -9,8 +9,7 @@ use std::alloc::{AllocError, Global};
 pub(super) fn answer(alloc: Global, text: &[u8]) -> Result<Vec<u8>, AllocError>
     ensures { IfOk result (λ out. out.items ≡ printed_of_rack text.now) }
 {
-    output::of_run(alloc, MOST_ROOM, |out| match rackscript::run(text, out) {
-        Ok(ran) => Ok(ran.length),
-        Err(refusal) => Err(refusal.number()),
+    output::of_run(alloc, MOST_ROOM, |out| {
+        rackscript::run(text, out).map(|ran| ran.length)
     })
 }

@@ -2,18 +2,27 @@
 use super::super::random;
 use super::super::random::byte;
 use super::counts::Counts;
-use super::words::{Drawing, Lines};
+use super::words::Drawing;
 use super::{counts, words};
+use chip::Levels;
 use std::alloc::{AllocError, Global};
 
-// So many words a journal may have.
+// So many words a journal may have. Said again here: the constant of journal is private, and the second trimmer shares none with the program.
 pub(super) const LONGEST: usize = 8192;
 
-// A journal's power-up: an edition by its number and the levels of the three ports.
+// A journal's power-up: an edition by its number, since there may be none of that number, and the levels of the three ports.
 #[derive(Clone, Copy)]
 pub(super) struct Case {
     pub(super) edition: u8,
-    pub(super) lines: Lines,
+    pub(super) levels: Levels,
+}
+
+impl Case {
+    // Trims a log by the proved trimmer, as C calls it.
+    pub(super) fn trim(&self, log: &mut [u32]) -> u32 {
+        let levels = self.levels;
+        journal::towanchor_trim(log, self.edition, levels.a, levels.b, levels.c)
+    }
 }
 
 // In one of eight an edition that there is not; in one of four every line is high.
@@ -27,7 +36,7 @@ fn power_up(number: u64) -> Case {
     let high = if (number >> 32) % 4 == 0 { 0xff } else { 0 };
     Case {
         edition,
-        lines: Lines {
+        levels: Levels {
             a: byte(number >> 8) | high,
             b: byte(number >> 16) | high,
             c: byte(number >> 24) | high,
@@ -44,7 +53,7 @@ fn length(number: u64) -> usize {
     }
 }
 
-// In one of four journals a word is made no frame, if one stands at the place that is drawn; whether it is.
+// Makes a word no frame in one of four journals, if one stands at the place that is drawn, and tells whether it did.
 fn damage(counts: &mut Counts, journal: &mut [u32], number: u64) -> bool {
     if number % 4 != 0 {
         return false;
@@ -72,16 +81,9 @@ pub(super) fn draw(counts: &mut Counts, alloc: Global, seed: u64) -> Result<Draw
     let far = random::far(seed);
     let case = power_up(far);
     let mut journal = Vec::new(alloc);
-    let mut drawing = Drawing {
-        number: seed,
-        exchange: 0,
-        step: 0,
-        word: 0,
-        lines: case.lines,
-    };
+    let mut drawing = Drawing::new(seed, case.levels);
     for _ in 0..length(far) {
-        drawing = words::next(drawing);
-        journal.push(drawing.word)?;
+        journal.push(drawing.next())?;
     }
     let number = random::next(drawing.number);
     let damaged = damage(counts, &mut journal, number);

@@ -9,9 +9,10 @@
 //     47 words that were trimmed again, 48 words with which a trimmed journal was gone on; 49 differences
 use super::super::row::{Row, order};
 use super::super::twins::{PER_CHANNEL, Tallies};
-use super::apart::Trimmed;
-use super::cases::{Case, LONGEST};
+use super::agree::Expected;
+use super::cases::{Drawn, LONGEST};
 use super::words;
+use journal::TrimRefusal;
 use std::fmt;
 
 // What is compared, a word of a log among other things.
@@ -57,25 +58,32 @@ const AGAIN: usize = 47;
 
 const GONE_ON: usize = 48;
 
-// A journal by the number with which it is answered, if there is such a number, and whether it has a word that is no frame.
-fn answered(counts: &mut Counts, length: usize, number: u8, damaged: bool) {
-    let behind = match number {
-        0 | 1 => number as usize,
-        6 => 2,
-        8 => 3,
-        _ => return,
+// The numbers with which a journal is answered, in the order of their counts.
+const ANSWERS: [u8; 4] = [
+    0,
+    TrimRefusal::NoFrame as u8,
+    TrimRefusal::TooLong as u8,
+    TrimRefusal::NoEdition as u8,
+];
+
+// A journal by the number with which it is answered, if there is such a number.
+fn answered(counts: &mut Counts, drawn: &Drawn, number: u8) {
+    let Some(behind) = ANSWERS.iter().position(|answer| *answer == number) else {
+        return;
     };
+    let too_long = drawn.journal.len() > LONGEST;
     counts.add(NUMBERS + behind, 1);
-    counts.add(DAMAGED + behind, damaged as u64);
-    counts.add(TOO_LONG + behind, (length > LONGEST) as u64);
+    counts.add(DAMAGED + behind, drawn.damaged as u64);
+    counts.add(TOO_LONG + behind, too_long as u64);
 }
 
-// A journal of so many words.
-pub(super) fn journal(counts: &mut Counts, case: Case, length: usize, number: u8, damaged: bool) {
-    counts.add(0, 1);
+pub(super) fn journal(counts: &mut Counts, drawn: &Drawn, number: u8) {
+    let length = drawn.journal.len();
+    let edition = drawn.case.edition;
+    counts.history();
     counts.add(1, length as u64);
-    if case.edition < 2 {
-        counts.add(EDITIONS + case.edition as usize, 1);
+    if edition < 2 {
+        counts.add(EDITIONS + edition as usize, 1);
     }
     match length {
         0 => counts.add(WITHOUT_A_WORD, 1),
@@ -83,32 +91,33 @@ pub(super) fn journal(counts: &mut Counts, case: Case, length: usize, number: u8
         _ if length > LONGEST => counts.add(OF_ONE_MORE, 1),
         _ => {}
     }
-    answered(counts, length, number, damaged);
+    answered(counts, drawn, number);
 }
 
-// What became of each word of a journal that was trimmed to the row. A word is the next one that was kept where it is the same: had it been
-// dropped, nothing would have changed before that one, which would have been dropped as well.
-pub(super) fn census(counts: &mut Counts, journal: &[u32], row: &[u32], case: Case, idle: u64) {
-    let mut lines = case.lines;
-    let mut kept = row.iter().peekable();
-    for word in journal {
+// What became of each word of a journal that was trimmed. A word that is equal to the next kept one is that one: had it been dropped, its equal
+// would have met the same state and been dropped too.
+pub(super) fn census(counts: &mut Counts, drawn: &Drawn, expected: &Expected) {
+    let mut levels = drawn.case.levels;
+    let mut kept = expected.row.iter().take(expected.answer.kept).peekable();
+    for word in &drawn.journal {
         let first = match kept.next_if_eq(&word) {
             Some(_) => KEPT,
             None => DROPPED,
         };
-        let repeated = words::repeated(lines, (word / 0x100 % 0x100) as u8);
-        counts.add(first + order((word / 0x10000 % 0x100) as u8), 1);
+        let [_, kind, port, _] = word.to_be_bytes();
+        let repeated = words::repeated(&levels, port);
+        counts.add(first + order(kind), 1);
         counts.add(first + REPEATED, (*word == repeated) as u64);
-        lines = words::after(lines, *word);
+        words::follow(&mut levels, *word);
     }
-    counts.add(IDLE, idle);
+    counts.add(IDLE, expected.answer.idle);
 }
 
 // How many words were trimmed again, with how many the journal was gone on, and what became of the bytes that the chip met.
 pub(super) fn gone_on(counts: &mut Counts, again: usize, new: usize, tallies: Tallies) {
     counts.add(AGAIN, again as u64);
     counts.add(GONE_ON, new as u64);
-    for (at, tally) in tallies.iter().enumerate() {
-        counts.add(FATES + at % PER_CHANNEL, *tally as u64);
+    for channel in tallies.chunks(PER_CHANNEL) {
+        counts.add_all(FATES, channel);
     }
 }

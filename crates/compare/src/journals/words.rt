@@ -1,106 +1,120 @@
 // The words of a journal, as they are drawn: the frames of exchanges, in their order, and between them what an idle machine logs besides;
-// and words that are no frames.
+// and words that are no frames. They are put together byte by byte, since `Logged` of journal, which packs them, is among what is compared.
+use super::super::events::Event;
 use super::super::random::byte;
 use super::super::{draws, random};
+use bus::kinds::Kind;
+use chip::{Levels, PORT_A, PORT_B, PORT_C};
 
-// The levels on the lines of the three ports.
-#[derive(Clone, Copy)]
-pub(super) struct Lines {
-    pub(super) a: u8,
-    pub(super) b: u8,
-    pub(super) c: u8,
-}
+const LEVELS: u8 = Kind::OutsideLevels as u8;
 
 // The frame that puts levels on a port which are there already.
-pub(super) fn repeated(lines: Lines, port: u8) -> u32 {
-    match port {
-        0 => 0x50000 + lines.a as u32,
-        1 => 0x50100 + lines.b as u32,
-        _ => 0x50200 + lines.c as u32,
-    }
+pub(super) fn repeated(levels: &Levels, port: u8) -> u32 {
+    u32::from_be_bytes(match port {
+        PORT_A => [0, LEVELS, PORT_A, levels.a],
+        PORT_B => [0, LEVELS, PORT_B, levels.b],
+        _ => [0, LEVELS, PORT_C, levels.c],
+    })
 }
 
-// The lines after a frame.
-pub(super) fn after(mut lines: Lines, word: u32) -> Lines {
-    let levels = (word % 0x100) as u8;
-    match word / 0x100 {
-        0x500 => lines.a = levels,
-        0x501 => lines.b = levels,
-        0x502 => lines.c = levels,
+// The levels after a frame.
+pub(super) fn follow(levels: &mut Levels, word: u32) {
+    match word.to_be_bytes() {
+        [0, LEVELS, PORT_A, byte] => levels.a = byte,
+        [0, LEVELS, PORT_B, byte] => levels.b = byte,
+        [0, LEVELS, PORT_C, byte] => levels.c = byte,
         _ => {}
     }
-    lines
 }
 
 // An event as a frame: without the operands that its kind lacks. What is no kind is made an end, which often has nothing to end.
-fn framed(event: u64) -> u32 {
-    let frame = match event / 0x10000 % 0x100 {
-        0 => 0,
-        1 => event / 0x100 * 0x100,
-        3 | 5 => event,
-        _ => 0x20000,
+fn framed(event: Event) -> u32 {
+    let kind = Kind::numbered(u16::from(event.kind)).unwrap_or(Kind::EndCycle);
+    let (first, second) = match kind {
+        Kind::Reset | Kind::EndCycle => (0, 0),
+        Kind::BeginRead => (event.first, 0),
+        Kind::BeginWrite | Kind::OutsideLevels => (event.first, event.second),
     };
-    (frame % 0x1000000) as u32
+    u32::from_be_bytes([0, kind.number(), first, second])
 }
+
+// The kinds that have an operand.
+const WITH_OPERANDS: [Kind; 3] = [Kind::BeginRead, Kind::BeginWrite, Kind::OutsideLevels];
 
 // What an idle machine logs besides: most often the last word once more, be it a beginning, an end, levels or a reset; levels that are there
 // already; or an address or a port that there is not.
-fn idle(last: u32, lines: Lines, number: u64) -> u32 {
+fn idle(last: u32, levels: &Levels, number: u64) -> u32 {
     let one_of_three = (number >> 32) % 3;
     match (number >> 24) % 4 {
         0 | 1 => last,
-        2 => repeated(lines, one_of_three as u8),
-        _ => framed(0x10000 + one_of_three * 0x20000 + (4 + number % 0xfc) * 0x100),
+        2 => repeated(levels, one_of_three as u8),
+        _ => framed(Event {
+            kind: WITH_OPERANDS[one_of_three as usize].number(),
+            first: (4 + number % 0xfc) as u8,
+            second: 0,
+        }),
     }
 }
 
-// So many of 256 words are drawn by that.
+// How many of 256 words are drawn so.
 const IDLE: u8 = 64;
 
-// Where the drawing stands: the last number, the exchange that goes on and its step, the last word, and the lines.
+// Where the drawing stands: the last number, the exchange that goes on and its step, the last word, and the levels.
 #[derive(Clone, Copy)]
 pub(super) struct Drawing {
     pub(super) number: u64,
-    pub(super) exchange: u64,
-    pub(super) step: u64,
-    pub(super) word: u32,
-    pub(super) lines: Lines,
+    exchange: u8,
+    step: u64,
+    word: u32,
+    levels: Levels,
 }
 
-// The next word. One that is drawn between those of an exchange puts none of them out of its place.
-pub(super) fn next(mut drawing: Drawing) -> Drawing {
-    let number = random::next(drawing.number);
-    let lines = drawing.lines;
-    if byte(number >> 48) < IDLE {
-        drawing.word = idle(drawing.word, lines, number);
-    } else {
-        drawing.exchange = draws::exchange(number, drawing.exchange, drawing.step);
-        drawing.word = framed(draws::draw(number, drawing.exchange, drawing.step));
-        drawing.step = drawing.step.wrapping_add(1);
+impl Drawing {
+    pub(super) fn new(seed: u64, levels: Levels) -> Self {
+        Drawing {
+            number: seed,
+            exchange: 0,
+            step: 0,
+            word: 0,
+            levels,
+        }
     }
-    drawing.number = number;
-    drawing.lines = after(lines, drawing.word);
-    drawing
+
+    // The next word. One that is drawn between those of an exchange puts none of them out of its place.
+    pub(super) fn next(&mut self) -> u32 {
+        let number = random::next(self.number);
+        self.number = number;
+        if byte(number >> 48) < IDLE {
+            self.word = idle(self.word, &self.levels, number);
+        } else {
+            if draws::begins(self.step) {
+                self.exchange = draws::new_exchange(number);
+            }
+            self.word = framed(draws::draw(number, self.exchange, self.step));
+            self.step = self.step.wrapping_add(1);
+        }
+        follow(&mut self.levels, self.word);
+        self.word
+    }
 }
 
 // In how many ways a word is made no frame.
 pub(super) const WAYS: u8 = 8;
 
 // A word that is none: of kind 04; of kind 06; of a kind above that; of kind 0105; a frame with upper bits; the beginning of a read with a second
-// operand; a reset or an end with that; and one with a first operand.
+// operand; a reset or an end with that; and one with a first operand. Kinds are numbers here, since most of these are none.
 pub(super) fn damaged(word: u32, way: u8, number: u64) -> u32 {
-    let frame = word as u64 % 0x1000000;
-    let operands = word as u64 % 0x10000;
-    let more = 1 + (number >> 16) % 0xf9;
-    let damaged = match way {
-        0 => 0x40000 + operands,
-        1 => 0x60000 + operands,
-        2 => 0x60000 + more * 0x10000 + operands,
-        3 => 0x1050000 + operands,
-        4 => frame + more * 0x1000000,
-        5 => 0x10000 + operands / 0x100 * 0x100 + more,
-        6 => number % 2 * 0x20000 + more,
-        _ => number % 2 * 0x20000 + more * 0x100,
-    };
-    (damaged % 0x100000000) as u32
+    let [_, kind, first, second] = word.to_be_bytes();
+    let more = (1 + (number >> 16) % 0xf9) as u8;
+    let reset_or_end = (number % 2 * 2) as u8;
+    u32::from_be_bytes(match way {
+        0 => [0, 4, first, second],
+        1 => [0, 6, first, second],
+        2 => [0, 6 + more, first, second],
+        3 => [1, 5, first, second],
+        4 => [more, kind, first, second],
+        5 => [0, 1, first, more],
+        6 => [0, reset_or_end, 0, more],
+        _ => [0, reset_or_end, more, 0],
+    })
 }

@@ -1,8 +1,9 @@
 // The second model of the 8355's two ports, written apart from the proved one, to be held against it. It uses nothing but itself, keeps
 // the ports in registers by their addresses, and puts levels together pin by pin. Each function answers for every value of the
-// machine, reached or not.
+// machine, reached or not. Numbers stand where the proved crates have enums and structs, since a form that both had could hide a fault of
+// both.
 
-#[derive(Clone, Copy)]
+#[derive(Clone, Copy, PartialEq, Eq)]
 pub(super) struct Machine {
     pub(super) phase: u8, // 0 idle, 1 reading, 2 writing
     pub(super) place: u8, // the address being read or written; 0 when idle

@@ -6,10 +6,9 @@
 use super::super::counts::NUMBERS;
 use super::super::proved::Stepped;
 use super::super::row::Row;
-use super::super::twins;
-use super::super::twins::Bus;
 use super::views::View;
-use bus::kinds;
+use bus::Phase;
+use bus::kinds::Kind;
 use i8355::{Chip8355, Port, Ports};
 
 pub(super) type Counts = Row<View, 20>;
@@ -28,35 +27,41 @@ fn behind_input(before: &Port, after: &Port) -> bool {
     (before.latch ^ after.latch) & !before.direction != 0
 }
 
-// The place of what the end of a cycle did, if that is counted. A read changes no latch.
-fn ended(bus: &Bus, before: &Ports, after: &Ports) -> Option<usize> {
-    let written = bus.phase == twins::WRITING;
-    match bus.place {
+// The place of what the end of a write did, if that is counted.
+fn written(address: u8, before: &Ports, after: &Ports) -> Option<usize> {
+    match address {
         i8355::PORT_A if behind_input(&before.a, &after.a) => Some(BEHIND_INPUTS),
         i8355::PORT_B if behind_input(&before.b, &after.b) => Some(BEHIND_INPUTS),
-        i8355::DIRECTION_A | i8355::DIRECTION_B if written => Some(DIRECTIONS),
+        i8355::DIRECTION_A | i8355::DIRECTION_B => Some(DIRECTIONS),
+        _ => None,
+    }
+}
+
+// The same of the end of whatever ran. A read changes nothing that is counted.
+fn ended(before: &Chip8355, after: &Ports) -> Option<usize> {
+    match before.phase {
+        Phase::Writing(address, _) => written(address, &before.ports, after),
         _ => None,
     }
 }
 
 // The place of what an accepted event did besides, if that is counted.
-fn deed(kind: u8, bus: &Bus, before: &Ports, after: &Ports) -> Option<usize> {
-    let within = bus.phase != twins::IDLE;
-    match kind {
-        kinds::RESET if within => Some(RESETS_WITHIN),
-        kinds::BEGIN_READ => Some(READS),
-        kinds::END_CYCLE => ended(bus, before, after),
-        kinds::OUTSIDE_LEVELS if within => Some(LEVELS_WITHIN),
+fn deed(kind: u8, before: &Chip8355, after: &Ports) -> Option<usize> {
+    let within = before.phase != Phase::Idle;
+    match Kind::numbered(u16::from(kind))? {
+        Kind::Reset if within => Some(RESETS_WITHIN),
+        Kind::BeginRead => Some(READS),
+        Kind::EndCycle => ended(before, after),
+        Kind::OutsideLevels if within => Some(LEVELS_WITHIN),
         _ => None,
     }
 }
 
 pub(super) fn count(counts: &mut Counts, kind: u8, before: &Chip8355, after: &Stepped<Chip8355>) {
-    let bus = twins::running(before.phase);
     counts.event(kind);
     counts.add(NUMBERS + after.number as usize, 1);
     if after.number == 0
-        && let Some(place) = deed(kind, &bus, &before.ports, &after.device.ports)
+        && let Some(place) = deed(kind, before, &after.device.ports)
     {
         counts.add(place, 1);
     }

@@ -1,66 +1,84 @@
 // The events of a history of the 8355: most stand in an exchange, and one in six is drawn by itself.
 use super::super::draws;
-pub(super) use super::super::draws::exchange;
+use super::super::events::Event;
+use super::super::exchanges::Exchange;
+use super::super::exchanges::Planned::{BeginRead, BeginWrite, EndCycle, OutsideLevels, Reset};
+use i8355::{DIRECTION_A, PORT_A};
 
-const COUNT: u64 = 6;
+// The first port that there is not.
+const NO_PORT: u8 = 2;
 
-// Six events each, of eight digits as those of the 8255A: the kind, the first operand, and the bits of the second that are drawn and that
-// are set. They are those of port A, whose addresses are even. For port B one is added to each, also to a reset and an end,
-// which ignore it.
-const EVENTS: [u64; 36] = [
+// The exchanges of port A. In those of port B each first operand is one more, as its addresses are; a reset and an end ignore theirs.
+const EXCHANGES: [Exchange; 6] = [
     // A byte waits behind the pins before they are outputs.
-    0x0300ff00, // a write of the port begins
-    0x02000000, // and ends
-    0x0302ff00, // a write of its direction begins
-    0x02000000, // and ends
-    0x01000000, // a read begins
-    0x02000000, // and ends
+    [
+        BeginWrite(PORT_A, 0xff, 0x00),
+        EndCycle,
+        BeginWrite(DIRECTION_A, 0xff, 0x00),
+        EndCycle,
+        BeginRead(PORT_A),
+        EndCycle,
+    ],
     // Levels come before a read and within it.
-    0x0500ff00, // any levels
-    0x01000000, // a read begins
-    0x0500ff00, // other levels
-    0x02000000, // the read ends
-    0x01000000, // another begins
-    0x02000000, // and ends
+    [
+        OutsideLevels(PORT_A, 0xff, 0x00), // any levels
+        BeginRead(PORT_A),
+        OutsideLevels(PORT_A, 0xff, 0x00), // other levels
+        EndCycle,
+        BeginRead(PORT_A),
+        EndCycle,
+    ],
     // All pins are outputs, and levels come within a write.
-    0x030200ff, // a write of the direction begins
-    0x02000000, // and ends
-    0x0300ff00, // a write of the port begins
-    0x0500ff00, // any levels
-    0x02000000, // the write ends
-    0x0500ff00, // other levels
+    [
+        BeginWrite(DIRECTION_A, 0x00, 0xff),
+        EndCycle,
+        BeginWrite(PORT_A, 0xff, 0x00),
+        OutsideLevels(PORT_A, 0xff, 0x00), // any levels
+        EndCycle,
+        OutsideLevels(PORT_A, 0xff, 0x00), // other levels
+    ],
     // The pins turn around over a latch that stays.
-    0x0302ff00, // a write of the direction begins
-    0x0502ff00, // levels on a port that there is not
-    0x02000000, // the write ends
-    0x0500ff00, // any levels
-    0x0302ff00, // a write of another direction begins
-    0x02000000, // and ends
+    [
+        BeginWrite(DIRECTION_A, 0xff, 0x00),
+        OutsideLevels(NO_PORT, 0xff, 0x00), // levels on a port that there is not
+        EndCycle,
+        OutsideLevels(PORT_A, 0xff, 0x00), // any levels
+        BeginWrite(DIRECTION_A, 0xff, 0x00),
+        EndCycle,
+    ],
     // One byte is written over another.
-    0x0300ff00, // a write begins
-    0x02000000, // and ends
-    0x0300ff00, // a second write begins
-    0x02000000, // and ends
-    0x01000000, // a read begins
-    0x02000000, // and ends
+    [
+        BeginWrite(PORT_A, 0xff, 0x00),
+        EndCycle,
+        BeginWrite(PORT_A, 0xff, 0x00),
+        EndCycle,
+        BeginRead(PORT_A),
+        EndCycle,
+    ],
     // A reset drops a write, and the latch stays.
-    0x0300ff00, // a write begins
-    0x00000000, // a reset
-    0x02000000, // nothing is left to end
-    0x0302ff00, // a write of the direction begins
-    0x02000000, // and ends, and the pins show what the latch held
-    0x0500ff00, // any levels
+    [
+        BeginWrite(PORT_A, 0xff, 0x00),
+        Reset,
+        EndCycle, // nothing is left to end
+        BeginWrite(DIRECTION_A, 0xff, 0x00),
+        EndCycle, // the pins show what the latch held
+        OutsideLevels(PORT_A, 0xff, 0x00), // any levels
+    ],
 ];
 
 // How many of 256 events are drawn by themselves.
 const ALONE: u64 = 43;
 
-// The event at a place of an exchange, both of which count from 0.
-pub(super) fn draw(number: u64, exchange: u64, place: u64) -> u64 {
+// The event at a step of a history, which counts from 0, in the exchange of that number.
+pub(super) fn draw(number: u64, exchange: u8, step: u64) -> Event {
     if number >> 56 < ALONE {
         return draws::alone(number);
     }
-    let at = exchange % COUNT * 6 + place % 6;
-    let port = exchange / COUNT % 2 * 0x10000;
-    draws::planned(EVENTS[at as usize] | port, number)
+    let port = (exchange as usize / EXCHANGES.len() % 2) as u8;
+    let planned = draws::at(&EXCHANGES[exchange as usize % EXCHANGES.len()], step);
+    let event = draws::planned(planned, number);
+    Event {
+        first: event.first | port,
+        ..event
+    }
 }

@@ -1,11 +1,13 @@
 // A history of the 8355: a start state, which both models are put into, and the events that follow.
 use super::super::course::Models;
+use super::super::events::Event;
 use super::super::proved::Stepped;
-use super::super::{course, proved, random};
+use super::super::{course, draws as chip_draws};
 use super::apart::{Answer, Machine};
 use super::counts::Counts;
 use super::{apart, counts, draws, views};
 use i8355::Chip8355;
+use std::mem;
 
 // Both models with their last answers.
 #[derive(Drop)]
@@ -17,33 +19,30 @@ struct Pair {
 impl Models for Pair {
     type Counts = Counts;
 
-    fn before_start(&self) -> u64 {
-        0xffffff
+    type Event = Event;
+
+    type Exchange = u8;
+
+    fn new_exchange(&self, number: u64, _step: u64) -> u8 {
+        chip_draws::new_exchange(number)
     }
 
-    fn exchange(&self, number: u64, before: u64, step: u64) -> u64 {
-        draws::exchange(number, before, step)
-    }
-
-    fn draw(&self, number: u64, exchange: u64, step: u64) -> u64 {
+    fn draw(&self, number: u64, exchange: u8, step: u64) -> Event {
         draws::draw(number, exchange, step)
     }
 
-    fn happen(&mut self, counts: &mut Counts, event: u64) {
-        let kind = random::byte(event >> 16);
-        let first = random::byte(event >> 8);
-        let second = random::byte(event);
-        let before = self.proved.device;
-        self.proved = proved::step(before, kind, first, second);
-        self.apart = apart::event(self.apart.machine, kind, first, second);
-        counts::count(counts, kind, &before, &self.proved);
+    fn happen(&mut self, counts: &mut Counts, event: Event) {
+        let after = self.proved.step(event);
+        let before = mem::replace(&mut self.proved, after);
+        self.apart = apart::event(self.apart.machine, event.kind, event.first, event.second);
+        counts::count(counts, event.kind, &before.device, &after);
     }
 
     // The number decides which port that there is not is compared too.
-    fn compare(&self, counts: &mut Counts, number: u64, event: u64, step: u64) {
+    fn compare(&self, counts: &mut Counts, number: u64, event: Event, step: u64) {
         let above = views::above(number);
         counts.hold(
-            event,
+            event.into(),
             step,
             views::of_proved(&self.proved, above),
             views::of_apart(&self.apart, above),
@@ -52,6 +51,7 @@ impl Models for Pair {
 }
 
 // A history of that length, which leaves the last number that it drew. Before the first event there is no answer, so both have the same one.
+// This is said for each device, since the answers of the two second models are types that share nothing.
 pub(super) fn run(
     counts: &mut Counts,
     chip: Chip8355,
@@ -60,12 +60,13 @@ pub(super) fn run(
     length: u64,
 ) -> u64 {
     let mut pair = Pair {
-        proved: proved::at_start(chip),
+        proved: Stepped::at_start(chip),
         apart: Answer {
             machine,
             number: 0,
             byte: 0,
         },
     };
-    course::run(&mut pair, counts, seed, 0, length)
+    counts.history();
+    course::run(&mut pair, counts, seed, 0..length)
 }

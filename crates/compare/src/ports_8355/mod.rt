@@ -13,21 +13,18 @@ use counts::Counts;
 use i8355::Chip8355;
 
 fn powered(counts: &mut Counts, seed: u64) -> u64 {
-    counts.add(0, 1);
     history::run(counts, Chip8355::new(), apart::power_up(), seed, 100)
 }
 
 fn anywhere(counts: &mut Counts, seed: u64) -> u64 {
-    counts.add(0, 1);
     let chip = states::arbitrary(seed);
-    let far = random::far(seed);
-    history::run(counts, chip, states::twin(&chip), far, 20)
+    history::run(counts, chip, states::twin(&chip), random::far(seed), 20)
 }
 
 pub(super) fn from_power_up() -> Counts {
-    of_histories(Counts::new(), 0x8355835583558355, 2000, powered)
+    of_histories(0x8355835583558355, 2000, powered)
 }
 
 pub(super) fn from_arbitrary_states() -> Counts {
-    of_histories(Counts::new(), 0x5583558355835583, 10000, anywhere)
+    of_histories(0x5583558355835583, 10000, anywhere)
 }

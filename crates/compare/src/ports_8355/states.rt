@@ -17,7 +17,7 @@ pub(super) fn arbitrary(seed: u64) -> Chip8355 {
     let number = next(seed);
     let ports = next(number);
     Chip8355 {
-        phase: states::phase(number),
+        phase: states::phase(number, number >> 2, i8355::DIRECTION_B),
         ports: Ports {
             a: port(ports),
             b: port(ports >> 24),

@@ -1,6 +1,7 @@
 // The second model of the rack, written apart from the proved one, to be held against it. Every card is a chip of the second model of the
 // 8255A, with a bus of its own; the rack only says for which card an event is, and keeps in mind which one has the bus. It uses nothing
-// but that model and the table of who answers where. Each function answers for every value of the rack, reached or not.
+// but that model and the table of who answers where. Each function answers for every value of the rack, reached or not. Numbers stand where
+// the proved crates have enums and structs, since a form that both had could hide a fault of both.
 use super::super::apart;
 use super::super::apart::{Explanation, Machine};
 use super::who;
@@ -24,15 +25,15 @@ pub(super) struct Answer {
 pub(super) const NOWHERE: u8 = 8;
 
 // The kinds of events.
-pub(super) const RESET: u8 = 0;
+const RESET: u8 = 0;
 
-pub(super) const BEGIN_READ: u8 = 1;
+const BEGIN_READ: u8 = 1;
 
-pub(super) const END: u8 = 2;
+const END: u8 = 2;
 
-pub(super) const BEGIN_WRITE: u8 = 3;
+const BEGIN_WRITE: u8 = 3;
 
-pub(super) const LEVELS: u8 = 5;
+const LEVELS: u8 = 5;
 
 // The numbers that the rack gives by itself; all others are those of a card.
 const NO_KIND: u8 = 1;
@@ -43,7 +44,7 @@ const NOTHING_TO_END: u8 = 5;
 
 pub(super) const BAD_RACK: u8 = 9;
 
-pub(super) const NO_CARD: u8 = 10;
+const NO_CARD: u8 = 10;
 
 // A rack of so many cards, on which nothing has happened yet.
 pub(super) fn power_up(cards: u8) -> Shelf {

@@ -1,7 +1,8 @@
 // Lists of bases: good ones, and any, of which some make no rack.
 use super::super::random;
 
-// How many bases a list has, and room for two more than a rack takes.
+// How many bases a list has, and room for two more than a rack takes. An array with a count, since a state that no building leads to may
+// have any count, also one that is above the room.
 #[derive(Clone, Copy)]
 pub(super) struct Bases {
     pub(super) count: u8,
@@ -20,7 +21,7 @@ const SLOTS: u64 = 256;
 
 const TOO_HIGH: u64 = 0x800;
 
-// From a card to the next it is one slot, or as many as this, an odd number too, so that no two of ten cards stand in one slot.
+// From a card to the next it is one slot, or this many: an odd number, so that no two of ten cards share a slot.
 const STRIDE: u64 = 37;
 
 // How many slots a card stands behind the first.
@@ -36,14 +37,15 @@ fn good(seed: u64, at: u64) -> u16 {
     (((seed >> 16) % SLOTS + behind(seed, at) % SLOTS) % SLOTS * WIDTH) as u16
 }
 
-// What decides about it besides: of one seed another number for each, with bits that differ far up.
+// A large number, so that its multiples for two places differ in high bits too.
 const SPREAD: u64 = 0x123456789;
 
+// A number of its own for each place of a list with that seed.
 fn drawn(seed: u64, at: u64) -> u64 {
     random::next(random::far(seed) ^ (at % ROOM * SPREAD))
 }
 
-// The same, or in one of nine something else, which may be no base: a card that begins within a slot; one that is too high; anything; the
+// The good base there, or in one of nine something else, which may be no base: a card that begins within a slot; one that is too high; anything; the
 // base of another card.
 fn any(seed: u64, at: u64) -> u16 {
     let number = drawn(seed, at);
@@ -55,14 +57,14 @@ fn any(seed: u64, at: u64) -> u16 {
         3 => good(seed, number >> 8) as u64,
         _ => base,
     };
-    (chosen % 65536) as u16
+    random::word(chosen)
 }
 
-// Of a state that no building leads to: in one of two so near to the first that both answer at some addresses; or anything.
+// A base in a state that no building leads to: in one of two so near to the first that both cards answer at some addresses; else anything.
 fn wild(seed: u64, at: u64) -> u16 {
     let number = drawn(seed, at);
     if number % 2 == 0 {
-        return ((good(seed, 0) as u64 + (number >> 8) % 24) % 65536) as u16;
+        return random::word(good(seed, 0) as u64 + (number >> 8) % 24);
     }
     (number >> 48) as u16
 }

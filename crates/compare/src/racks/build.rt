@@ -1,5 +1,5 @@
 // How the second model builds a rack: it enters the cards in the table of who answers where, and then looks whether each stands where it
-// may.
+// may. Numbers stand for what the proved crates have types for, as apart.rt says.
 use super::apart::Answer;
 use super::bases::Bases;
 use super::who::Who;

@@ -11,8 +11,11 @@ use super::super::twins;
 use super::super::twins::{PER_CHANNEL, Tallies};
 use super::agree::Compared;
 use super::apart::NOWHERE;
-use super::{apart, who};
+use super::who;
+use bus::kinds::Kind;
+use bus::refusals::{Numbered, Refusal};
 use rack::Rack;
+use rack::refusals::{BadRack, RackRefusal};
 
 pub(super) type Counts = Row<Compared, 83>;
 
@@ -46,16 +49,16 @@ const RESET_WITHIN: usize = 81;
 fn place_of_number(number: u8) -> Option<usize> {
     match number {
         0..=5 => Some(NUMBERS + number as usize),
-        apart::NO_CARD => Some(NUMBERS + 6),
+        _ if number == RackRefusal::NoCard.number() => Some(NUMBERS + 6),
         _ => None,
     }
 }
 
 pub(super) fn build(counts: &mut Counts, number: u8) {
-    match number {
-        0 => counts.add(BUILT, 1),
-        apart::BAD_RACK => counts.add(REFUSED, 1),
-        _ => {}
+    if number == 0 {
+        counts.add(BUILT, 1);
+    } else if number == BadRack.number() {
+        counts.add(REFUSED, 1);
     }
 }
 
@@ -68,32 +71,33 @@ pub(super) struct Aim {
 }
 
 fn begun(aim: &Aim, number: u8) -> Option<usize> {
+    let is_kept_out = number == Refusal::CycleRuns.number();
     match number {
         0 if who::is_second_copy(aim.entry) => Some(SECOND_COPY),
         0 => Some(FIRST_COPY),
-        4 if who::place(aim.entry) == aim.taken => Some(KEPT_OUT_BY_SAME),
-        4 => Some(KEPT_OUT_BY_OTHER),
+        _ if is_kept_out && who::place(aim.entry) == aim.taken => Some(KEPT_OUT_BY_SAME),
+        _ if is_kept_out => Some(KEPT_OUT_BY_OTHER),
         _ => None,
     }
 }
 
 // What an event did within a cycle.
-fn within(aim: &Aim, kind: u8) -> Option<usize> {
+fn within(aim: &Aim, kind: Kind) -> Option<usize> {
     match kind {
-        apart::RESET => Some(RESET_WITHIN),
-        apart::END if aim.taken == 0 => Some(END_ON_FIRST),
-        apart::END => Some(END_ON_OTHER),
-        apart::LEVELS if aim.place == aim.taken as u16 => Some(LEVELS_WITHIN_SAME),
-        apart::LEVELS => Some(LEVELS_WITHIN_OTHER),
-        _ => None,
+        Kind::Reset => Some(RESET_WITHIN),
+        Kind::EndCycle if aim.taken == 0 => Some(END_ON_FIRST),
+        Kind::EndCycle => Some(END_ON_OTHER),
+        Kind::OutsideLevels if aim.place == aim.taken as u16 => Some(LEVELS_WITHIN_SAME),
+        Kind::OutsideLevels => Some(LEVELS_WITHIN_OTHER),
+        Kind::BeginRead | Kind::BeginWrite => None,
     }
 }
 
 // The place of what an event did besides. A begun cycle is counted always, and one that is kept out; all else only where a cycle ran.
 fn deed(aim: &Aim, kind: u8, number: u8) -> Option<usize> {
-    match kind {
-        apart::BEGIN_READ | apart::BEGIN_WRITE => begun(aim, number),
-        _ if aim.taken != NOWHERE && number == 0 => within(aim, kind),
+    match Kind::numbered(u16::from(kind))? {
+        Kind::BeginRead | Kind::BeginWrite => begun(aim, number),
+        kind if aim.taken != NOWHERE && number == 0 => within(aim, kind),
         _ => None,
     }
 }
@@ -112,21 +116,13 @@ fn tallies(rack: &Rack, place: u8) -> Tallies {
     twins::tallies(&rack.card(place).unwrap_or_default())
 }
 
-// How far the event moved each tally of the card at a place, which may have passed its end.
-fn fates_at(counts: &mut Counts, place: u8, before: &Tallies, after: &Tallies) {
-    let first = FATES + place as usize * PER_CHANNEL;
-    for (at, (after, before)) in after.iter().zip(before).enumerate() {
-        counts.add(first + at % PER_CHANNEL, after.wrapping_sub(*before) as u64);
-    }
-}
-
+// How far the event moved the tallies of the card at each place, its four channels together.
 pub(super) fn fates(counts: &mut Counts, before: &Rack, after: &Rack) {
     for place in 0..8 {
-        fates_at(
-            counts,
-            place,
-            &tallies(before, place),
-            &tallies(after, place),
-        );
+        let moved = twins::moved(&tallies(before, place), &tallies(after, place));
+        let first = FATES + place as usize * PER_CHANNEL;
+        for channel in moved.chunks(PER_CHANNEL) {
+            counts.add_all(first, channel);
+        }
     }
 }

@@ -1,13 +1,17 @@
 // A history of a rack: a start, which both models are put into, and the events that follow.
+use super::super::course;
 use super::super::course::Models;
-use super::super::proved::{Stepped, answered};
-use super::super::{course, random};
+use super::super::proved::Stepped;
 use super::apart::Answer;
 use super::bases::Bases;
 use super::counts::{Aim, Counts};
+use super::draws::Exchange;
+use super::events::Event;
 use super::who::Who;
 use super::{agree, apart, counts, draws, views};
 use rack::Rack;
+use std::mem;
+use std::ops::Range;
 
 // Both models with their last answers.
 #[derive(Clone, Copy)]
@@ -16,72 +20,69 @@ pub(super) struct Pair {
     pub(super) apart: Answer,
 }
 
-// Both models with the bases of their cards, by which events are drawn, and who answers at each address.
+// Both models; the bases of their cards, by which events are drawn; and who answers at each address.
 #[derive(Drop)]
-struct Racks<'a> {
-    who: &'a Who,
-    bases: Bases,
-    pair: Pair,
+pub(super) struct Racks {
+    pub(super) pair: Pair,
+    pub(super) bases: Bases,
+    pub(super) who: Who,
 }
 
-// Counts what the event did.
-fn count(counts: &mut Counts, who: &Who, event: u64, before: &Pair, after: &Pair) {
-    let place = ((event >> 16) % 65536) as u16;
-    let aim = Aim {
-        entry: who[place as usize],
-        place,
-        taken: before.apart.shelf.taken,
-    };
-    counts::event(counts, &aim, random::byte(event >> 32), after.proved.number);
-    counts::fates(counts, &before.proved.device, &after.proved.device);
+impl Racks {
+    // Counts what an event did.
+    fn count(&self, counts: &mut Counts, event: Event, before: &Pair) {
+        let aim = Aim {
+            entry: self.who[event.first as usize],
+            place: event.first,
+            taken: before.apart.shelf.taken,
+        };
+        counts::event(counts, &aim, event.kind, self.pair.proved.number);
+        counts::fates(counts, &before.proved.device, &self.pair.proved.device);
+    }
 }
 
-impl Models for Racks<'_> {
+impl Models for Racks {
     type Counts = Counts;
 
-    fn before_start(&self) -> u64 {
-        0xffffffffff
+    type Event = Event;
+
+    type Exchange = Exchange;
+
+    fn new_exchange(&self, number: u64, step: u64) -> Exchange {
+        draws::new_exchange(number, step)
     }
 
-    fn exchange(&self, number: u64, before: u64, step: u64) -> u64 {
-        draws::exchange(number, before, step)
+    fn draw(&self, number: u64, exchange: Exchange, step: u64) -> Event {
+        draws::draw(number, exchange, step, &self.bases)
     }
 
-    fn draw(&self, number: u64, exchange: u64, step: u64) -> u64 {
-        draws::draw(number, exchange, step, self.bases)
-    }
-
-    fn happen(&mut self, counts: &mut Counts, event: u64) {
-        let kind = random::byte(event >> 32);
-        let first = ((event >> 16) % 65536) as u16;
-        let second = random::byte(event >> 8);
-        let third = random::byte(event);
-        let before = self.pair;
-        let mut rack = before.proved.device;
+    fn happen(&mut self, counts: &mut Counts, event: Event) {
+        let Event {
+            kind,
+            first,
+            second,
+            third,
+        } = event;
+        let mut rack = self.pair.proved.device;
         let answer = rack.step_numbers(kind, first, second, third);
-        self.pair = Pair {
-            proved: answered(rack, answer.map_err(|refusal| refusal.number())),
-            apart: apart::event(before.apart.shelf, self.who, kind, first, second, third),
+        let shelf = self.pair.apart.shelf;
+        let after = Pair {
+            proved: Stepped::answered(rack, answer),
+            apart: apart::event(shelf, &self.who, kind, first, second, third),
         };
-        count(counts, self.who, event, &before, &self.pair);
+        let before = mem::replace(&mut self.pair, after);
+        self.count(counts, event, &before);
     }
 
     // The number decides what is asked of a rack besides.
-    fn compare(&self, counts: &mut Counts, number: u64, event: u64, step: u64) {
-        agree::hold(counts, event, step, &self.pair, &views::drawn(number));
+    fn compare(&self, counts: &mut Counts, number: u64, event: Event, step: u64) {
+        let question = views::drawn(number);
+        agree::hold(counts, event.into(), step, &self.pair, &question);
     }
 }
 
-// A history from one step to another, which leaves the last number that it drew.
-pub(super) fn run(
-    counts: &mut Counts,
-    who: &Who,
-    bases: Bases,
-    pair: Pair,
-    seed: u64,
-    first: u64,
-    end: u64,
-) -> u64 {
-    let mut racks = Racks { who, bases, pair };
-    course::run(&mut racks, counts, seed, first, end)
+// A history of those steps, which leaves the last number that it drew.
+pub(super) fn run(counts: &mut Counts, mut racks: Racks, seed: u64, steps: Range<u64>) -> u64 {
+    counts.history();
+    course::run(&mut racks, counts, seed, steps)
 }

@@ -1,7 +1,7 @@
 // Arbitrary states of the rack: every field is drawn by itself, also a cycle at a place without a card or at a register that there is
 // not, to which no history leads. And a state of the proved model in the form of the second one.
 use super::super::apart::Machine;
-use super::super::random::{byte, far, next};
+use super::super::random::{far, next};
 use super::super::twins::Bus;
 use super::super::{states, twins};
 use super::apart::{NOWHERE, Shelf};
@@ -31,37 +31,24 @@ fn cores(seed: u64) -> [Core; 8] {
     ]
 }
 
-// No cycle, or one with any number: in one of two with that of a register that there is.
-fn phase(number: u64) -> Phase {
-    let any = byte(number >> 8);
-    let there = if number % 2 == 0 { any % 32 } else { any };
-    match (number >> 1) % 3 {
-        0 => Phase::Idle,
-        1 => Phase::Reading(there),
-        _ => Phase::Writing(there, byte(number >> 16)),
-    }
-}
+// The last number of a register in a rack of eight cards, which have four each.
+const LAST_REGISTER: u8 = 31;
 
 // A rack with the bases of the list, and as many cards as it says.
 pub(super) fn arbitrary(bases: Bases, seed: u64) -> Rack {
     let number = next(seed);
     Rack {
-        phase: phase(number),
+        phase: states::phase(number, number >> 1, LAST_REGISTER),
         count: bases.count,
         bases: bases::in_places(bases),
         cores: cores(far(number)),
     }
 }
 
-// What runs on the bus of a rack. Its place is the number there.
-pub(super) fn running(rack: &Rack) -> Bus {
-    twins::running(rack.phase)
-}
-
-// A chip of the second model at a place of the rack. Only on the card whose number it has does the cycle run.
+// The chip of the second model for the card at a place. The cycle runs on it only if the number on the bus is one of that card.
 fn twin_at(rack: &Rack, place: u8) -> Machine {
     let core = rack.cores[(place % 8) as usize];
-    let bus = running(rack);
+    let bus = twins::running(rack.phase);
     let mut machine = twins::machine(&Chip {
         phase: Phase::Idle,
         edition: Edition::Older,
@@ -86,7 +73,7 @@ fn taken(bus: &Bus) -> u8 {
 pub(super) fn twin(rack: &Rack) -> Shelf {
     Shelf {
         cards: rack.count.min(8),
-        taken: taken(&running(rack)),
+        taken: taken(&twins::running(rack.phase)),
         chips: std::array::from_fn(|place| twin_at(rack, place as u8)),
     }
 }

@@ -1,20 +1,53 @@
 // What a model of the rack answers and shows after an event, in one form for both models: the answer, with one place that is asked by
 // itself, and each place as a chip.
-use super::super::numbers::Numbers;
-use super::super::proved::{NO_GROUP, Stepped, said};
+use super::super::apart::Explanation;
+use super::super::proved::{Stepped, explanation};
 use super::super::random::byte;
+use super::super::twins::{Counted, PER_CHANNEL};
 use super::super::{twins, views};
+use super::apart;
 use super::apart::{Answer, NOWHERE, Shelf};
-use super::{apart, states};
+use bus::refusals::Numbered;
+use bus::{Phase, Pins};
 use channel::{Side, Tally};
 use control::Group;
 use rack::Rack;
 use rack::refusals::RackRefusal;
+use std::fmt;
 
-// 0 the number, 1 the byte, 2 whether a cycle runs; and of the place that is asked: 3 to 5 the number, the levels and the driven pins of
-// a port; 6 to 20 the number and the tallies of a channel, two bytes each; 21 to 24 the number and what is said of an INTR, by three
-// numbers.
-pub(super) type View = Numbers<25>;
+// What a place answers, behind a number, as the second model has it: 10 where there is no card.
+#[derive(Clone, Copy, PartialEq, Eq)]
+struct AtPlace<T> {
+    number: u8,
+    told: T,
+}
+
+// The answer, and whether a cycle runs; and of the place that is asked the pins of a port, the tallies of a channel, and what is said of an INTR.
+#[derive(Clone, Copy, PartialEq, Eq)]
+pub(crate) struct View {
+    number: u8,
+    byte: u8,
+    runs: bool,
+    pins: AtPlace<Pins>,
+    tally: AtPlace<Counted>,
+    said: AtPlace<Explanation>,
+}
+
+impl fmt::Display for View {
+    fn fmt<W: fmt::Write>(&self, f: &mut fmt::Formatter<W>) -> fmt::Result {
+        let pins = self.pins.told;
+        let said = self.said.told;
+        write!(f, " {} {} {}", self.number, self.byte, self.runs as u8)?;
+        write!(f, " {} {} {}", self.pins.number, pins.levels, pins.driven)?;
+        write!(f, " {}", self.tally.number)?;
+        for count in &self.tally.told {
+            let [low, high] = count.to_le_bytes();
+            write!(f, " {low} {high}")?;
+        }
+        write!(f, " {}", self.said.number)?;
+        write!(f, " {} {} {}", said.number, said.input, said.output)
+    }
+}
 
 // What is asked by itself: a place, and there a port, a group and a channel.
 #[derive(Clone, Copy)]
@@ -43,6 +76,7 @@ pub(super) fn drawn(number: u64) -> Question {
     }
 }
 
+// The tallies of a channel, by the number that the second model has for it: chip has none.
 fn tally(rack: &Rack, place: u8, channel: u8) -> Option<Tally> {
     match channel {
         0 => rack.tally(place, Group::A, Side::Input),
@@ -60,95 +94,54 @@ fn number<T>(asked: &Option<T>) -> u8 {
     }
 }
 
-// What is said of the INTR of a group of the card at a place, by the group's number. Of a group that there is not, as of no card, nothing is.
-fn explained(rack: &Rack, place: u8, group: u8) -> [u8; 3] {
-    match rack.explain_numbered(place, group) {
-        Some(explained) => said(explained),
-        None => NO_GROUP,
-    }
-}
-
-fn low(count: u16) -> u8 {
-    (count % 256) as u8
-}
-
-fn high(count: u16) -> u8 {
-    (count / 256) as u8
-}
-
 pub(super) fn of_proved(last: &Stepped<Rack>, question: &Question) -> View {
     let rack = &last.device;
-    let bus = states::running(rack);
-    let pins = rack.pins(question.place, question.port);
-    let shown = pins.unwrap_or_default();
-    let tally = tally(rack, question.place, question.channel);
-    let counted = tally.unwrap_or_default();
-    let card = rack.card(question.place);
-    let said = explained(rack, question.place, question.group);
-    let row = [
-        last.number,
-        last.byte,
-        (bus.phase != twins::IDLE) as u8,
-        number(&pins),
-        shown.levels,
-        shown.driven,
-        number(&tally),
-        low(counted.offered),
-        high(counted.offered),
-        low(counted.handed),
-        high(counted.handed),
-        low(counted.overwritten),
-        high(counted.overwritten),
-        low(counted.swallowed),
-        high(counted.swallowed),
-        low(counted.cleared),
-        high(counted.cleared),
-        low(counted.planted),
-        high(counted.planted),
-        low(counted.struck),
-        high(counted.struck),
-        number(&card),
-        said[0],
-        said[1],
-        said[2],
-    ];
-    Numbers { row }
+    let place = question.place;
+    let pins = rack.pins(place, question.port);
+    let tally = tally(rack, place, question.channel);
+    View {
+        number: last.number,
+        byte: last.byte,
+        runs: rack.phase != Phase::Idle,
+        pins: AtPlace {
+            number: number(&pins),
+            told: pins.unwrap_or_default(),
+        },
+        tally: AtPlace {
+            number: number(&tally),
+            told: twins::counted(&tally.unwrap_or_default()),
+        },
+        // Of a group that there is not, as of no card, nothing is said.
+        said: AtPlace {
+            number: number(&rack.card(place)),
+            told: explanation(rack.explain_numbered(place, question.group)),
+        },
+    }
 }
 
 pub(super) fn of_apart(last: &Answer, question: &Question) -> View {
     let shelf = last.shelf;
     let card = apart::card(shelf, question.place);
-    let said = apart::explain(shelf, question.place, question.group);
+    let number = card.number;
+    let first = (question.channel % 4) as usize * PER_CHANNEL;
     let tally = card.machine.tally;
-    let first = (question.channel % 4) as usize * twins::PER_CHANNEL;
-    let row = [
-        last.number,
-        last.byte,
-        (shelf.taken != NOWHERE) as u8,
-        card.number,
-        super::super::apart::levels(card.machine, question.port),
-        super::super::apart::driven(card.machine, question.port),
-        card.number,
-        low(tally[first]),
-        high(tally[first]),
-        low(tally[first + 1]),
-        high(tally[first + 1]),
-        low(tally[first + 2]),
-        high(tally[first + 2]),
-        low(tally[first + 3]),
-        high(tally[first + 3]),
-        low(tally[first + 4]),
-        high(tally[first + 4]),
-        low(tally[first + 5]),
-        high(tally[first + 5]),
-        low(tally[first + 6]),
-        high(tally[first + 6]),
-        card.number,
-        said.number,
-        said.input,
-        said.output,
-    ];
-    Numbers { row }
+    View {
+        number: last.number,
+        byte: last.byte,
+        runs: shelf.taken != NOWHERE,
+        pins: AtPlace {
+            number,
+            told: views::pins_of_apart(card.machine, question.port),
+        },
+        tally: AtPlace {
+            number,
+            told: std::array::from_fn(|at| tally[first + at]),
+        },
+        said: AtPlace {
+            number,
+            told: apart::explain(shelf, question.place, question.group),
+        },
+    }
 }
 
 // The card at a place: in its view as a chip the number is that of the place, and the byte the place itself.

@@ -1,4 +1,5 @@
-// Who answers at each of the 65,536 addresses: a table over all of them, in which each card is entered at its eight locations.
+// Who answers at each of the 65,536 addresses: a table over all of them, in which each card is entered at its eight locations. It is of
+// numbers, as all of the second model: apart.rt says why.
 
 // By address: eight times the place of the card that answers there and the location within it; or nobody.
 pub(super) type Who = [u8; 65536];

@@ -4,38 +4,42 @@ use Rattle.std.proofs.Common.{◌≡◌, ◌∙◌, rules, ◌∷◌, Ok, arith}
 use Rattle.text.specs.Lines.{lines_of}
 use Rattle.text.specs.Answers.{line_of, lines_left}
 use Rattle.rackscript.specs.Bases.{rack_of_line}
+use Rattle.rackscript.specs.Run.{output_left}
 use Rattle.rackscript.proofs.Opened.{told-as, same-output, not-run, has-run, fits}
 use Rattle.rackscript.proofs.run.Goals as goal
+use Rattle.rackscript.proofs.run.Goals.{In_ok-rack, After-run}
+
+-- The text is its first line and those that are left, and the first line is a rack.
+begins : (c : goal.In_ok-rack)
+    → (lines_of c.args.text.now ≡ line_of c.in_ok-first.first ∷ lines_left c.next.new.self) × (rack_of_line (line_of c.in_ok-first.first) ≡ Ok c.in_ok-rack.field-0)
+begins c = ((search rules), (search rules))
+
+-- Refused or not, the output is left as the run of the further lines leaves it.
+left-so : (c : goal.After-run) → c.run.new.out ≡ output_left c.args.text.now c.args.out.now
+left-so c =
+    let found = begins (goal.at.After-run c).In_ok-rack in
+    c.run.ensures.output ∙ same-output c.args.text.now _ c.args.out.now _ c.in_ok-rack.field-0 (omega arith) found.0 found.1
 
 pub returns-in_err-lines-clause-told : goal.returns-in_err-lines-clause-told
 returns-in_err-lines-clause-told c =
-    let is : lines_of c.args.text.now ≡ line_of c.in_ok-first.first ∷ lines_left c.next.new.self = search rules in
-    let made : rack_of_line (line_of c.in_ok-first.first) ≡ Ok c.in_ok-rack.field-0 = search rules in
+    let found = begins (goal.at.returns-in_err-lines-clause-told c).In_ok-rack in
     told-as c.from_residual-in_err-lines.result _ c.from_residual-in_err-lines.ensures.1
-    ∙ not-run c.args.text.now _ c.args.out.now _ c.in_ok-rack.field-0 (omega arith) is made _ c.in_err-lines.ensures.told
+    ∙ not-run c.args.text.now _ c.args.out.now _ c.in_ok-rack.field-0 (omega arith) found.0 found.1 _ c.in_err-lines.ensures.told
 
 pub returns-in_err-lines-clause-output : goal.returns-in_err-lines-clause-output
-returns-in_err-lines-clause-output c =
-    let is : lines_of c.args.text.now ≡ line_of c.in_ok-first.first ∷ lines_left c.next.new.self = search rules in
-    let made : rack_of_line (line_of c.in_ok-first.first) ≡ Ok c.in_ok-rack.field-0 = search rules in
-    c.run.ensures.output ∙ same-output c.args.text.now _ c.args.out.now _ c.in_ok-rack.field-0 (omega arith) is made
+returns-in_err-lines-clause-output c = left-so (goal.at.returns-in_err-lines-clause-output c).After-run
 
 pub overflow_mul-result : goal.overflow_mul-result
 overflow_mul-result c =
-    let is : lines_of c.args.text.now ≡ line_of c.in_ok-first.first ∷ lines_left c.next.new.self = search rules in
-    let made : rack_of_line (line_of c.in_ok-first.first) ≡ Ok c.in_ok-rack.field-0 = search rules in
-    let room = fits c.args.text.now _ c.args.out.now _ c.in_ok-rack.field-0 (omega arith) is made _ c.in_ok-lines.ensures.told in
+    let found = begins (goal.at.overflow_mul-result c).In_ok-rack in
+    let room = fits c.args.text.now _ c.args.out.now _ c.in_ok-rack.field-0 (omega arith) found.0 found.1 _ c.in_ok-lines.ensures.told in
     rw (c.line_width-width.ensures, c.cards.ensures) (omega (arith, room))
 
 pub returns-clause-told : goal.returns-clause-told
 returns-clause-told c =
-    let is : lines_of c.args.text.now ≡ line_of c.in_ok-first.first ∷ lines_left c.next.new.self = search rules in
-    let made : rack_of_line (line_of c.in_ok-first.first) ≡ Ok c.in_ok-rack.field-0 = search rules in
+    let found = begins (goal.at.returns-clause-told c).In_ok-rack in
     rw (c.line_width-width.ensures, c.cards.ensures)
-    (has-run c.args.text.now _ c.args.out.now _ c.in_ok-rack.field-0 (omega arith) is made _ c.in_ok-lines.ensures.told)
+    (has-run c.args.text.now _ c.args.out.now _ c.in_ok-rack.field-0 (omega arith) found.0 found.1 _ c.in_ok-lines.ensures.told)
 
 pub returns-clause-output : goal.returns-clause-output
-returns-clause-output c =
-    let is : lines_of c.args.text.now ≡ line_of c.in_ok-first.first ∷ lines_left c.next.new.self = search rules in
-    let made : rack_of_line (line_of c.in_ok-first.first) ≡ Ok c.in_ok-rack.field-0 = search rules in
-    c.run.ensures.output ∙ same-output c.args.text.now _ c.args.out.now _ c.in_ok-rack.field-0 (omega arith) is made
+returns-clause-output c = left-so (goal.at.returns-clause-output c).After-run

@@ -12,7 +12,7 @@ pub loop-line-preserved : goal.loop-line-preserved
 loop-line-preserved g c =
     rw (c.line_width-width.ensures, c.cards.ensures, c.take-answer.ensures.state)
     (goes-on g.S.Scripted.answerer _ _ _ c.loop-line.out _ _ _ c.loop-line.at (rw c.in-Some.ensures.steps at c.loop-line.invariant) _
-    (rw (c.take-answer.ensures.answer, c.take-answer.ensures.state) at c.write.ensures))
+    (rw (c.take-answer.ensures.number, c.take-answer.ensures.byte, c.take-answer.ensures.state) at c.write.ensures))
 
 pub returns-clause-output : goal.returns-clause-output
 returns-clause-output g c = arrives g.S.Scripted.answerer _ _ _ _ _ _ (rw c.in-None.ensures.steps.0 at c.loop-line.invariant)

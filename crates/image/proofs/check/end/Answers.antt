@@ -14,4 +14,4 @@ returns c =
       c.wide-2.ensures,
       c.wide.ensures,
     )
-    (end-fits c.args.image.now (c.type_inv.image places.bus).fits)
+    (end-fits c.args.image.now (c.fits-image places.bus))

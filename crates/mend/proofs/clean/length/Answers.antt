@@ -1,31 +1,38 @@
--- `clean::length` meets its contract: what was counted, and what the clean script has of the lines that are left, is its length.
+-- `clean::length` meets its contract: what the clean script has of each line adds up to its length, which is small.
 -- Rests on Cleaning, and on the contracts of what it calls.
-use Rattle.std.proofs.Common.{◌≡◌, ◌∙◌, ap, Bor, List, ℕ, length, length-append, zero-add, arith}
-use mathlib.Core.List.{flat_map}
-use Rattle.text.specs.Lines.{Line}
+use Rattle.std.proofs.Common.{◌∙◌, ◌<◌, ◌^◌, rules, ap, ℕ, List, Bor, arith}
+use Rattle.std.specs.Iterator.{YieldsFirstBy}
+use Rattle.std.specs.Iterator.Adapters.{map_source}
+use Rattle.std.specs.List.{sum_by}
+use Rattle.std.proofs.lemmas.Iterator.{YieldsList, YieldsList-from_map}
+use Rattle.std.proofs.lemmas.Iterator.Consumers.{YieldsList-at, YieldsList-from_first, sum_by_from_yields_List, fits_by_from_yields_list}
+use Rattle.text.specs.Lines.{lines_of}
 use Rattle.text.specs.Answers.{line_of, lines_left}
-use Rattle.mend.specs.Line.{bytes_of, clean_line}
 use Rattle.mend.specs.Mend.{clean_of}
-use Rattle.mend.proofs.Cleaning.{clean_in, bytes-lent, one-longer-at-most}
+use Rattle.mend.proofs.Cleaning.{clean_length, lengths-add-up, bytes-got, one-longer-at-most}
 use Rattle.mend.proofs.clean.length.Goals as goal
+use Rattle.mend.proofs.clean.length.Goals.{After-map}
 
-pub loop-line-init : goal.loop-line-init
+-- The lines that are walked are those of the text. Of their lengths a lemma could not tell: the closure that finds them has no name.
+lines : (c : goal.After-map) → YieldsList (YieldsFirstBy line_of lines_left) line_of (map_source c.map.result) (lines_of c.args.text.now)
+lines c =
+    let all = ap (λ (text : Bor (List ℕ)). lines_of text.now) c.new.ensures in
+    YieldsList-at c.map.ensures.source (YieldsList-from_first line_of lines_left (lines_of c.args.text.now) all)
+
+pub sum-requires-clause-fits : goal.sum-requires-clause-fits
 unfolding clean_of
-loop-line-init c = rw (c.into_iter-line-iterator.ensures.into_iter_gives, c.new-line-items.ensures) (zero-add _)
-
-pub loop-line-preserved : goal.loop-line-preserved
-unfolding flat_map
-loop-line-preserved c =
-    let line = line_of c.in-Some.line in
-    let left = lines_left c.next.new.self in
-    let counted = ap (λ (ls : List Line). length (flat_map clean_in ls)) c.in-Some.ensures.steps ∙ length-append (clean_in line) (flat_map clean_in left) in
-    let bytes : c.bytes.result.now ≡ bytes_of line = ap (λ (b : Bor (List ℕ)). b.now) c.bytes.ensures ∙ bytes-lent c.in-Some.line in
-    let added = c.length_of-length.ensures ∙ ap (λ (bytes : List ℕ). length (clean_line bytes)) bytes in
-    omega arith
-
-pub overflow_add-length : goal.overflow_add-length
-overflow_add-length c = omega (arith, loop-line-preserved c, one-longer-at-most c.args.text.now)
+sum-requires-clause-fits c =
+    let ls = lines_of c.args.text.now in
+    let fits : sum_by clean_length ls < 2 ^ 64 = rw (lengths-add-up ls) (omega (arith, one-longer-at-most c.args.text.now)) in
+    fits_by_from_yields_list clean_length ls c.map.result _
+    (YieldsList-from_map _ clean_length (lines (goal.at.sum-requires-clause-fits c).After-map) c.map.ensures.closure
+    (λ x r q k. search (rules, bytes-got))) fits
 
 pub returns : goal.returns
-unfolding flat_map
-returns c = omega (arith, ap (λ (ls : List Line). length (flat_map clean_in ls)) c.in-None.ensures.steps.0)
+unfolding clean_of
+returns c =
+    let ls = lines_of c.args.text.now in
+    sum_by_from_yields_List clean_length ls c.map.result _ c.sum.ensures.ran
+    (YieldsList-from_map _ clean_length (lines (goal.at.returns c).After-map) c.map.ensures.closure
+    (λ x r q k. search (rules, bytes-got)))
+    ∙ lengths-add-up ls

@@ -1,14 +1,8 @@
 -- `clean::put_line` meets its contract: of a fit line its bytes are put, raised, and LF.
 -- Rests on Cleaning and the contracts of what it calls.
-use Rattle.std.proofs.Common.{◌∙◌, ap, length, rules, arith}
-use Rattle.mend.proofs.Cleaning.{fit_length, line-put}
+use Rattle.std.proofs.Common.{◌∙◌, rules}
+use Rattle.mend.proofs.Cleaning.{line-put}
 use Rattle.mend.proofs.clean.put_line.Goals as goal
-
-pub put-requires : goal.put-requires
-put-requires c = omega (arith, ap length c.without_cr-bytes.ensures, fit_length c.args.line.now (search rules))
-
-pub returns-clause-value : goal.returns-clause-value
-returns-clause-value c = omega (arith, ap length c.without_cr-bytes.ensures, fit_length c.args.line.now (search rules))
 
 pub returns-clause-out_after : goal.returns-clause-out_after
 returns-clause-out_after c =

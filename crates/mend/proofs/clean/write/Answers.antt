@@ -1,25 +1,28 @@
 -- `clean::write` meets its contract: at each turn the lines are under way into the output, with one less.
 -- Rests on Filling and Cleaning, and on the contracts of what it calls.
-use Rattle.std.proofs.Common.{◌≡◌, ◌∙◌, ap, Bor, List, ℕ}
+use Rattle.std.proofs.Common.{◌≡◌, ap}
 use Rattle.text.specs.Answers.{line_of}
 use Rattle.mend.specs.Line.{clean_line}
 use Rattle.mend.specs.Mend.{clean_of}
 use Rattle.mend.proofs.Filling.{room-for-one, lent, arrives}
-use Rattle.mend.proofs.Cleaning.{clean_in, bytes-lent}
+use Rattle.mend.proofs.Cleaning.{clean_in, bytes-got}
 use Rattle.mend.proofs.clean.write.Goals as goal
+use Rattle.mend.proofs.clean.write.Goals.{After-bytes}
+
+-- What is put of the line that was taken.
+put : (c : goal.After-bytes) → clean_line c.bytes.result.now ≡ clean_in (line_of c.in-Some.line)
+put c = ap clean_line (bytes-got c.in-Some.line _ c.bytes.ensures)
 
 pub put_line-at-requires : goal.put_line-at-requires
 put_line-at-requires c =
-    let put : clean_line c.bytes.result.now ≡ clean_in (line_of c.in-Some.line) =
-    ap (λ (b : Bor (List ℕ)). clean_line b.now) c.bytes.ensures ∙ ap clean_line (bytes-lent c.in-Some.line) in
-    rw (put) (room-for-one clean_in _ _ c.loop-line.out _ _ c.loop-line.at (rw c.in-Some.ensures.steps at c.loop-line.invariant))
+    let now = put (goal.at.put_line-at-requires c).After-bytes in
+    rw (now) (room-for-one clean_in _ _ c.loop-line.out _ _ c.loop-line.at (rw c.in-Some.ensures.steps at c.loop-line.invariant))
 
 pub loop-line-preserved : goal.loop-line-preserved
 loop-line-preserved c =
-    let put : clean_line c.bytes.result.now ≡ clean_in (line_of c.in-Some.line) =
-    ap (λ (b : Bor (List ℕ)). clean_line b.now) c.bytes.ensures ∙ ap clean_line (bytes-lent c.in-Some.line) in
+    let now = put (goal.at.loop-line-preserved c).After-bytes in
     lent clean_in _ _ c.loop-line.out _ _ c.loop-line.at (rw c.in-Some.ensures.steps at c.loop-line.invariant) _ _
-    (rw (put) at c.put_line-at.ensures.value) (rw (put) at c.put_line-at.ensures.out_after)
+    (rw (now) at c.put_line-at.ensures.value) (rw (now) at c.put_line-at.ensures.out_after)
 
 pub returns : goal.returns
 unfolding clean_of

@@ -1,12 +1,9 @@
--- `line::is_fit` meets its contract: a line that is wider than every frame is none, and any other is read when it is mended.
+-- `line::is_fit` meets its contract: a line that is no wider than a frame is read when it is mended.
 -- Rests on Fit, and on the contracts of what it calls.
-use Rattle.std.proofs.Common.{◌∙◌, ap, sym, length, arith}
+use Rattle.std.proofs.Common.{◌∙◌, ap, sym}
 use Rattle.text.specs.Frames.{is_event, frame_in}
-use Rattle.mend.proofs.Fit.{told-event, too_wide, in-the-room}
+use Rattle.mend.proofs.Fit.{told-event, in-the-room}
 use Rattle.mend.proofs.line.is_fit.Goals as goal
-
-pub returns-then-bytes-gt-LONGEST_FRAME : goal.returns-then-bytes-gt-LONGEST_FRAME
-returns-then-bytes-gt-LONGEST_FRAME c = too_wide _ (omega (arith, ap length c.without_cr-bytes.ensures))
 
 pub returns : goal.returns
 unfolding frame_in

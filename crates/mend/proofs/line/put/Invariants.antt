@@ -1,13 +1,7 @@
--- The bytes are under way into the output, with one less at each turn.
--- Rests on Filling.
-use Rattle.std.proofs.Common.{List, [], ◌∷◌, ℕ, drop}
+-- The codes before the index are raised, and the others are as they were copied.
+use Rattle.std.proofs.Common.{◌≡◌, map, ◌++◌, take, drop}
 use Rattle.mend.specs.Line.{raised}
-use Rattle.mend.proofs.Filling.{UnderWay}
 use Rattle.mend.proofs.line.put.Given as goal
 
--- What a byte puts there.
-abbrev pub put : ℕ → List ℕ
-put b = raised b ∷ []
-
-abbrev pub invariant-loop-at : goal.invariant-loop-at
-invariant-loop-at l = UnderWay put l.bytes l.fn.out l.out (drop l.at l.bytes) l.at
+abbrev pub invariant-loop-code : goal.invariant-loop-code
+invariant-loop-code l = l.line ≡ map raised (take l.code-index l.bytes) ++ drop l.code-index l.bytes

@@ -1,11 +1,11 @@
 -- `report::write` meets its contract: at each turn the signs are under way into the output, with one less.
 -- Rests on Filling, and on the contracts of what it calls.
-use Rattle.std.proofs.Common.{refl, arith}
+use Rattle.std.proofs.Common.{refl}
 use lib.ListN.{length-map}
 use Rattle.text.specs.Lines.{lines_of}
 use Rattle.mend.specs.Line.{sign_of}
 use Rattle.mend.specs.Mend.{report_of}
-use Rattle.mend.proofs.Filling.{starts, fits, stored, arrives, one-each}
+use Rattle.mend.proofs.Filling.{starts, stored, arrives, one-each}
 use Rattle.mend.proofs.report.write.Invariants.{put}
 use Rattle.mend.proofs.report.write.Goals as goal
 
@@ -14,11 +14,6 @@ loop-at-init c =
     let ls = lines_of c.args.text.now in
     rw (c.into_iter-at-iterator.ensures.into_iter_gives, c.enumerate-at-items.ensures.source, c.enumerate-at-items.ensures.count, c.new.ensures)
     (starts put ls c.args.out.now (rw (one-each sign_of ls, length-map ls sign_of) c.requires))
-
-pub bounds-out-at : goal.bounds-out-at
-bounds-out-at c =
-    let s = c.in-Some.ensures.steps in
-    rw (s.1) (omega (arith, fits put _ _ c.loop-at.out _ _ c.loop-at.at-iterator.count (rw s.0 at c.loop-at.invariant)))
 
 pub loop-at-preserved : goal.loop-at-preserved
 loop-at-preserved c =

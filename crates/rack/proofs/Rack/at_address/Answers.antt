@@ -1,25 +1,24 @@
--- `Rack::at_address` meets its contract: at each turn the card is the first of those that are left.
+-- `Rack::at_address` meets its contract: the first base that answers is at the place of its card.
 -- Rests on Places.
-use Rattle.std.proofs.Common.{sym, ◌∙◌, take, length-take, add-one, arith}
-use Rattle.rack.specs.Bases.{most_cards}
-use Rattle.rack.proofs.Places.{not-before, no_more, found, passed}
+use Rattle.std.proofs.Common.{◌≡◌, ◌∙◌, ap, sym, rules, List, ℕ, take, arith}
+use Rattle.rack.specs.Targets.{target_from, bases_in}
+use Rattle.rack.proofs.Places.{not-before, in-rack, at-first, at-none}
 use Rattle.rack.proofs.Rack.at_address.Goals as goal
+use Rattle.rack.proofs.Rack.at_address.Goals.{After-min}
+
+-- The bases up to the count, which are searched, are those of the cards that there are.
+found-in : (c : goal.After-min) → target_from 0 (take c.min.result c.args.self.now.bases) c.args.address ≡ target_from 0 (bases_in c.args.self.now.count c.args.self.now.bases) c.args.address
+found-in c = ap (λ (bases : List ℕ). target_from 0 bases c.args.address) (rw c.min.ensures (in-rack c.args.self.now.count c.args.self.now.bases))
+
+pub returns-in_err-place-clause-first : goal.returns-in_err-place-clause-first
+returns-in_err-place-clause-first c =
+    let none = at-none c.args.address (take c.min.result c.args.self.now.bases) 0 (search rules) in
+    c.from_residual.ensures ∙ sym none ∙ found-in (goal.at.returns-in_err-place-clause-first c).After-min
 
 pub overflow_sub-result : goal.overflow_sub-result
-overflow_sub-result c = not-before _ _ (sym c.answers.ensures ∙ c.if-answers.true)
-
-pub returns-then-answers-clause-first : goal.returns-then-answers-clause-first
-returns-then-answers-clause-first c =
-    let a = c.args in
-    sym (c.loop-place.invariant ∙ found a.self.now.count c.loop-place.place a.address a.self.now.bases (omega arith) (omega arith) (omega arith) (sym c.answers.ensures ∙ c.if-answers.true))
-
-pub loop-place-preserved : goal.loop-place-preserved
-loop-place-preserved c =
-    let a = c.args in
-    let left = passed a.self.now.count c.loop-place.place a.address a.self.now.bases (omega arith) (omega arith) (omega arith) (sym c.answers.ensures ∙ c.if-answers.false) in
-    rw (add-one c.loop-place.place) (c.loop-place.invariant ∙ left)
+overflow_sub-result c = not-before _ _ (search rules)
 
 pub returns-clause-first : goal.returns-clause-first
 returns-clause-first c =
-    let a = c.args in
-    sym (c.loop-place.invariant ∙ no_more a.self.now.count c.loop-place.place a.address a.self.now.bases (omega (arith, length-take most_cards (take a.self.now.count a.self.now.bases), length-take a.self.now.count a.self.now.bases)))
+    sym (at-first c.args.address (take c.min.result c.args.self.now.bases) 0 c.in_ok-place.place (omega arith) (search rules) (search rules) (search rules))
+    ∙ found-in (goal.at.returns-clause-first c).After-min

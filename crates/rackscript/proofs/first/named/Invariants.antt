@@ -1,10 +1,8 @@
--- The bases that are in their places and those that are left are the line's.
+-- The bases that were read and those that are left are the line's.
 -- Rests on Placing.
-use Rattle.std.proofs.Common.{◌≡◌}
 use Rattle.std.specs.Slice.Iter.{chunks_rest, chunks_size}
-use Rattle.rackscript.specs.Bases.{base_digits}
 use Rattle.rackscript.proofs.Placing.{Placed}
 use Rattle.rackscript.proofs.first.named.Given as goal
 
 abbrev pub invariant-loop-digits : goal.invariant-loop-digits
-invariant-loop-digits l = Placed l.line l.bases l.count (chunks_rest l.digits-iterator) × (chunks_size l.digits-iterator ≡ base_digits)
+invariant-loop-digits l = Placed l.line l.bases.items (chunks_rest l.digits-iterator) (chunks_size l.digits-iterator)

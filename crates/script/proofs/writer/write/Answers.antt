@@ -33,5 +33,5 @@ module _ {S : Type 0} (a : Answerer S) (s : S) (number byte : ℕ) (out : List �
 pub returns : goal.returns
 returns g c =
     let a = g.S.Scripted.answerer in
-    rw (c.put_levels-end.ensures.output, c.put_levels-end.ensures.place, c.put-2.ensures, c.put.ensures)
+    rw (← c.shown-number.ensures.number, ← c.shown-number.ensures.byte, c.put_levels-end.ensures.output, c.put_levels-end.ensures.place, c.put-2.ensures, c.put.ensures)
     (one-run a c.args.subject.now _ _ c.args.out.now c.requires ∙ line_first a c.args.subject.now _ _ c.args.out.now c.requires)

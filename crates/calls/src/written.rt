@@ -1,0 +1,48 @@
+//! An image that is written whole: that of a chip at power-up, or of the state that an older image tells.
+ghost use Rattle.std.specs.Prelude.{◌≡◌};
+ghost use Rattle.image.specs.Slices.{saved_in};
+ghost use Rattle.calls.specs.Answers.{answered};
+ghost use Rattle.calls.specs.Calls.{power_up_answer, power_up_as_answer, power_up_as_image, convert_answer, convert_image};
+
+use super::refusals::CallRefusal;
+use chip::{Chip, Edition, Levels};
+use image::places::LENGTH;
+
+// A new image, whatever stood there.
+#[tactic(auto, unfolding(image::specs::Slices::saved_in))]
+pub(super) fn start(image: &mut [u8], chip: &Chip) -> Result<u16, CallRefusal>
+    ensures value { answered result ≡ power_up_answer image.old }
+    ensures image_after { image.new ≡ saved_in image.old chip.now }
+{
+    if image.len() != LENGTH {
+        return Err(CallRefusal::NoState);
+    }
+    image::save::state(image, chip);
+    Ok(0)
+}
+
+// The same of a chip of the edition that has the number.
+#[tactic(auto, using(chip::proofs::Editions::edition_tested), unfolding(crate::specs::Calls::power_up_as_answer, crate::specs::Calls::power_up_as_image))]
+pub(super) fn start_as(image: &mut [u8], number: u8, levels: Levels) -> Result<u16, CallRefusal>
+    ensures value { answered result ≡ power_up_as_answer image.old number }
+    ensures image_after { image.new ≡ power_up_as_image image.old number levels.a levels.b levels.c }
+{
+    let edition = Edition::numbered(number).ok_or(CallRefusal::NoEdition)?;
+    start(image, &Chip::new(edition, levels))
+}
+
+#[tactic(auto, unfolding(crate::specs::Calls::convert_answer, crate::specs::Calls::convert_image))]
+pub(super) fn convert(older: &[u8], image: &mut [u8]) -> Result<u16, CallRefusal>
+    ensures value { answered result ≡ convert_answer older.now image.old }
+    ensures image_after { image.new ≡ convert_image older.now image.old }
+{
+    if !older::good(older) {
+        return Err(CallRefusal::NoState);
+    }
+    let fits = image.len() == LENGTH;
+    if !fits {
+        return Err(CallRefusal::NoState);
+    }
+    older::convert(older, image);
+    Ok(0)
+}

@@ -1,0 +1,13 @@
+-- No refusal of a rack has the number 0 ("Events and numbers").
+use Rattle.std.specs.Prelude.{refl}
+use Rattle.bus.specs.Never0 as bus
+use Rattle.bus.specs.Never0.{Never0}
+use Rattle.rack.specs.Answers.{bad_rack_told, refusal_number}
+use Rattle.rack.specs.declared.refusals.RackRefusal.TheVariants.{NoCard, Card}
+
+pub bad-rack-never-0 : Never0 bad_rack_told
+bad-rack-never-0 r = refl
+
+pub refusal-never-0 : Never0 refusal_number
+refusal-never-0 NoCard = refl
+refusal-never-0 (Card r) = bus.refusal-never-0 r
