@@ -54,10 +54,12 @@ impl Numbered for Refusal {
     }
 }
 
-/// Why a frame, which names the kind of an event by number, is refused: there is no such kind, or whoever it is for refuses the event.
+/// Why a frame, which names the kind of an event by number, is refused.
 #[derive(Clone, Copy, Debug, PartialEq, Eq)]
 pub enum FrameRefusal<R> {
+    /// There is no such kind.
     NoSuchKind,
+    /// Whoever the event is for refuses it.
     Event(R),
 }
 

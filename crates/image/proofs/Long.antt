@@ -4,10 +4,8 @@ use mathlib.Core.Path.{◌≡◌}
 use mathlib.Core.Bool.{Bool, true, ◌&&◌}
 use mathlib.Core.List.{List}
 use Prim.Native.Nat.{ℕ}
-use native.Mathlib.Omega.{arith}
 use lib.Dec.{eqb}
-use lib.ListN.{length, take}
-use lib.Seq.{take_all}
+use lib.ListN.{length}
 use borrow.Author.Tests.{eqb-true, eq-eqb}
 use Rattle.bits.proofs.Logic.{both}
 use Rattle.chip.specs.declared.Chip.{Chip}
@@ -29,14 +27,7 @@ pub written_over : (l : List ℕ) (c : Chip) → length l ≡ places.length → 
 unfolding saved_in
 written_over l c long = rw (eq-eqb (length l) places.length long)
 
-pub saved : (l : List ℕ) (c : Chip) → is_image l ≡ true → saved_in l c ≡ image_of c
-saved l c good = written_over l c (is_long l good)
-
--- As many bytes as an image has are all of them, and what is loaded from them is the state that they tell.
-module _ (l : List ℕ) (long : length l ≡ places.length) where
-  pub all-of-it : take places.length l ≡ l
-  all-of-it = take_all places.length l (omega (arith, long))
-
-  pub loaded : loaded_from l ≡ state_of l
-  unfolding loaded_from
-  loaded = rw (eq-eqb (length l) places.length long)
+-- What is loaded from as many bytes as an image has is the state that they tell.
+pub loaded : (l : List ℕ) → length l ≡ places.length → loaded_from l ≡ state_of l
+unfolding loaded_from
+loaded l long = rw (eq-eqb (length l) places.length long)

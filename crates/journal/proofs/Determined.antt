@@ -5,6 +5,8 @@ use Prim.Native.Nat.{ℕ}
 use native.Mathlib.Omega.{arith}
 use Rattle.std.proofs.Common.{rules, Result, Ok, Err}
 use Rattle.bits.proofs.Determined.{Determines, equation-determines, equations-determine}
+use Rattle.bus.specs.Event.{Event, event}
+use Rattle.journal.specs.declared.words.Logged.{Logged}
 use Rattle.journal.specs.declared.TrimRefusal.{TrimRefusal}
 use Rattle.journal.specs.declared.TrimRefusal.TheVariants.{NoFrame, TooLong, NoEdition}
 use Rattle.journal.specs.Trim.{refusal_number, answer_told}
@@ -16,6 +18,13 @@ read-determined c x y = equation-determines
 
 pub pack-determined : Determines journal_says.words.Logged.pack.ended journal.words.Logged.pack.Reads.Learnt
 pack-determined c x y = equation-determines
+
+-- A logged event is its three numbers.
+logged : (l m : Logged) → event l.kind l.first l.second ≡ event m.kind m.first m.second → l ≡ m
+logged l m same = ap (λ (e : Event). record { kind = e.kind; first = e.first; second = e.second }) same
+
+pub from-determined : Determines journal_says.words.LoggedFromEvent.from.ended journal.words.LoggedFromEvent.from.Reads.Learnt
+from-determined c x y p q = equation-determines (logged x.0 y.0 (p ∙ sym q)) refl
 
 pub number-determined : Determines journal_says.TrimRefusalNumbered.number.ended journal.TrimRefusalNumbered.number.Reads.Learnt
 number-determined c x y = equation-determines

@@ -1,2 +1,3 @@
 pub mod Printed
+pub mod OnEach
 pub mod Left
