@@ -1,3 +1,4 @@
 pub mod Answered
 pub mod AnsweredByRack
 pub mod OnEach
+pub mod LeftByOlder

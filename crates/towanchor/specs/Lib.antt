@@ -1,3 +1,4 @@
 pub mod Printed
 pub mod OnEach
 pub mod Left
+pub mod LeftByOlder
