@@ -24,6 +24,11 @@ pub(super) fn put<D>(device: D) -> Answered<D> {
 }
 
 impl<D: Device> Answered<D> {
+    // The answer is as after an event that answered 00.
+    pub(super) fn forget(&mut self) {
+        self.answer = Ok(0);
+    }
+
     pub(super) fn event(&mut self, kind: u8, first: u8, second: u8) {
         self.answer = step_numbers(&mut self.device, kind, first, second);
     }

@@ -27,13 +27,19 @@ impl Last {
     }
 
     // Three letters put a device at power-up, whichever there was before; any other letter is for the device that is there.
-    pub(super) fn other(&self, name: u8) -> Self {
-        match (name, self) {
-            (b'P', _) => Last::at_power_up(),
-            (b'N', _) => Last::I8255A(states::at_power_up(Edition::Newer)),
-            (b'Q', _) => Last::I8355(states_8355::at_power_up()),
-            (_, Last::I8255A(before)) => Last::I8255A(states::other(before.device, name)),
-            (_, Last::I8355(before)) => Last::I8355(states_8355::other(before.device, name)),
+    pub(super) fn put(&mut self, name: u8) {
+        match (name, &mut *self) {
+            (b'P', _) => *self = Last::at_power_up(),
+            (b'N', _) => *self = Last::I8255A(states::at_power_up(Edition::Newer)),
+            (b'Q', _) => *self = Last::I8355(states_8355::at_power_up()),
+            (_, Last::I8255A(answered)) => {
+                states::put(&mut answered.device, name);
+                answered.forget();
+            }
+            (_, Last::I8355(answered)) => {
+                states_8355::put(&mut answered.device, name);
+                answered.forget();
+            }
         }
     }
 

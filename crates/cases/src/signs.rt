@@ -90,7 +90,7 @@ impl Cases {
         match sign {
             Sign::Event(digits) if code == b'>' => self.last.event(digits),
             Sign::Field => self.last.field(rt, code)?,
-            Sign::Other => self.last = self.last.other(code),
+            Sign::Other => self.last.put(code),
             Sign::Base(digits) => self.held.base(digits, code)?,
             Sign::RackEvent(digits) if code == b'}' => self.held.event(digits),
             Sign::Place => self.held.look_at(code),

@@ -1,7 +1,7 @@
 // The chip, of either edition, in a state that no single event gives it: at power-up, after very many strobes, or by hand, where no history leads
 // there.
-use super::answers::{Answered, put};
-use super::phases;
+use super::answers::Answered;
+use super::{answers, phases};
 use bus::devices::step;
 use bus::events::Event;
 use bus::refusals::Refusal;
@@ -10,7 +10,7 @@ use chip::{Chip, Core, Edition, Levels, PORT_C};
 
 // The cases are those of lines that idle high.
 pub(super) fn at_power_up(edition: Edition) -> Answered<Chip> {
-    put(Chip::new(edition, Levels::HIGH))
+    answers::put(Chip::new(edition, Levels::HIGH))
 }
 
 // The STB of port A falls and rises.
@@ -44,17 +44,16 @@ fn core_by_hand(core: &mut Core, name: u8) {
 }
 
 fn by_hand(chip: &mut Chip, name: u8) {
-    chip.phase = phases::by_hand(chip.phase, name);
+    phases::by_hand(&mut chip.phase, name);
     core_by_hand(&mut chip.core, name);
 }
 
-pub(super) fn other(mut chip: Chip, name: u8) -> Answered<Chip> {
+pub(super) fn put(chip: &mut Chip, name: u8) {
     match name {
         // Levels on a port that exists are never refused.
         b'S' => {
-            let _ = strobes(&mut chip);
+            let _ = strobes(chip);
         }
-        _ => by_hand(&mut chip, name),
+        _ => by_hand(chip, name),
     }
-    put(chip)
 }

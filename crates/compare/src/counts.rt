@@ -79,13 +79,13 @@ fn bit_word(counts: &mut Counts, role: u8, value: u8, before: &Machine) {
 }
 
 // What is said of the INTR of A and of B, without that of the group that there is not.
-fn asked(said: &[Explanation; 3]) -> &[Explanation] {
+fn of_a_and_b(said: &[Explanation; 3]) -> &[Explanation] {
     &said[..2]
 }
 
 // What is said of each half after the event.
 fn reasons(counts: &mut Counts, after: &View) {
-    for said in asked(&after.said) {
+    for said in of_a_and_b(&after.said) {
         counts.add(REASONS + said.input as usize, 1);
         counts.add(REASONS + said.output as usize, 1);
     }
@@ -117,11 +117,11 @@ fn followed(counts: &mut Counts, kind: Option<Kind>, before: &Machine, after: &M
 fn control_read(counts: &mut Counts, number: u8, before: &View) {
     if number == 0 {
         let is_high = |half| half == Reason::High as u8;
-        let asks = asked(&before.said)
+        let was_high = of_a_and_b(&before.said)
             .iter()
             .any(|said| is_high(said.input) || is_high(said.output));
         counts.add(CONTROL_READ, 1);
-        counts.add(CONTROL_READ_WHILE_HIGH, asks as u64);
+        counts.add(CONTROL_READ_WHILE_HIGH, was_high as u64);
     } else if number == Refusal::NotReadable.number() {
         let runs = before.machine.phase != twins::IDLE;
         counts.add(CONTROL_REFUSED, 1);

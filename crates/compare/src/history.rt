@@ -7,7 +7,6 @@ use super::proved::Stepped;
 use super::views::View;
 use super::{apart, counts, course, draws, views};
 use chip::Chip;
-use std::mem;
 
 // Both models with their last answers, and the view of the proved one.
 #[derive(Drop)]
@@ -33,9 +32,10 @@ impl Models for Pair {
     }
 
     fn happen(&mut self, counts: &mut Counts, event: Event) {
-        self.proved = self.proved.step(event);
+        self.proved.step(event);
         self.apart = apart::event(self.apart.machine, event.kind, event.first, event.second);
-        let before = mem::replace(&mut self.view, views::of_proved(&self.proved));
+        let before = self.view;
+        self.view = views::of_proved(&self.proved);
         counts::count(counts, event, &before, &self.view);
     }
 

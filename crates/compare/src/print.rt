@@ -1,12 +1,12 @@
 // What is printed of a run.
 use super::row::{Difference, Row};
-use std::fmt::Display;
+use std::fmt::Debug;
 use std::io;
 
 // Where the first difference is, and then, of the proved model and of the second one, all that was compared.
-fn difference<V: Display>(rt: &impl Print, first: &Difference<V>) -> io::Result<()> {
+fn difference<V: Debug>(rt: &impl Print, first: &Difference<V>) -> io::Result<()> {
     println!(rt;
-        "first difference: {} {} {}\n{}\n{}",
+        "first difference: {} {} {}\n{:?}\n{:?}",
         first.history, first.place, first.event, first.one, first.other
     )
 }
@@ -24,7 +24,7 @@ fn filled(rt: &impl Print, text: &[u8], counts: &[u64]) -> io::Result<()> {
     Ok(())
 }
 
-pub(super) fn run<V: Display, const N: usize>(
+pub(super) fn run<V: Debug, const N: usize>(
     rt: &impl Print,
     title: &str,
     text: &[u8],

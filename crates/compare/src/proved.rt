@@ -23,22 +23,17 @@ impl<D> Stepped<D> {
         }
     }
 
-    // A device after an event, by its answer.
-    pub(super) fn answered<R: Numbered>(device: D, answer: Result<u8, R>) -> Self {
-        Stepped {
-            device,
-            number: refusals::number(&answer),
-            byte: answer.unwrap_or(0),
-        }
+    // The device has answered an event so.
+    pub(super) fn told<R: Numbered>(&mut self, answer: Result<u8, R>) {
+        self.number = refusals::number(&answer);
+        self.byte = answer.unwrap_or(0);
     }
 }
 
-impl<D: Device + Copy> Stepped<D> {
-    // The same device after one more event.
-    pub(super) fn step(&self, event: Event) -> Self {
-        let mut device = self.device;
-        let answer = step_numbers(&mut device, event.kind, event.first, event.second);
-        Stepped::answered(device, answer)
+impl<D: Device> Stepped<D> {
+    pub(super) fn step(&mut self, event: Event) {
+        let answer = step_numbers(&mut self.device, event.kind, event.first, event.second);
+        self.told(answer);
     }
 }
 

@@ -7,19 +7,19 @@ mod counts;
 mod entries;
 mod reading;
 
-use control::Role;
 use counts::Counts;
 use std::io;
 
-// The answers that there can be, by number, as the published table has them, with what each says of a pin.
+// The answers that there can be, by number, as the published table has them, with what each says of a pin. The numbers are written out, and not
+// taken from the crate that is held to the table.
 const ANSWERS: [(&str, u8); 8] = [
-    ("input", Role::Input as u8),
-    ("output", Role::Output as u8),
-    ("INTR", Role::Intr as u8),
-    ("IBF", Role::Ibf as u8),
-    ("OBF", Role::Obf as u8),
-    ("STB", Role::Stb as u8),
-    ("ACK", Role::Ack as u8),
+    ("input", 0),
+    ("output", 1),
+    ("INTR", 2),
+    ("IBF", 3),
+    ("OBF", 4),
+    ("STB", 5),
+    ("ACK", 6),
     ("none", 255),
 ];
 

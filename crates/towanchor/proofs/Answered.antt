@@ -1,13 +1,14 @@
 -- With room for 4,096 answers, what a run leaves in front of the output, or its number alone, is what the program prints of a script.
--- Rests on script's Numbers, Outcome and Pieces.
-use Rattle.std.proofs.Common.{◌≡◌, ◌≢◌, Result, Ok, Err, ℕ, ◌*◌, ◌≤◌, Bool, true, false, List, length, take, drop, sym, ◌∙◌, refl, take_at, arith}
+-- Rests on bits' Logic and on script's Numbers, Outcome and Pieces.
+use Rattle.std.proofs.Common.{◌≡◌, ◌≢◌, Result, Ok, Err, ℕ, ◌*◌, ◌≤◌, Bool, true, false, List, length, take, drop, sym, ◌∙◌, refl, take_at, eqb, arith}
 use Rattle.std.proofs.lemmas.Bool.{ltb-false}
+use borrow.Author.Tests.{eq-eqb}
+use Rattle.bits.proofs.Logic.{contrary}
 use Rattle.bus.specs.Device.{Device}
 use Rattle.bus.specs.declared.Pins.{Pins}
 use Rattle.script.specs.Answers.{answer_width, by_device, answers_of}
 use Rattle.script.specs.declared.RunRefusal.{RunRefusal}
-use Rattle.script.specs.declared.RunRefusal.TheVariants.{TooLong, NoRoom}
-use Rattle.script.specs.Run.{run_told, longest_script, too_long, too_long_number, run_refusal_number, room_for, run_number, Ran, ran_of, output_left}
+use Rattle.script.specs.Run.{run_told, longest_script, too_long, too_long_number, run_refusal_number, run-refusal-never-0, room_for, run_number, Ran, ran_of, output_left}
 use Rattle.script.proofs.Numbers.{number-given}
 use Rattle.script.proofs.Outcome.{room-enough}
 use Rattle.script.proofs.Pieces.{answers-length}
@@ -17,11 +18,6 @@ use Rattle.towanchor.specs.Printed.{refusal_text, kept_of, printed_by}
 abbrev given : Result ℕ RunRefusal → Result ℕ RunRefusal
 given (Ok lines) = Ok (answer_width * lines)
 given (Err r) = Err r
-
--- No refusal has the number 0.
-pub some-refusal : (r : RunRefusal) → run_refusal_number r ≢ 0
-some-refusal TooLong e = omega (arith, e)
-some-refusal NoRoom e = omega (arith, e)
 
 module _ {S R : Type 0} (dev : Device S R) (pins : S → ℕ → Pins) (s : S) (text out : List ℕ) (enough : answer_width * longest_script ≤ length out) where
   abbrev answers : List ℕ
@@ -69,4 +65,4 @@ module _ {S R : Type 0} (dev : Device S R) (pins : S → ℕ → Pins) (s : S) (
   pub kept : (r : Result ℕ RunRefusal) → run_told r ≡ ran_of answer_width text (length out)
       → kept_of run_refusal_number (given r) (output_left (by_device dev pins) s text out) ≡ printed_by (by_device dev pins) s text
   kept (Ok lines) is = answered _ is refl
-  kept (Err refusal) is = refused _ is (some-refusal refusal)
+  kept (Err refusal) is = refused _ is (λ e. contrary (eqb (run_refusal_number refusal) 0) (run-refusal-never-0 refusal) (eq-eqb _ 0 e))

@@ -1,15 +1,15 @@
 -- With room for any script's answers, what a rack's run leaves in front of the output, or its number alone, is what the program prints.
--- Rests on rackscript's Enough.
-use Rattle.std.proofs.Common.{◌≡◌, ◌≢◌, Result, Ok, Err, ℕ, ◌≤◌, Bool, true, false, cond, not, List, length, take, drop, ap, sym, ◌∙◌, refl, take_at, ltb, arith}
+-- Rests on bits' Logic and on rackscript's Enough.
+use Rattle.std.proofs.Common.{◌≡◌, ◌≢◌, Result, Ok, Err, ℕ, ◌≤◌, Bool, true, false, cond, not, List, length, take, drop, ap, sym, ◌∙◌, refl, take_at, eqb, ltb, arith}
+use borrow.Author.Tests.{eq-eqb}
+use Rattle.bits.proofs.Logic.{contrary}
 use Rattle.script.specs.Run.{too_long, too_long_number}
 use Rattle.rack.specs.Bases.{bad_rack_number}
 use Rattle.script.specs.Answers.{answers_from}
 use Rattle.rackscript.specs.declared.Ran as counts
 use Rattle.rackscript.specs.declared.RackRunRefusal.{RackRunRefusal}
-use Rattle.rackscript.specs.declared.RackRunRefusal.TheVariants.{BadRack, Run}
-use Rattle.script.specs.declared.RunRefusal.TheVariants.{TooLong, NoRoom}
 use Rattle.rackscript.specs.Answers.{answering}
-use Rattle.rackscript.specs.Run.{run_told, names_rack, rack_named, to_answer, room_for_text, run_number, run_refusal_number, Ran, ran_of, output_left}
+use Rattle.rackscript.specs.Run.{run_told, names_rack, rack_named, to_answer, room_for_text, run_number, run_refusal_number, run-refusal-never-0, Ran, ran_of, output_left}
 use Rattle.rackscript.proofs.Room.{most_room}
 use Rattle.rackscript.proofs.Enough.{answers-length, room-enough}
 use Rattle.towanchor.specs.Printed.{refusal_text, kept_of, printed_of_rack}
@@ -18,12 +18,6 @@ use Rattle.towanchor.specs.Printed.{refusal_text, kept_of, printed_of_rack}
 abbrev given : Result counts.Ran RackRunRefusal → Result ℕ RackRunRefusal
 given (Ok ran) = Ok ran.length
 given (Err r) = Err r
-
--- No refusal has the number 0.
-pub some-refusal : (r : RackRunRefusal) → run_refusal_number r ≢ 0
-some-refusal (BadRack r) e = omega (arith, e)
-some-refusal (Run TooLong) e = omega (arith, e)
-some-refusal (Run NoRoom) e = omega (arith, e)
 
 module _ (text out : List ℕ) (enough : most_room ≤ length out) where
   -- The number by the first two tests: the third finds room.
@@ -73,4 +67,4 @@ module _ (text out : List ℕ) (enough : most_room ≤ length out) where
   pub kept : (r : Result counts.Ran RackRunRefusal) → run_told r ≡ ran_of text (length out)
       → kept_of run_refusal_number (given r) (output_left text out) ≡ printed_of_rack text
   kept (Ok ran) is = answered _ is refl
-  kept (Err refusal) is = refused _ is (some-refusal refusal)
+  kept (Err refusal) is = refused _ is (λ e. contrary (eqb (run_refusal_number refusal) 0) (run-refusal-never-0 refusal) (eq-eqb _ 0 e))

@@ -1,6 +1,6 @@
 -- What the program prints for each device, computed.
 -- Rests on nothing.
-use Rattle.std.proofs.Common.{ℕ, ◌<◌, List, length, refl}
+use Rattle.std.proofs.Common.{length, refl}
 use borrow.Author.Tests.{lt-ltb}
 use Rattle.bits.specs.Bit.{bit_of, value_of, with_bit, blend_of}
 use Rattle.bus.specs.Kinds.{is_kind, operands_of}
@@ -19,7 +19,7 @@ use Rattle.i8355.specs.Views as views8355
 use Rattle.towanchor.specs.declared.answers.Device.{Device}
 use Rattle.towanchor.specs.declared.answers.Device.TheVariants.{I8255A, I82C55A, I8355}
 use Rattle.towanchor.specs.Printed.{printed, printed_by}
-use Rattle.towanchor.specs.OnEach.{read_at_3, OnEach}
+use Rattle.towanchor.specs.OnEach.{OnEach}
 
 pub on-each : (device : Device) → OnEach device
 unfolding printed printed_by bit_of value_of with_bit blend_of is_kind operands_of number_of step_in mode_of input_of output_of lower_input upper_input uses_of free_role role_of digit_value digit_code pair_value lines_of leading_byte is_frame frame_of frame_in drives_port pins_of_port pins_of_lines pins_of acted_in line_text levels_from answers_from read_control read_of after_read_begins views8355.pins_of views8355.shown_by

@@ -1,5 +1,5 @@
 // Standard output, and what stands there in place of answers.
-ghost use Rattle.std.specs.Prelude.{◌≡◌, IfOk, List, ℕ, Result, length, vec_len};
+ghost use Rattle.std.specs.Prelude.{◌≡◌, IfOk, List, ℕ, Result, length};
 ghost use Rattle.std.specs.Fn.{FnOnceReturnsAtMut};
 ghost use Rattle.towanchor.specs.Printed.{refusal_text, kept_of};
 
@@ -20,14 +20,6 @@ pub(super) fn refusal<R: Numbered>(alloc: Global, refusal: R) -> Result<Vec<u8>,
     Ok(vec![in alloc; high, low, LF]?)
 }
 
-// Room for so many bytes of answers. In a function of its own: its contract speaks of the length alone, so that the proof above need not carry
-// so many zeros.
-fn room(alloc: Global, size: usize) -> Result<Vec<u8>, AllocError>
-    ensures { IfOk result (λ out. vec_len out ≡ size) }
-{
-    vec![in alloc; 0; size]
-}
-
 // What is printed of a run, which says how many bytes of the room that it got are answers, or the number of its refusal.
 pub(super) fn of_run<R: Numbered, F: FnOnce(&mut [u8]) -> Result<usize, R>>(
     alloc: Global,
@@ -37,7 +29,7 @@ pub(super) fn of_run<R: Numbered, F: FnOnce(&mut [u8]) -> Result<usize, R>>(
     requires { F.IsAlwaysCallable run }
     ensures { IfOk result (λ out. (before after : List ℕ) × (ran : Result ℕ R) × (length before ≡ size) × FnOnceReturnsAtMut F.FnOnce run before ran after × (out.items ≡ kept_of R.number_of ran after)) }
 {
-    let mut out = room(alloc, size)?;
+    let mut out = vec![in alloc; 0; size]?;
     match run(&mut out) {
         Ok(length) => {
             out.truncate(length);

@@ -17,7 +17,7 @@ mod reasons; // why INTR is low
 mod signals; // INTR, IBF and OBF
 mod words; // what a mode word makes of the ports
 
-#[derive(Clone, Copy, PartialEq, Eq)]
+#[derive(Clone, Copy, Debug, PartialEq, Eq)]
 pub(super) struct Machine {
     pub(super) part: u8, // 0 an 8255A, 1 an 82C55A
     pub(super) phase: u8, // 0 idle, 1 reading, 2 writing
@@ -41,7 +41,7 @@ pub(super) struct Answer {
     pub(super) byte: u8,
 }
 
-#[derive(Clone, Copy, PartialEq, Eq)]
+#[derive(Clone, Copy, Debug, PartialEq, Eq)]
 pub(super) struct Explanation {
     pub(super) number: u8, // 0, or 2 for a group that there is not
     pub(super) input: u8, // 0 no such half, 1 mode 0, 2 enable off, 3 IBF 0, 4 STB low, 5 being read, 6 high

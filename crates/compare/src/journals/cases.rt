@@ -1,6 +1,7 @@
 // The journals that are drawn: their power-ups, their lengths and their words, of which one may be damaged.
 use super::super::random;
 use super::super::random::byte;
+use super::agree::Answer;
 use super::counts::Counts;
 use super::words::Drawing;
 use super::{counts, words};
@@ -19,9 +20,13 @@ pub(super) struct Case {
 
 impl Case {
     // Trims a log by the proved trimmer, as C calls it.
-    pub(super) fn trim(&self, log: &mut [u32]) -> u32 {
+    pub(super) fn trim(&self, log: &mut [u32]) -> Answer {
         let levels = self.levels;
-        journal::towanchor_trim(log, self.edition, levels.a, levels.b, levels.c)
+        let packed = journal::towanchor_trim(log, self.edition, levels.a, levels.b, levels.c);
+        Answer {
+            number: (packed % 256) as u8,
+            kept: (packed / 256) as usize,
+        }
     }
 }
 

@@ -9,23 +9,12 @@
 //     47 words that were trimmed again, 48 words with which a trimmed journal was gone on; 49 differences
 use super::super::row::{Row, order};
 use super::super::twins::{PER_CHANNEL, Tallies};
-use super::agree::Expected;
+use super::agree::{Compared, Expected};
 use super::cases::{Drawn, LONGEST};
 use super::words;
 use journal::TrimRefusal;
-use std::fmt;
 
-// What is compared, a word of a log among other things.
-#[derive(Clone, Copy, PartialEq, Eq)]
-pub(crate) struct Word(pub(super) u32);
-
-impl fmt::Display for Word {
-    fn fmt<W: fmt::Write>(&self, f: &mut fmt::Formatter<W>) -> fmt::Result {
-        write!(f, " {}", self.0)
-    }
-}
-
-pub(super) type Counts = Row<Word, 50>;
+pub(super) type Counts = Row<Compared, 50>;
 
 const EDITIONS: usize = 2;
 

@@ -1,6 +1,5 @@
 // Journals that are gone on with after they were trimmed: a chip that met what was kept, and then new words, is in the state of one that met
 // all words, and trimmed once more, the journal is what it would have been without the first trimming.
-use super::super::apart::Machine;
 use super::super::twins::Tallies;
 use super::super::{states, twins};
 use super::agree::Expected;
@@ -17,21 +16,20 @@ fn meet(chip: &mut Chip, word: u32) {
     let _ = step_numbers(chip, kind, first, second);
 }
 
-// The proved chip after the words of a log, in the form of the second one.
-fn replayed(log: &[u32], case: Case) -> Machine {
+// The proved chip after the words of a log.
+fn replayed(log: &[u32], case: Case) -> Chip {
     let mut chip = Chip::new(states::edition(case.edition as u64), case.levels);
     for word in log {
         meet(&mut chip, *word);
     }
-    twins::machine(&chip)
+    chip
 }
 
 // Compares two chips, one after the words of a journal and one after what these were trimmed to. Gives the tallies of the first.
 fn hold_chips(counts: &mut Counts, journal: &[u32], log: &[u32], case: Case) -> Tallies {
-    let machine = replayed(journal, case);
-    let differ = machine != replayed(log, case);
-    agree::hold(counts, agree::CHIPS, 0, differ as u32);
-    machine.tally
+    let chip = replayed(journal, case);
+    agree::hold_chips(counts, chip, replayed(log, case));
+    twins::tallies(&chip)
 }
 
 // A journal is trimmed when it has come to a place that is drawn, and the words behind that are logged then.
@@ -46,8 +44,8 @@ pub(super) fn hold(
     let place = (drawn.number >> 24) % (journal.len() as u64 + 1);
     let (front, new) = journal.split_at(place as usize);
     let mut log = front.to_vec(alloc)?;
-    let kept = case.trim(&mut log) / 256;
-    log.truncate(kept as usize);
+    let trimmed = case.trim(&mut log);
+    log.truncate(trimmed.kept);
     hold_chips(counts, front, &log, case);
     log.extend_from_slice(new)?;
     let tallies = hold_chips(counts, journal, &log, case);

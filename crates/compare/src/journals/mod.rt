@@ -45,8 +45,8 @@ fn one(counts: &mut Counts, alloc: Global, seed: u64) -> Result<u64, AllocError>
         levels.c,
     );
     let expected = Expected { answer, row: &row };
-    hold(counts, alloc, &drawn, &expected)?;
     counts::journal(counts, &drawn, answer.number);
+    hold(counts, alloc, &drawn, &expected)?;
     if answer.number == 0 {
         counts::census(counts, &drawn, &expected);
         going_on::hold(counts, alloc, &drawn, &expected)?;

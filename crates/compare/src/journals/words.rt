@@ -102,7 +102,7 @@ impl Drawing {
 pub(super) const WAYS: u8 = 8;
 
 // A word that is none: of kind 04; of kind 06; of a kind above that; of kind 0105; a frame with upper bits; the beginning of a read with a second
-// operand; a reset or an end with that; and one with a first operand. Kinds are numbers here, since most of these are none.
+// operand; a reset or an end with that; and one with a first operand. Kinds are numbers here, since half of these are none.
 pub(super) fn damaged(word: u32, way: u8, number: u64) -> u32 {
     let [_, kind, first, second] = word.to_be_bytes();
     let more = (1 + (number >> 16) % 0xf9) as u8;
@@ -111,9 +111,9 @@ pub(super) fn damaged(word: u32, way: u8, number: u64) -> u32 {
         0 => [0, 4, first, second],
         1 => [0, 6, first, second],
         2 => [0, 6 + more, first, second],
-        3 => [1, 5, first, second],
+        3 => [1, LEVELS, first, second],
         4 => [more, kind, first, second],
-        5 => [0, 1, first, more],
+        5 => [0, Kind::BeginRead as u8, first, more],
         6 => [0, reset_or_end, 0, more],
         _ => [0, reset_or_end, more, 0],
     })

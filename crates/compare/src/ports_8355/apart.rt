@@ -3,7 +3,7 @@
 // machine, reached or not. Numbers stand where the proved crates have enums and structs, since a form that both had could hide a fault of
 // both.
 
-#[derive(Clone, Copy, PartialEq, Eq)]
+#[derive(Clone, Copy, Debug, PartialEq, Eq)]
 pub(super) struct Machine {
     pub(super) phase: u8, // 0 idle, 1 reading, 2 writing
     pub(super) place: u8, // the address being read or written; 0 when idle

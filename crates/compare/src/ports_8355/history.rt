@@ -7,7 +7,6 @@ use super::apart::{Answer, Machine};
 use super::counts::Counts;
 use super::{apart, counts, draws, views};
 use i8355::Chip8355;
-use std::mem;
 
 // Both models with their last answers.
 #[derive(Drop)]
@@ -32,10 +31,10 @@ impl Models for Pair {
     }
 
     fn happen(&mut self, counts: &mut Counts, event: Event) {
-        let after = self.proved.step(event);
-        let before = mem::replace(&mut self.proved, after);
+        let before = self.proved.device;
+        self.proved.step(event);
         self.apart = apart::event(self.apart.machine, event.kind, event.first, event.second);
-        counts::count(counts, event.kind, &before.device, &after);
+        counts::count(counts, event.kind, &before, &self.proved);
     }
 
     // The number decides which port that there is not is compared too.

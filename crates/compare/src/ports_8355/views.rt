@@ -6,33 +6,14 @@ use super::{apart, states};
 use bus::Pins;
 use bus::devices::Device;
 use i8355::Chip8355;
-use std::fmt;
 
 // The answer; the pins of ports 0, 1 and 2 and of one above; and all that is kept.
-#[derive(Clone, Copy, PartialEq, Eq)]
+#[derive(Clone, Copy, Debug, PartialEq, Eq)]
 pub(crate) struct View {
     number: u8,
     byte: u8,
     pins: [Pins; 4],
     machine: Machine,
-}
-
-impl fmt::Display for View {
-    fn fmt<W: fmt::Write>(&self, f: &mut fmt::Formatter<W>) -> fmt::Result {
-        let machine = &self.machine;
-        write!(f, " {} {}", self.number, self.byte)?;
-        for pins in &self.pins {
-            write!(f, " {}", pins.levels)?;
-        }
-        for pins in &self.pins {
-            write!(f, " {}", pins.driven)?;
-        }
-        write!(f, " {} {} {}", machine.phase, machine.place, machine.data)?;
-        for number in machine.register.iter().chain(&machine.outside) {
-            write!(f, " {number}")?;
-        }
-        Ok(())
-    }
 }
 
 // A port above 2, of which there is none.

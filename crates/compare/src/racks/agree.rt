@@ -3,22 +3,12 @@ use super::super::views;
 use super::counts::Counts;
 use super::history::Pair;
 use super::views::{Question, View, of_apart, of_proved, place_of_apart, place_of_proved};
-use std::fmt;
 
 // What is compared: the answers, or the card at a place.
-#[derive(Clone, Copy, PartialEq, Eq)]
+#[derive(Clone, Copy, Debug, PartialEq, Eq)]
 pub(crate) enum Compared {
     Answers(View),
     Card(views::View),
-}
-
-impl fmt::Display for Compared {
-    fn fmt<W: fmt::Write>(&self, f: &mut fmt::Formatter<W>) -> fmt::Result {
-        match self {
-            Compared::Answers(view) => write!(f, "{view}"),
-            Compared::Card(view) => write!(f, "{view}"),
-        }
-    }
 }
 
 // The answers, the eight places, and the one behind them.

@@ -67,7 +67,8 @@ fn base_of(place: u64, bases: &Bases) -> u16 {
     bases.list[(place % 10) as usize]
 }
 
-// An event of a chip, as one of the card at a place. Operands that its kind lacks are drawn, and so is the copy of the register.
+// An event of a chip, as one of the card at a place. The copy of the register is drawn, and so are the operands that a reset, an end or a read
+// lacks, but for the second of a read, which is what the event of the chip has there.
 fn on_card(event: events::Event, number: u64, place: u64, bases: &Bases) -> Event {
     let copy = (number >> 32) % 2 * 4;
     match Kind::numbered(u16::from(event.kind)) {
@@ -83,7 +84,7 @@ fn on_card(event: events::Event, number: u64, place: u64, bases: &Bases) -> Even
             second: event.first,
             third: event.second,
         },
-        Some(Kind::Reset | Kind::EndCycle) | None => Event {
+        _ => Event {
             kind: event.kind,
             first: word(number >> 32),
             second: byte(number >> 24),
@@ -101,7 +102,10 @@ fn alone(number: u64, bases: &Bases) -> Event {
         return Event::from(number);
     }
     if chance < 5 {
-        return Event::from(number % 0x100000000);
+        return Event {
+            kind: Kind::Reset.number(),
+            ..Event::from(number)
+        };
     }
     let kind = (1 + (number >> 24) % 6) as u8;
     let high = (number >> 44) % 4 / 3;

@@ -10,7 +10,6 @@ use super::events::Event;
 use super::who::Who;
 use super::{agree, apart, counts, draws, views};
 use rack::Rack;
-use std::mem;
 use std::ops::Range;
 
 // Both models with their last answers.
@@ -63,14 +62,11 @@ impl Models for Racks {
             second,
             third,
         } = event;
-        let mut rack = self.pair.proved.device;
-        let answer = rack.step_numbers(kind, first, second, third);
-        let shelf = self.pair.apart.shelf;
-        let after = Pair {
-            proved: Stepped::answered(rack, answer),
-            apart: apart::event(shelf, &self.who, kind, first, second, third),
-        };
-        let before = mem::replace(&mut self.pair, after);
+        let before = self.pair;
+        let Pair { proved, apart } = &mut self.pair;
+        let answer = proved.device.step_numbers(kind, first, second, third);
+        proved.told(answer);
+        *apart = apart::event(before.apart.shelf, &self.who, kind, first, second, third);
         self.count(counts, event, &before);
     }
 

@@ -13,17 +13,16 @@ use channel::{Side, Tally};
 use control::Group;
 use rack::Rack;
 use rack::refusals::RackRefusal;
-use std::fmt;
 
 // What a place answers, behind a number, as the second model has it: 10 where there is no card.
-#[derive(Clone, Copy, PartialEq, Eq)]
+#[derive(Clone, Copy, Debug, PartialEq, Eq)]
 struct AtPlace<T> {
     number: u8,
     told: T,
 }
 
 // The answer, and whether a cycle runs; and of the place that is asked the pins of a port, the tallies of a channel, and what is said of an INTR.
-#[derive(Clone, Copy, PartialEq, Eq)]
+#[derive(Clone, Copy, Debug, PartialEq, Eq)]
 pub(crate) struct View {
     number: u8,
     byte: u8,
@@ -31,22 +30,6 @@ pub(crate) struct View {
     pins: AtPlace<Pins>,
     tally: AtPlace<Counted>,
     said: AtPlace<Explanation>,
-}
-
-impl fmt::Display for View {
-    fn fmt<W: fmt::Write>(&self, f: &mut fmt::Formatter<W>) -> fmt::Result {
-        let pins = self.pins.told;
-        let said = self.said.told;
-        write!(f, " {} {} {}", self.number, self.byte, self.runs as u8)?;
-        write!(f, " {} {} {}", self.pins.number, pins.levels, pins.driven)?;
-        write!(f, " {}", self.tally.number)?;
-        for count in &self.tally.told {
-            let [low, high] = count.to_le_bytes();
-            write!(f, " {low} {high}")?;
-        }
-        write!(f, " {}", self.said.number)?;
-        write!(f, " {} {} {}", said.number, said.input, said.output)
-    }
 }
 
 // What is asked by itself: a place, and there a port, a group and a channel.
