@@ -1,4 +1,4 @@
--- Demand 2: over every history, from every chip and from every power-up, all that can be seen of the chip is what the account says.
+-- Over every history, from every chip and from every power-up, all that can be seen of the chip is what the account says.
 -- Rests on Agrees, Interrupts, Reasons, Views, Numbers, the bus's ByKind, chip's Outcome, and fates' Accepted.
 use mathlib.Core.Path.{◌≡◌, ◌∙◌, refl, ap, sym}
 use mathlib.Core.Bool.{true, cond}

@@ -1,4 +1,4 @@
--- Demand 2: what is promised of the chip's numbers, bytes, pins, reads and interrupts, by the account of a history.
+-- What is promised of the chip's numbers, bytes, pins, reads and interrupts, by the account of a history.
 use Rattle.std.specs.Prelude.{◌≡◌, Bool, false, cond, not, ◌&&◌, List, [], ◌∷◌, ℕ, ◌+◌, ◌<◌, ◌≤◌}
 use Rattle.bits.specs.Bit.{bit_of}
 use Rattle.bus.specs.Event.{Event}

@@ -1,4 +1,4 @@
--- Demand 1: the number of an event is n exactly when the first row of the table that applies has the number n, and 0 exactly when none applies
+-- The number of an event is n exactly when the first row of the table that applies has the number n, and 0 exactly when none applies
 -- ("Events and numbers").
 -- Rests on bits' Logic.
 use mathlib.Core.Path.{◌≡◌, refl, sym}

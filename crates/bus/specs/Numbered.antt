@@ -1,4 +1,4 @@
--- Demand 1: what the number of an event is by the rows of the table of refusals ("Events and numbers").
+-- What the number of an event is by the rows of the table of refusals ("Events and numbers").
 use Rattle.std.specs.Prelude.{◌≡◌, true, false, List, [], ◌∷◌, ◌⊎◌, ℕ}
 use Rattle.bus.specs.declared.Phase.{Phase}
 use Rattle.bus.specs.declared.Limits.{Limits}

@@ -1,5 +1,5 @@
 -- A channel's tallies balance after every history: from any chip in which they do, and from every power-up.
--- Rests on Story and Demand.
+-- Rests on Story and EveryByte.
 use mathlib.Core.Path.{◌≡◌, ◌∙◌, refl, ap, sym}
 use mathlib.Core.List.{List}
 use Prim.Native.Nat.{ℕ, ◌+◌, ◌*◌, ◌/◌, ◌%◌}
@@ -21,7 +21,7 @@ use Rattle.fates.specs.Effects.{effects}
 use Rattle.fates.specs.Bytes.{offered_at}
 use Rattle.fates.specs.Promise.{run, tallies, surroundings_of, new_bytes, Balanced, SixteenBits}
 use Rattle.fates.proofs.Story.{with-held}
-use Rattle.fates.proofs.Demand.{none-counted, fates-from}
+use Rattle.fates.proofs.EveryByte.{none-counted, fates-from}
 
 -- Whole rounds of 65,536 do not show in a remainder, nor do those that the parts of a sum have made.
 rounds : (n k : ℕ) → (n + 65536 * k) % 65536 ≡ n % 65536

@@ -16,7 +16,7 @@ pub mod InTheLatch
 pub mod ReadsRun
 pub mod Discipline
 pub mod Unforced
-pub mod Demand
+pub mod EveryByte
 pub mod Balance
 pub mod OnlyFalls
 pub mod ScriptRun

@@ -1,5 +1,5 @@
 -- The tally of n offers is n modulo 65,536, without writing n of them out.
--- Rests on Demand.
+-- Rests on EveryByte.
 use mathlib.Core.Path.{◌≡◌, ◌∙◌, refl, ap}
 use Prim.Native.Nat.{ℕ, zero, suc, ◌%◌}
 use native.Mathlib.Nat.{zero-add}
@@ -19,7 +19,7 @@ use Rattle.fates.specs.Left.{left}
 use Rattle.fates.specs.Bytes.{bytes, offered_among}
 use Rattle.fates.specs.Promise.{run}
 use Rattle.fates.specs.Examples.{times, strobed_times}
-use Rattle.fates.proofs.Demand.{fates}
+use Rattle.fates.proofs.EveryByte.{fates}
 
 -- Port A in mode 1, an input, with the levels x on its lines and every line of port C high.
 abbrev strobing : Edition → ℕ → Surroundings

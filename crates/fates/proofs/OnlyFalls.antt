@@ -1,5 +1,5 @@
 -- A line that is low at power-up makes no fall until an event has raised it: up to then STB brings in no byte, and ACK takes none.
--- Rests on Shapes, Story, Counted, Shown and Demand, and on bits' Logic.
+-- Rests on Shapes, Story, Counted, Shown and EveryByte, and on bits' Logic.
 use mathlib.Core.Path.{◌≡◌, ◌∙◌, refl, ap}
 use mathlib.Core.Bool.{Bool, true, false, cond, ◌&&◌, and-false}
 use mathlib.Core.List.{List, [], ◌∷◌}
@@ -28,7 +28,7 @@ use Rattle.fates.proofs.Shapes.{shape_of, fill_after, is_offer, held_after}
 use Rattle.fates.proofs.Story.{story, story-step, offers-counted}
 use Rattle.fates.proofs.Counted.{count-decided, none_yet}
 use Rattle.fates.proofs.Shown.{takes}
-use Rattle.fates.proofs.Demand.{fates}
+use Rattle.fates.proofs.EveryByte.{fates}
 
 -- What the line of a channel does: STB offers, and ACK takes.
 abbrev by_line : Side → Effect → Bool

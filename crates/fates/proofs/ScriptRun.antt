@@ -1,5 +1,5 @@
--- Demand 3 holds of every script, for a chip of either edition.
--- Rests on Demand and Unforced, and on script's History.
+-- What is promised of every byte holds of every script, for a chip of either edition.
+-- Rests on EveryByte and Unforced, and on script's History.
 use mathlib.Core.Path.{◌≡◌, ◌∙◌, refl}
 use mathlib.Core.List.{List, [], ◌∷◌}
 use Prim.Native.Nat.{ℕ}
@@ -15,7 +15,7 @@ use Rattle.script.proofs.History.{history-answered, history-left}
 use Rattle.fates.specs.Promise.{run}
 use Rattle.fates.specs.ScriptRun.{RunKept, Leaves}
 use Rattle.fates.proofs.Unforced.{unforced}
-use Rattle.fates.proofs.Demand.{fates, disciplined}
+use Rattle.fates.proofs.EveryByte.{fates, disciplined}
 
 runs_alike : (c : Chip) (es : List Event) → run_in device c es ≡ run c es
 unfolding step_of

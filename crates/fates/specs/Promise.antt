@@ -1,4 +1,4 @@
--- Demand 3: what is promised of the chip, its tallies, its answers and its pins, by the bytes of each channel over a history.
+-- What is promised of the chip, its tallies, its answers and its pins, by the bytes of each channel over a history.
 use Rattle.std.specs.Prelude.{◌≡◌, Bool, true, List, [], ◌∷◌, ℕ, zero, suc, ◌+◌, ◌%◌, ◌<◌, ◌≤◌, length}
 use Rattle.bits.specs.Bit.{num}
 use Rattle.bus.specs.Event.{Event}

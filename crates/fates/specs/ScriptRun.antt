@@ -1,4 +1,4 @@
--- Demand 3 of a script: what is promised of the run of a text, by the history that it is.
+-- What is promised of every byte in the run of a text, by the history that it is.
 use Rattle.std.specs.Prelude.{◌≡◌, List, ℕ}
 use Rattle.control.specs.declared.Group.{Group}
 use Rattle.channel.specs.declared.Side.{Side}

@@ -1,5 +1,5 @@
 -- What is promised of each card of a rack that was built, by what is promised of a chip alone; and of a place without a card.
--- Rests on Followed and Projected, on the fates' Demand, Discipline and Unforced, and on the account's Account.
+-- Rests on Followed and Projected, on the fates' EveryByte, Discipline and Unforced, and on the account's Account.
 use mathlib.Core.Path.{◌≡◌, refl, sym, ap, ◌∙◌}
 use mathlib.Core.Bool.{true}
 use mathlib.Core.List.{List}
@@ -19,7 +19,7 @@ use Rattle.rack.specs.State.{no_core, chip_at, rack_of, card_edition}
 use Rattle.rack.specs.Targets.{is_place}
 use Rattle.rack.specs.Views.{card_of, card_pins, card_tally, card_explained, card_explained_numbered}
 use Rattle.fates.specs.Promise.{run}
-use Rattle.fates.proofs.Demand.{fates-from, fates, disciplined}
+use Rattle.fates.proofs.EveryByte.{fates-from, fates, disciplined}
 use Rattle.fates.proofs.Discipline.{disciplined-from}
 use Rattle.fates.proofs.Unforced.{unforced-from, unforced}
 use Rattle.account.proofs.Account.{account-from, account}

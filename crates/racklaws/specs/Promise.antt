@@ -98,7 +98,7 @@ pub record GoesOn (r : Rack) (es : List RackEvent) : Type 0 where
 
 -- What a card of a rack is promised, the rack having been built with these bases, where `events` are those of the history es that reach
 -- it: after the history the card is a chip alone after these events from power-up, and shows, counts and explains what that does, of a group
--- and of any number that is to name one; and so demand 3, the discipline and the account hold of it over them.
+-- and of any number that is to name one; and so the fates, the discipline and the account hold of it over them.
 pub record AsAlone (bs : List ℕ) (es : List RackEvent) (i : ℕ) (events : List Event) : Type 0 where
   pub state : chip_at (rack_run (rack_of bs) es) i ≡ run power_up events
   pub card : card_of (rack_run (rack_of bs) es) i ≡ Some (run power_up events)

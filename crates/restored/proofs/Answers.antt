@@ -1,5 +1,5 @@
 -- What the calls answer along a host's whole run, from every power-up and from every image.
--- Rests on Holds, Saved, Shown, SameDiscipline and Counts, on account's Account, and on fates' Unforced and Demand.
+-- Rests on Holds, Saved, Shown, SameDiscipline and Counts, on account's Account, and on fates' Unforced and EveryByte.
 use mathlib.Core.Path.{◌≡◌}
 use mathlib.Core.Bool.{true}
 use mathlib.Core.List.{List, [], ◌∷◌, ◌++◌}
@@ -17,7 +17,7 @@ use Rattle.fates.specs.Surroundings.{at_power_up}
 use Rattle.fates.specs.Bytes.{handed_over, Byte, bytes_of}
 use Rattle.fates.specs.Promise.{run, new_bytes, old_byte, Each, ShownAt, Fates}
 use Rattle.fates.proofs.Unforced.{unforced}
-use Rattle.fates.proofs.Demand.{fates, disciplined}
+use Rattle.fates.proofs.EveryByte.{fates, disciplined}
 use Rattle.account.specs.Account.{Account, opened}
 use Rattle.account.specs.Promise.{over, account_of, Accounted}
 use Rattle.account.proofs.Account.{account, account-from}

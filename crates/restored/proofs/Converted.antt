@@ -1,4 +1,4 @@
--- Demand 3 from an older image, once it is converted: the chip that it tells goes on, and its two new tallies count from 0.
+-- What is promised of every byte from an older image on, once it is converted: the chip that it tells goes on, and its two new tallies count from 0.
 -- Rests on Saved, on image's SameBytes, older's OneImage and calls' Converted.
 use mathlib.Core.Path.{◌≡◌, refl, sym, subst}
 use mathlib.Core.Bool.{true}

@@ -1,6 +1,6 @@
--- Demand 3 from a chip that a host restores from an image; and what the host holds after a power-up.
+-- What is promised of every byte from a chip on that a host restores from an image; and what the host holds after a power-up.
 -- Rests on Conditions, Stays and Holds, on image's ComesBack and SameBytes, and on fates' Tables, SurroundingsKept, Followed, SameByte,
--- InTheLatch, Discipline, Unforced and Demand.
+-- InTheLatch, Discipline, Unforced and EveryByte.
 use mathlib.Core.Path.{◌≡◌, ◌∙◌, ap, sym, subst}
 use mathlib.Core.Bool.{true}
 use mathlib.Core.List.{List, [], ◌∷◌}
@@ -26,7 +26,7 @@ use Rattle.fates.proofs.SameByte.{strobed-alone}
 use Rattle.fates.proofs.InTheLatch.{held-from}
 use Rattle.fates.proofs.Discipline.{found-next, disciplined-from}
 use Rattle.fates.proofs.Unforced.{unforced-from}
-use Rattle.fates.proofs.Demand.{fates-from, no_read}
+use Rattle.fates.proofs.EveryByte.{fates-from, no_read}
 use Rattle.image.specs.Places as places
 use Rattle.image.specs.Layout.{image_of}
 use Rattle.image.specs.Loaded.{byte_at, tally_at, state_of}

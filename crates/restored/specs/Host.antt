@@ -65,7 +65,7 @@ pub record PoweredUp (l : List ℕ) (ed : Edition) (v : Levels) (es : List Event
   pub image : is_image (host_run (power_up_in l ed v) es) ≡ true
   pub state : state_of (host_run (power_up_in l ed v) es) ≡ run (power_up_as ed v) es
 
--- Demand 3's last sentence for an image that was saved from a run which kept to the discipline: where what follows keeps to it too, no
+-- The sentence about lost bytes for an image that was saved from a run which kept to the discipline: where what follows keeps to it too, no
 -- input byte is overwritten or swallowed, the one that waited in the image among them.
 abbrev pub StillNoneLost : Group → Edition → Levels → List Event → List Event → Type 0
 StillNoneLost g ed l before es =

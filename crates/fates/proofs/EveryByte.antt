@@ -1,4 +1,4 @@
--- Demand 3: the promises of specs/Promise.antt and specs/Discipline.antt, from any chip and from every power-up.
+-- What becomes of every byte: the promises of specs/Promise.antt and specs/Discipline.antt, from any chip and from every power-up.
 -- Rests on Ordered, Counted, SameByte, InTheLatch, ReadsRun and Discipline.
 use mathlib.Core.Path.{◌≡◌, refl}
 use mathlib.Core.Bool.{Bool, true, false}
