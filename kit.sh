@@ -1,5 +1,5 @@
-# What ./build, ./run, bench/measure and scripts of tests/ have in common: where the Rattle kit has its tools, how a program that they linked is
-# run, and whether something has to be built.
+# What ./build, ./run, ./test, bench/measure and scripts of tests/ have in common: where the Rattle kit has its tools, how a program that they
+# linked is run, whether something has to be built, how it is built, and how is told how far that is.
 # shellcheck shell=sh disable=SC2034
 home=$(dirname "$(dirname "$(readlink -f "$(command -v rt)")")")
 tools=$home/toolchain
@@ -11,17 +11,121 @@ start() { # PROGRAM ARGUMENT..
     "$loader" --library-path "$tools/lib" "$@"
 }
 
-# Whether a file is there and no source of a crate is newer, nor a folder of sources, as where one was removed. What a check writes, in the
-# folders out/ of the crates, is no source.
-is_fresh() { # REPOSITORY FILE
-    [ -f "$2" ] &&
-        [ -z "$(find "$1"/crates/*/src "$1"/crates/*/specs "$1"/crates/*/proofs "$1/crates.txt" -newer "$2" -print | head -n 1)" ]
+# Functions with variables of their own run in a shell of their own, so that their callers keep theirs.
+
+# Prints these crates and all that they rest on, from the ground up: in crates.txt each stands behind those that it rests on.
+made_of() ( # REPOSITORY CRATE..
+    list=$1/crates.txt
+    shift
+    awk -v asked="$*" '
+        { sub(/#.*/, "") }
+        split($0, row, ":") == 2 {
+            split(row[1], words, " ")
+            name[++count] = words[1]
+            below[count] = row[2]
+        }
+        END {
+            for (n = split(asked, crates, " "); n; n--) wanted[crates[n]]
+            for (each = count; each; each--)
+                if (name[each] in wanted)
+                    for (n = split(below[each], crates, " "); n; n--) wanted[crates[n]]
+            for (each = 1; each <= count; each++)
+                if (name[each] in wanted) print name[each]
+        }' "$list"
+)
+
+# Whether a file is there and no source of the crates that it is made of is newer, nor a folder of sources, as where one was removed. What a
+# check writes, in the folders out/ of the crates, is no source.
+is_fresh() ( # REPOSITORY FILE CRATE..
+    repository=$1 file=$2
+    shift 2
+    [ -f "$file" ] && [ -z "$(find "$repository/crates.txt" -newer "$file")" ] || return 1
+    for crate in $(made_of "$repository" "$@"); do
+        sources=$repository/crates/$crate
+        [ -z "$(find "$sources/src" "$sources/specs" "$sources/proofs" -newer "$file" 2>/dev/null | head -n 1)" ] || return 1
+    done
+)
+
+# How long it is since a moment of `date +%s`.
+since() ( # MOMENT
+    seconds=$(($(date +%s) - $1))
+    [ "$seconds" -lt 60 ] || printf '%s min ' $((seconds / 60))
+    printf '%s s\n' $((seconds % 60))
+)
+
+# Says on standard error how many crates are proved, and since when they are being proved: on a terminal in one line, which is written anew
+# each second until the next is told, and elsewhere in a line of its own.
+ticker=
+tell() { # WHO MOMENT PROVED COUNT REST
+    stop_telling
+    if [ -t 2 ]; then
+        write_anew "$@"
+        # It ends with the script, however that ends.
+        while sleep 1 && kill -0 $$ 2>/dev/null; do write_anew "$@"; done &
+        ticker=$!
+    else
+        printf '%s\n' "$(count_told "$@")" >&2
+    fi
 }
 
-# Proves and builds the program of a crate, unless it is fresh. rt builds one only to run it once: here it gets no text, and what it prints goes
-# where rt's own words go. A program of which nothing changed rt leaves as it is, so its time is set here.
-built() { # REPOSITORY CRATE
-    is_fresh "$1" "$1/crates/$2/out/$2" || {
-        (cd "$1/crates/$2" && rt run) </dev/null && touch "$1/crates/$2/out/$2"
-    }
+count_told() { printf '%s\n' "$1: $3 of $4 crates are proved after $(since "$2")$5"; }
+
+write_anew() { printf '\r%-72s' "$(count_told "$@")" >&2; }
+
+stop_telling() {
+    [ -n "$ticker" ] || return 0
+    kill "$ticker"
+    wait "$ticker" 2>/dev/null
+    ticker=
+}
+
+# Leaves the line that is written anew.
+leave_line() {
+    stop_telling
+    [ ! -t 2 ] || echo >&2
+}
+
+# Proves and builds these crates and all that they rest on, each in its folder, and tells how far that is. Code is built for every x86-64
+# processor, of which rt by itself asks for some that the first of them lack. Where a crate cannot be proved or built this is false, and it was
+# said why.
+prove() ( # WHO REPOSITORY CRATE..
+    who=$1 repository=$2
+    shift 2
+    crates=$(made_of "$repository" "$@")
+    count=$(printf '%s\n' "$crates" | wc -l | tr -d ' ') proved=0 begun=$(date +%s)
+    for crate in $crates; do
+        sources=$repository/crates/$crate
+        tell "$who" "$begun" "$proved" "$count" "; next is $crate"
+        if ! mkdir -p "$sources/out" 2>/dev/null || [ ! -w "$sources/out" ]; then
+            leave_line
+            printf '%s\n' "$who: $sources/out cannot be written, and nothing can be proved without that" >&2
+            return 1
+        fi
+        if [ -f "$sources/src/main.rt" ]; then
+            words='run --cpu x86-64'
+        elif grep -q "^$crate staticlib:" "$repository/crates.txt"; then
+            words='lib --cpu x86-64'
+        else
+            words=lib
+        fi
+        # rt runs a program once it is built. Here it gets no text, and what it prints goes where rt's own words go.
+        # shellcheck disable=SC2086
+        said=$(cd "$sources" && rt $words 2>&1 </dev/null) || {
+            leave_line
+            printf '%s\n' "$said" >&2
+            case $said in
+            *logic=not-proved*) printf '%s\n' "$who: $crate is not proved" >&2 ;;
+            *) printf '%s\n' "$who: $crate could not be built; what rt says of it stands above" >&2 ;;
+            esac
+            return 1
+        }
+        proved=$((proved + 1))
+    done
+    tell "$who" "$begun" "$proved" "$count" ''
+    leave_line
+)
+
+# Proves and builds the program of a crate, unless it is fresh.
+built() { # WHO REPOSITORY CRATE
+    is_fresh "$2" "$2/crates/$3/out/$3" "$3" || prove "$@"
 }

@@ -1,6 +1,7 @@
--- With room for 4,096 answers, what a run leaves in front of the output, or its number alone, is what the program prints of a script.
+-- With room for 4,096 answers, what a run leaves in front of the output, or its number alone, is what the program prints of a script; and it is
+-- refused where the text is too long.
 -- Rests on bits' Logic and on script's Numbers, Outcome and Pieces.
-use Rattle.std.proofs.Common.{◌≡◌, ◌≢◌, Result, Ok, Err, ℕ, ◌*◌, ◌≤◌, Bool, true, false, List, length, take, drop, sym, ◌∙◌, refl, take_at, eqb, arith}
+use Rattle.std.proofs.Common.{◌≡◌, ◌≢◌, Result, Ok, Err, is_err, ℕ, ◌*◌, ◌≤◌, Bool, true, false, List, length, take, drop, sym, ◌∙◌, refl, take_at, eqb, arith}
 use Rattle.std.proofs.lemmas.Bool.{ltb-false}
 use borrow.Author.Tests.{eq-eqb}
 use Rattle.bits.proofs.Logic.{contrary}
@@ -61,8 +62,23 @@ module _ {S R : Type 0} (dev : Device S R) (pins : S → ℕ → Pins) (s : S) (
       go true e = rw (given, number-by true e, e) refl
       go false e = absurd (other (given ∙ number-by false e))
 
+  never-0 : (r : RunRefusal) → run_refusal_number r ≢ 0
+  never-0 r e = contrary (eqb (run_refusal_number r) 0) (run-refusal-never-0 r) (eq-eqb _ 0 e)
+
   -- What is printed of an accepted run or of a refused one.
   pub kept : (r : Result ℕ RunRefusal) → run_told r ≡ ran_of answer_width text (length out)
       → kept_of run_refusal_number (given r) (output_left (by_device dev pins) s text out) ≡ printed_by (by_device dev pins) s text
   kept (Ok lines) is = answered _ is refl
-  kept (Err refusal) is = refused _ is (λ e. contrary (eqb (run_refusal_number refusal) 0) (run-refusal-never-0 refusal) (eq-eqb _ 0 e))
+  kept (Err refusal) is = refused _ is (never-0 refusal)
+
+  pub refused-where-long : (r : Result ℕ RunRefusal) → run_told r ≡ ran_of answer_width text (length out) → is_err (given r) ≡ too_long text
+  refused-where-long (Ok lines) is = go (too_long text) refl
+    where
+      go : (long : Bool) → too_long text ≡ long → false ≡ too_long text
+      go true e = absurd (omega (arith, number-by true e, number-given answer_width text (length out) _ is))
+      go false e = sym e
+  refused-where-long (Err refusal) is = go (too_long text) refl
+    where
+      go : (long : Bool) → too_long text ≡ long → true ≡ too_long text
+      go true e = sym e
+      go false e = absurd (never-0 refusal (number-given answer_width text (length out) _ is ∙ number-by false e))

@@ -1,6 +1,7 @@
--- With room for any script's answers, what a rack's run leaves in front of the output, or its number alone, is what the program prints.
+-- With room for any script's answers, what a rack's run leaves in front of the output, or its number alone, is what the program prints; and
+-- it is refused where the text is too long or its first line is no rack.
 -- Rests on bits' Logic and on rackscript's Enough.
-use Rattle.std.proofs.Common.{◌≡◌, ◌≢◌, Result, Ok, Err, ℕ, ◌≤◌, Bool, true, false, cond, not, List, length, take, drop, ap, sym, ◌∙◌, refl, take_at, eqb, ltb, arith}
+use Rattle.std.proofs.Common.{◌≡◌, ◌≢◌, Result, Ok, Err, is_err, ℕ, ◌≤◌, Bool, true, false, cond, not, List, length, take, drop, ap, sym, ◌∙◌, refl, take_at, eqb, ltb, arith}
 use borrow.Author.Tests.{eq-eqb}
 use Rattle.bits.proofs.Logic.{contrary}
 use Rattle.script.specs.Run.{too_long, too_long_number}
@@ -12,7 +13,7 @@ use Rattle.rackscript.specs.Answers.{answering}
 use Rattle.rackscript.specs.Run.{run_told, names_rack, rack_named, to_answer, room_for_text, run_number, run_refusal_number, run-refusal-never-0, Ran, ran_of, output_left}
 use Rattle.rackscript.proofs.Room.{most_room}
 use Rattle.rackscript.proofs.Enough.{answers-length, room-enough}
-use Rattle.towanchor.specs.Printed.{refusal_text, kept_of, printed_of_rack}
+use Rattle.towanchor.specs.Printed.{refusal_text, kept_of, printed_of_rack, refuses_rack}
 
 -- What is to be printed of a run.
 abbrev given : Result counts.Ran RackRunRefusal → Result ℕ RackRunRefusal
@@ -63,8 +64,25 @@ module _ (text out : List ℕ) (enough : most_room ≤ length out) where
       go false false l k = rw (number-given r is, number-by false false l k, l, k) refl
       go false true l k = absurd (other (number-given r is ∙ number-by false true l k))
 
+  never-0 : (r : RackRunRefusal) → run_refusal_number r ≢ 0
+  never-0 r e = contrary (eqb (run_refusal_number r) 0) (run-refusal-never-0 r) (eq-eqb _ 0 e)
+
   -- What is printed of an accepted run or of a refused one.
   pub kept : (r : Result counts.Ran RackRunRefusal) → run_told r ≡ ran_of text (length out)
       → kept_of run_refusal_number (given r) (output_left text out) ≡ printed_of_rack text
   kept (Ok ran) is = answered _ is refl
-  kept (Err refusal) is = refused _ is (λ e. contrary (eqb (run_refusal_number refusal) 0) (run-refusal-never-0 refusal) (eq-eqb _ 0 e))
+  kept (Err refusal) is = refused _ is (never-0 refusal)
+
+  pub refused-by-rule : (r : Result counts.Ran RackRunRefusal) → run_told r ≡ ran_of text (length out) → is_err (given r) ≡ refuses_rack text
+  refused-by-rule (Ok ran) is = go (too_long text) (names_rack text) refl refl
+    where
+      go : (long rack : Bool) → too_long text ≡ long → names_rack text ≡ rack → false ≡ refuses_rack text
+      go true rack l k = absurd (omega (arith, number-by true rack l k, number-given _ is))
+      go false false l k = absurd (omega (arith, number-by false false l k, number-given _ is))
+      go false true l k = rw (l, k) refl
+  refused-by-rule (Err refusal) is = go (too_long text) (names_rack text) refl refl
+    where
+      go : (long rack : Bool) → too_long text ≡ long → names_rack text ≡ rack → true ≡ refuses_rack text
+      go true rack l k = rw (l) refl
+      go false false l k = rw (l, k) refl
+      go false true l k = absurd (never-0 refusal (number-given _ is ∙ number-by false true l k))

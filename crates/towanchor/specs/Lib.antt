@@ -2,3 +2,4 @@ pub mod Printed
 pub mod OnEach
 pub mod Left
 pub mod LeftByOlder
+pub mod Failing

@@ -8,10 +8,12 @@ mod input;
 mod output;
 mod quiet;
 mod racks;
+mod refusals;
 mod strays;
 mod trim;
 
 use answers::Device;
+use std::process::ExitCode;
 use std::rt::Env;
 
 // What the first word asks for.
@@ -40,13 +42,25 @@ fn first_word(rt: &impl Env) -> Asked {
     }
 }
 
-fn main(rt: HostRuntime) -> anyhow::Result<()> {
+fn run(rt: &(impl Env + Input + Print + Eprint + AllocGlobal)) -> anyhow::Result<()> {
     let alloc = rt.alloc();
-    let text = input::read(&rt)?;
-    match first_word(&rt) {
-        Asked::Answers(device) => output::write(&rt, &answers::answer(alloc, device, &text)?),
-        Asked::RackAnswers => output::write(&rt, &racks::answer(alloc, &text)?),
-        Asked::WhyQuiet => output::write(&rt, quiet::explain(alloc, &text)?.as_bytes()),
-        Asked::WhatChanges => trim::trim(&rt, &text),
+    let text = input::read(rt)?;
+    match first_word(rt) {
+        Asked::Answers(device) => answers::answer(alloc, device, &text)?.write(rt),
+        Asked::RackAnswers => racks::answer(alloc, &text)?.write(rt),
+        Asked::WhyQuiet => quiet::explain(alloc, &text)?.write(rt),
+        Asked::WhatChanges => trim::trim(rt, &text),
+    }
+}
+
+// A failure is said under the program's name, with what it failed at and why, as "standard output: No space left on device".
+fn main(rt: HostRuntime) -> ExitCode {
+    match run(&rt) {
+        Ok(()) => ExitCode::SUCCESS,
+        Err(error) => {
+            // Where standard error fails too, the status alone tells.
+            let _ = eprintln!(rt; "towanchor: {error:#}");
+            ExitCode::FAILURE
+        }
     }
 }

@@ -1,39 +1,63 @@
-// Standard output, and what stands there in place of answers.
-ghost use Rattle.std.specs.Prelude.{◌≡◌, IfOk, List, ℕ, Result, length};
+// What the program prints, and standard output.
+ghost use Rattle.std.specs.Prelude.{◌≡◌, true, IfOk, List, ℕ, Result, length, is_some, is_err};
 ghost use Rattle.std.specs.Fn.{FnOnceReturnsAtMut};
 ghost use Rattle.towanchor.specs.Printed.{refusal_text, kept_of};
 
+use super::refusals::Refused;
 use anyhow::Context;
 use bus::refusals::Numbered;
 use std::alloc::{AllocError, Global};
 use text::{LF, digits};
 
-pub(super) fn write(rt: &impl Print, bytes: &[u8]) -> anyhow::Result<()> {
-    rt.write_all(bytes).context("standard output")
+// What is printed of a text, and why the whole of it was refused, where it was.
+#[derive(Drop)]
+pub(super) struct Printed {
+    pub text: Vec<u8>,
+    pub refused: Option<Refused>,
+}
+
+impl Printed {
+    // Writes it to standard output. That the whole text was refused is the program's own failure.
+    pub(super) fn write(&self, rt: &impl Print) -> anyhow::Result<()> {
+        rt.write_all(&self.text).context("standard output")?;
+        match self.refused {
+            None => Ok(()),
+            Some(why) => Err(why.into()),
+        }
+    }
 }
 
 // The number of a refusal, in two digits, and LF.
-pub(super) fn refusal<R: Numbered>(alloc: Global, refusal: R) -> Result<Vec<u8>, AllocError>
-    ensures { IfOk result (λ out. out.items ≡ refusal_text (R.number_of refusal)) }
+pub(super) fn refusal<R: Numbered + Into<Refused>>(
+    alloc: Global,
+    refusal: R,
+) -> Result<Printed, AllocError>
+    ensures { IfOk result (λ printed. (printed.text.items ≡ refusal_text (R.number_of refusal)) × (is_some printed.refused ≡ true)) }
 {
     let [high, low] = digits::of_byte(refusal.number());
-    Ok(vec![in alloc; high, low, LF]?)
+    Ok(Printed {
+        text: vec![in alloc; high, low, LF]?,
+        refused: Some(refusal.into()),
+    })
 }
 
-// What is printed of a run, which says how many bytes of the room that it got are answers, or the number of its refusal.
-pub(super) fn of_run<R: Numbered, F: FnOnce(&mut [u8]) -> Result<usize, R>>(
+// What is printed of a run, which says how many bytes of the room that it got are answers, or why it is refused.
+pub(super) fn of_run<R: Numbered + Into<Refused>, F: FnOnce(&mut [u8]) -> Result<usize, R>>(
     alloc: Global,
     size: usize,
     run: F,
-) -> Result<Vec<u8>, AllocError>
+) -> Result<Printed, AllocError>
     requires { F.IsAlwaysCallable run }
-    ensures { IfOk result (λ out. (before after : List ℕ) × (ran : Result ℕ R) × (length before ≡ size) × FnOnceReturnsAtMut F.FnOnce run before ran after × (out.items ≡ kept_of R.number_of ran after)) }
+    ensures { IfOk result (λ printed. (before after : List ℕ) × (ran : Result ℕ R) × (length before ≡ size) × FnOnceReturnsAtMut F.FnOnce run before ran after × (printed.text.items ≡ kept_of R.number_of ran after) × (is_some printed.refused ≡ is_err ran)) }
 {
     let mut out = vec![in alloc; 0; size]?;
     match run(&mut out) {
         Ok(length) => {
             out.truncate(length);
-            Ok(out)
+            Ok(Printed {
+                text: out,
+                refused: None,
+            })
         }
         Err(why) => refusal(alloc, why),
     }

@@ -1,8 +1,11 @@
 // What each group's INTR is doing after the last line of a script, and why, in plain words. include/towanchor.h has the same words for
 // hosts in C.
-ghost use Rattle.std.specs.Prelude.{◌≡◌};
+ghost use Rattle.std.specs.Prelude.{◌≡◌, IfOk, is_some};
+ghost use Rattle.script.specs.Run.{too_long};
 ghost use Rattle.towanchor.specs.Left.{told, left_of};
 
+use super::output::Printed;
+use super::refusals::Refused;
 use channel::Side;
 use chip::reasons::{Explained, Reason};
 use chip::{Chip, Edition, Levels};
@@ -66,13 +69,7 @@ fn left_by(text: &[u8]) -> Result<Left, RunRefusal>
 }
 
 // What is said of the chip that a script leaves. One that was refused in part may have left another chip than its writer had in mind.
-pub(super) fn explain(alloc: Global, text: &[u8]) -> Result<String, AllocError> {
-    let Ok(left) = left_by(text) else {
-        return String::from_str(
-            alloc,
-            "the text is longer than 4,096 bytes, and was not run\n",
-        );
-    };
+fn of_left(alloc: Global, left: Left) -> Result<String, AllocError> {
     let mut said = String::new(alloc);
     group(&mut said, 'A', left.chip.explain(Group::A))?;
     group(&mut said, 'B', left.chip.explain(Group::B))?;
@@ -84,4 +81,23 @@ pub(super) fn explain(alloc: Global, text: &[u8]) -> Result<String, AllocError> 
         )?;
     }
     Ok(said)
+}
+
+// Where the text is too long, that is said in place of all this.
+pub(super) fn explain(alloc: Global, text: &[u8]) -> Result<Printed, AllocError>
+    ensures { IfOk result (λ printed. is_some printed.refused ≡ too_long text.now) }
+{
+    match left_by(text) {
+        Ok(left) => Ok(Printed {
+            text: of_left(alloc, left)?.into_bytes(),
+            refused: None,
+        }),
+        Err(refusal) => {
+            let why = Refused::from(refusal);
+            Ok(Printed {
+                text: format!(in alloc; "{why}\n")?.into_bytes(),
+                refused: Some(why),
+            })
+        }
+    }
 }

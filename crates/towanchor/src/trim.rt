@@ -1,5 +1,6 @@
 // The lines of a script that change the chip, found by the function by which a host trims its journal.
-use super::{output, strays};
+use super::output::{self, Printed};
+use super::strays;
 use bus::kinds::Kind;
 use chip::{Edition, Levels};
 use journal::words::Logged;
@@ -44,19 +45,25 @@ fn lines(alloc: Global, log: &[u32]) -> Result<String, AllocError> {
 
 // Where a line is no frame the whole text is refused, and such lines are named on standard error.
 pub(super) fn trim(rt: &(impl Print + Eprint + AllocGlobal), text: &[u8]) -> anyhow::Result<()> {
+    let alloc = rt.alloc();
     if LONGEST < text.len() {
-        return output::write(rt, &output::refusal(rt.alloc(), RunRefusal::TooLong)?);
+        return output::refusal(alloc, RunRefusal::TooLong)?.write(rt);
     }
-    let mut log = words_of(rt.alloc(), text)?;
+    let mut log = words_of(alloc, text)?;
     match journal::trim(&mut log, Edition::Older, Levels::HIGH) {
         Ok(kept) => {
             // The words that were kept stand in front.
             log.truncate(kept);
-            output::write(rt, lines(rt.alloc(), &log)?.as_bytes())
+            Printed {
+                text: lines(alloc, &log)?.into_bytes(),
+                refused: None,
+            }
+            .write(rt)
         }
         Err(refusal) => {
-            output::write(rt, &output::refusal(rt.alloc(), refusal)?)?;
-            strays::name(rt, text)
+            let ended = output::refusal(alloc, refusal)?.write(rt);
+            strays::name(rt, text)?;
+            ended
         }
     }
 }

@@ -1,0 +1,47 @@
+// Why the whole of a text is refused, in plain words. The number that is printed in place of answers is the library's own.
+use journal::TrimRefusal;
+use rackscript::RackRunRefusal;
+use script::RunRefusal;
+use thiserror::Error;
+
+#[derive(Clone, Copy, Debug, Error)]
+pub(super) enum Refused {
+    #[error("a line is no frame, and nothing was trimmed")]
+    NoFrame,
+    #[error("the text is longer than 4,096 bytes, and was not run")]
+    TooLong,
+    #[error("there is no room for the answers")]
+    NoRoom,
+    #[error("there is no such edition")]
+    NoEdition,
+    #[error("the first line is no rack, and no further line was answered")]
+    NoRack,
+}
+
+impl From<RunRefusal> for Refused {
+    fn from(refusal: RunRefusal) -> Self {
+        match refusal {
+            RunRefusal::TooLong => Refused::TooLong,
+            RunRefusal::NoRoom => Refused::NoRoom,
+        }
+    }
+}
+
+impl From<RackRunRefusal> for Refused {
+    fn from(refusal: RackRunRefusal) -> Self {
+        match refusal {
+            RackRunRefusal::BadRack(_) => Refused::NoRack,
+            RackRunRefusal::Run(refusal) => refusal.into(),
+        }
+    }
+}
+
+impl From<TrimRefusal> for Refused {
+    fn from(refusal: TrimRefusal) -> Self {
+        match refusal {
+            TrimRefusal::NoFrame => Refused::NoFrame,
+            TrimRefusal::TooLong => Refused::TooLong,
+            TrimRefusal::NoEdition => Refused::NoEdition,
+        }
+    }
+}
