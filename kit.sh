@@ -1,5 +1,5 @@
 # What ./build, ./run, ./test, bench/measure and scripts of tests/ have in common: where the Rattle kit has its tools, how a program that they
-# linked is run, whether something has to be built, how it is built, and how is told how far that is.
+# linked is run, whether something has to be built, how it is built, and how they say how far that is.
 # shellcheck shell=sh disable=SC2034
 home=$(dirname "$(dirname "$(readlink -f "$(command -v rt)")")")
 tools=$home/toolchain
@@ -86,8 +86,8 @@ leave_line() {
 }
 
 # Proves and builds these crates and all that they rest on, each in its folder, and tells how far that is. Code is built for every x86-64
-# processor, of which rt by itself asks for some that the first of them lack. Where a crate cannot be proved or built this is false, and it was
-# said why.
+# processor, of which rt by itself asks for some that the first of them lack. Where a crate cannot be proved or built it
+# says why, and is false.
 prove() ( # WHO REPOSITORY CRATE..
     who=$1 repository=$2
     shift 2
