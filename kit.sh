@@ -125,7 +125,12 @@ prove() ( # WHO REPOSITORY CRATE..
     leave_line
 )
 
+# Where the program of a crate stands that was built so. One in a folder out/ may be for later processors, as rt ci builds it.
+program_of() { printf '%s\n' "$1/target/programs/$2"; } # REPOSITORY CRATE
+
 # Proves and builds the program of a crate, unless it is fresh.
 built() { # WHO REPOSITORY CRATE
-    is_fresh "$2" "$2/crates/$3/out/$3" "$3" || prove "$@"
+    is_fresh "$2" "$(program_of "$2" "$3")" "$3" || {
+        prove "$@" && mkdir -p "$2/target/programs" && cp "$2/crates/$3/out/$3" "$2/target/programs"
+    }
 }
