@@ -1,4 +1,5 @@
--- A journal in which each reason to keep an event, and each to drop one, is seen ("Trimming the journal").
+-- A journal in which each reason to keep an event, but for a reset while a cycle runs, and each to drop one, is seen ("Trimming the
+-- journal").
 use Rattle.std.specs.Prelude.{List, [], ◌∷◌, ◌++◌, ℕ, replicate}
 use Rattle.chip.specs.declared.Edition.{Edition}
 use Rattle.chip.specs.State.{all_high}

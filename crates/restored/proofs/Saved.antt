@@ -1,4 +1,4 @@
--- What is promised of every byte from a chip on that a host restores from an image; and what the host holds after a power-up.
+-- What is promised of every byte, beginning at a chip that a host restores from an image; and what the host holds after a power-up.
 -- Rests on Conditions, Stays and Holds, on image's ComesBack and SameBytes, and on fates' Tables, SurroundingsKept, Followed, SameByte,
 -- InTheLatch, Discipline, Unforced and EveryByte.
 use mathlib.Core.Path.{◌≡◌, ◌∙◌, ap, sym, subst}

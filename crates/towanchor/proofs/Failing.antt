@@ -1,4 +1,4 @@
--- The program fails exactly where it prints a number alone: answers are none, or five bytes or more.
+-- A text is refused exactly where a number alone is printed of it: answers are none, or five bytes or more.
 -- Rests on script's Pieces and on rackscript's Enough.
 use Rattle.std.proofs.Common.{◌≡◌, ℕ, zero, suc, ◌+◌, ◌*◌, Bool, true, false, List, length, ap, sym, ◌∙◌, refl, eqb, arith}
 use borrow.Author.Tests.{ne_eqb}

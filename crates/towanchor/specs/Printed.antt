@@ -43,6 +43,6 @@ printed_of_rack text =
     (cond (not (names_rack text)) (refusal_text bad_rack_number)
     (answers_from answering (rack_named text) (to_answer text)))
 
--- Whether the whole of a rack's script is refused. One of a device is where it is too long.
+-- Whether the whole of a rack's script is refused. A device's script is refused where it is too long.
 abbrev pub refuses_rack : List ℕ → Bool
 refuses_rack text = too_long text || not (names_rack text)

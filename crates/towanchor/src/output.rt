@@ -17,7 +17,7 @@ pub(super) struct Printed {
 }
 
 impl Printed {
-    // Writes it to standard output. That the whole text was refused is the program's own failure.
+    // Writes it to standard output. Where the whole text was refused, the program fails, and says why.
     pub(super) fn write(&self, rt: &impl Print) -> anyhow::Result<()> {
         rt.write_all(&self.text).context("standard output")?;
         match self.refused {

@@ -5,7 +5,7 @@ use text::lines::Lines;
 // How many of them are named. Of the others it is said how many they are.
 const MOST_NAMED: usize = 10;
 
-// Each such line in turn, by its number, which counts from 1.
+// The first such lines in turn, each by its number, which counts from 1, and how many more there are.
 pub(super) fn name(rt: &impl Eprint, text: &[u8]) -> anyhow::Result<()> {
     let mut strays = (1u64..)
         .zip(Lines::new(text))

@@ -43,7 +43,7 @@ fn lines(alloc: Global, log: &[u32]) -> Result<String, AllocError> {
     Ok(out)
 }
 
-// Where a line is no frame the whole text is refused, and such lines are named on standard error.
+// Where a line is no frame the whole text is refused, and the first of such lines are named on standard error.
 pub(super) fn trim(rt: &(impl Print + Eprint + AllocGlobal), text: &[u8]) -> anyhow::Result<()> {
     let alloc = rt.alloc();
     if LONGEST < text.len() {
