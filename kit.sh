@@ -54,14 +54,17 @@ since() ( # MOMENT
 )
 
 # Says on standard error how many crates are proved, and since when they are being proved: on a terminal in one line, which is written anew
-# each second until the next is told, and elsewhere in a line of its own.
+# each second until the next is told, and elsewhere, or where a script that passes on other words sets in_lines, in a line of its own.
 ticker=
+in_lines=
+is_one_line() { [ -t 2 ] && [ -z "$in_lines" ]; }
+
 tell() { # WHO MOMENT PROVED COUNT REST
     stop_telling
-    if [ -t 2 ]; then
+    if is_one_line; then
         write_anew "$@"
         # It ends with the script, however that ends.
-        while sleep 1 && kill -0 $$ 2>/dev/null; do write_anew "$@"; done &
+        while sleep 1 && kill -0 $$ 2>/dev/null; do write_anew "$@"; done >/dev/null &
         ticker=$!
     else
         printf '%s\n' "$(count_told "$@")" >&2
@@ -74,7 +77,7 @@ write_anew() { printf '\r%-72s' "$(count_told "$@")" >&2; }
 
 stop_telling() {
     [ -n "$ticker" ] || return 0
-    kill "$ticker"
+    kill -KILL "$ticker" 2>/dev/null
     wait "$ticker" 2>/dev/null
     ticker=
 }
@@ -82,7 +85,7 @@ stop_telling() {
 # Leaves the line that is written anew.
 leave_line() {
     stop_telling
-    [ ! -t 2 ] || echo >&2
+    ! is_one_line || echo >&2
 }
 
 # Proves and builds these crates and all that they rest on, each in its folder, and tells how far that is. Code is built for every x86-64
@@ -94,6 +97,8 @@ prove() ( # WHO REPOSITORY CRATE..
     crates=$(made_of "$repository" "$@")
     count=$(printf '%s\n' "$crates" | wc -l | tr -d ' ') proved=0 begun=$(date +%s)
     for crate in $crates; do
+        # Nothing more is begun where the script was told to end, and this shell was not.
+        kill -0 $$ 2>/dev/null || return 1
         sources=$repository/crates/$crate
         tell "$who" "$begun" "$proved" "$count" "; next is $crate"
         if ! mkdir -p "$sources/out" 2>/dev/null || [ ! -w "$sources/out" ]; then
@@ -128,9 +133,11 @@ prove() ( # WHO REPOSITORY CRATE..
 # Where the program of a crate stands that was built so. One in a folder out/ may be for later processors, as rt ci builds it.
 program_of() { printf '%s\n' "$1/target/programs/$2"; } # REPOSITORY CRATE
 
-# Proves and builds the program of a crate, unless it is fresh.
+# Proves and builds the program of a crate, unless it is fresh. It is put there whole: a part of it, as a full disk leaves, would count as fresh.
 built() { # WHO REPOSITORY CRATE
-    is_fresh "$2" "$(program_of "$2" "$3")" "$3" || {
-        prove "$@" && mkdir -p "$2/target/programs" && cp "$2/crates/$3/out/$3" "$2/target/programs"
-    }
+    is_fresh "$2" "$(program_of "$2" "$3")" "$3" && return
+    prove "$@" && mkdir -p "$2/target/programs" && cp "$2/crates/$3/out/$3" "$(program_of "$2" "$3").$$" &&
+        mv -f "$(program_of "$2" "$3").$$" "$(program_of "$2" "$3")" && return
+    rm -f "$(program_of "$2" "$3").$$"
+    return 1
 }

@@ -3,6 +3,11 @@
 # shellcheck shell=sh
 passed=0 failed=0
 
+# A shell that a signal ends does not everywhere do what it is to do at its end, as to remove its files.
+trap 'exit 129' HUP
+trap 'exit 130' INT
+trap 'exit 143' TERM
+
 verdict() { # STATUS WHAT
     if [ "$1" -eq 0 ]; then
         echo "ok: $2"
