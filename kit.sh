@@ -89,8 +89,7 @@ leave_line() {
 }
 
 # Proves and builds these crates and all that they rest on, each in its folder, and tells how far that is. Code is built for every x86-64
-# processor, of which rt by itself asks for some that the first of them lack. Where a crate cannot be proved or built it
-# says why, and is false.
+# processor: rt by itself uses instructions that the first of them lack. Where a crate cannot be proved or built it says why, and is false.
 prove() ( # WHO REPOSITORY CRATE..
     who=$1 repository=$2
     shift 2

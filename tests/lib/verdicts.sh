@@ -3,7 +3,7 @@
 # shellcheck shell=sh
 passed=0 failed=0
 
-# A shell that a signal ends does not everywhere do what it is to do at its end, as to remove its files.
+# Not every shell that a signal ends does what it is to do at its end, as removing its files.
 trap 'exit 129' HUP
 trap 'exit 130' INT
 trap 'exit 143' TERM
