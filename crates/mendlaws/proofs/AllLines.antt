@@ -18,7 +18,7 @@ use Rattle.mend.proofs.Fit.{event-of}
 use Rattle.mend.proofs.Cleaning.{clean_in, of-a-fit, of-another}
 use Rattle.mend.proofs.Judging.{frame-stays, sign_kept}
 use Rattle.mendlaws.specs.Says.{Digit, figure, letter, AllSay, none as none-say, next as next-says}
-use Rattle.mendlaws.specs.Becomes.{AllBecome, none, next}
+use Rattle.mendlaws.specs.Becomes.{AllBecome, none, next, BecomeOneThing}
 use Rattle.mendlaws.proofs.Spelled.{AllDigits, over, digit, said-in-digits}
 use Rattle.mendlaws.proofs.OneLine.{events_of, says-frame, says-event, frame-says, becomes, only}
 
@@ -36,6 +36,15 @@ all-only (next one others) =
     let k = only one in
     let m = all-only others in
     (λ i. k.0 i ∷ m.0 i, λ i. k.1 i ++ m.1 i, λ i. k.2 i ++ m.2 i)
+
+pub become-one-thing : (ls : List Line) → BecomeOneThing ls
+become-one-thing ls = record {
+  signs = map sign_of ls;
+  clean = flat_map clean_in ls;
+  events = flat_map events_of ls;
+  become = all-become ls;
+  alone = all-only;
+}
 
 -- A line of digits, with its LF, is the first line of a text that begins so.
 no-lf : {c n : ℕ} → Digit c n → eqb c lf ≡ false

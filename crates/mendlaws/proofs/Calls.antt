@@ -1,4 +1,5 @@
 -- A call by its number: what an accepted one writes to the front of both outputs, and what a refused one leaves.
+-- The call of Rattle tells what the call for C answers.
 -- Rests on mend's Numbers.
 use mathlib.Core.Path.{◌≡◌, ◌∙◌, ap, sym}
 use mathlib.Core.List.{List}
@@ -6,10 +7,14 @@ use Prim.Native.Nat.{ℕ, ◌≤◌}
 use native.Mathlib.Omega.{arith}
 use lib.ListN.{length, take, drop, length-append, length-drop}
 use lib.Seq.{take_at, drop_at}
+use Rattle.std.specs.Prelude.{Result, Ok, Err}
 use Rattle.text.specs.Lines.{line_count}
-use Rattle.mend.specs.Mend.{clean_of, report_of, mend_number, in_front, clean_left, report_left}
-use Rattle.mend.proofs.Numbers.{Accepted, signs-counted, when-accepted, clean-answered, report-answered, refused, written}
-use Rattle.mendlaws.specs.Promise.{clean_length, sign_count, clean_text, signs, RefusedWith}
+use Rattle.mend.specs.declared.Mended.{Mended as Lengths}
+use Rattle.mend.specs.declared.MendRefusal.{MendRefusal}
+use Rattle.mend.specs.declared.MendRefusal.TheVariants.{TooLong, NoRoom}
+use Rattle.mend.specs.Mend.{clean_of, report_of, mend_number, Outcome, outcome_of, mend_told, in_front, clean_left, report_left}
+use Rattle.mend.proofs.Numbers.{Accepted, signs-counted, number_is, lengths-are, when-accepted, number-answered, clean-answered, report-answered, refused, written}
+use Rattle.mendlaws.specs.Promise.{clean_length, sign_count, clean_text, signs, RefusedWith, Tells}
 
 -- An output with bytes in front, for which there is room.
 module _ (bytes out : List ℕ) where
@@ -75,3 +80,19 @@ module _ (text clean report : List ℕ) where
     pub report-behind : drop (sign_count text clean report) (report_left text clean report) ≡ drop (sign_count text clean report) report
     report-behind =
         (λ i. drop (sign-count i) (report-left i)) ∙ behind (report_of text) report ∙ ap (λ (n : ℕ). drop n report) (sym sign-count)
+
+-- What the call of Rattle tells, the call for C answers.
+pub tells : (text clean report : List ℕ) (r : Result Lengths MendRefusal) → mend_told r ≡ outcome_of text (length clean) (length report) → Tells text clean report r
+tells text clean report r told = go r told (ap (λ (o : Outcome). o.number) told ∙ number_is text (length clean) (length report))
+  where
+    go : (r : Result Lengths MendRefusal) → mend_told r ≡ outcome_of text (length clean) (length report)
+        → (mend_told r).number ≡ number text clean report → Tells text clean report r
+    go (Ok m) told zero =
+        let none = sym zero in
+        let is = told ∙ lengths-are text (length clean) (length report) none in (
+          number-answered text (length clean) (length report) ∙ none,
+          clean-answered text (length clean) (length report) none ∙ sym (ap (λ (o : Outcome). o.clean) is),
+          report-answered text (length clean) (length report) none ∙ sym (ap (λ (o : Outcome). o.report) is),
+        )
+    go (Err TooLong) told six = (refused-with text clean report 6 (sym six) (λ e. omega (arith, e))).0
+    go (Err NoRoom) told seven = (refused-with text clean report 7 (sym seven) (λ e. omega (arith, e))).0

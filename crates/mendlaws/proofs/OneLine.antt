@@ -8,6 +8,7 @@ use native.Mathlib.Omega.{arith}
 use lib.Dec.{eqb}
 use lib.ListN.{length}
 use borrow.Author.Tests.{eqb-true}
+use Rattle.std.specs.Prelude.{◌↔◌}
 use Rattle.bits.proofs.Logic.{contrary}
 use Rattle.bus.specs.Event.{Event}
 use Rattle.text.specs.Lines.{Line, ended, rest}
@@ -38,6 +39,9 @@ pub frame-says : (bytes : List ℕ) → is_frame bytes ≡ true → Says bytes (
 unfolding frame_of
 frame-says bytes is = rw (is) (is-shape bytes is)
 
+pub frame-exactly : (bytes : List ℕ) → (is_frame bytes ≡ true) ↔ ((e : Event) × Says bytes e)
+frame-exactly bytes = (λ is. (event_of (frame_of bytes), frame-says bytes is), λ (e, says). says-frame says)
+
 -- Nothing is left of blank lines, and of no others.
 blank_of : (bytes : List ℕ) → length (without_cr bytes) ≡ 0 → Blank bytes
 unfolding without_cr
@@ -54,7 +58,7 @@ unfolding without_cr
 of-blank nothing = refl
 of-blank cr-alone = refl
 
-same-bytes : (l : Line) → bytes_in l ≡ bytes_of l
+pub same-bytes : (l : Line) → bytes_in l ≡ bytes_of l
 same-bytes (ended bytes) = refl
 same-bytes (rest bytes) = refl
 

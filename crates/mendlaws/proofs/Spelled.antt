@@ -17,17 +17,17 @@ use Rattle.mendlaws.specs.Says.{Digit, figure, letter, Byte, Says, reset, begin_
 use Rattle.mendlaws.specs.Spells.{StandsFor, itself, small, Spells, done, cr as cr-left, next}
 
 -- What is raised: the codes from 97 to 102, by a test, and no code below or above.
-raised_below : (b : ℕ) → b < 97 → raised b ≡ b
+pub raised_below : (b : ℕ) → b < 97 → raised b ≡ b
 unfolding raised
 raised_below b few = numbers 97 raised (λ b. b) tt b few
 
-raised-small : (b : ℕ) → 97 ≤ b → b ≤ 102 → raised b ≡ b - 32
+pub raised-small : (b : ℕ) → 97 ≤ b → b ≤ 102 → raised b ≡ b - 32
 unfolding raised
 raised-small b many few =
     let place : b ≡ 97 + (b - 97) = omega (arith, many) in
     ap raised place ∙ numbers 6 (λ n. raised (97 + n)) (λ n. 65 + n) tt (b - 97) (omega (arith, few)) ∙ omega (arith, many)
 
-raised-above : (b : ℕ) → 103 ≤ b → raised b ≡ b
+pub raised-above : (b : ℕ) → 103 ≤ b → raised b ≡ b
 unfolding raised
 raised-above b many = ap (λ n. get_or (drop 10 digits) n b) (no_place small_digits 0 103 b refl many)
 

@@ -25,3 +25,12 @@ pub data AllBecome : List Line → List ℕ → List ℕ → List Event → Type
   none : AllBecome [] [] [] []
   next : {l : Line} {ls : List Line} {s : ℕ} {signs part clean : List ℕ} {es later : List Event}
       → Becomes l s part es → AllBecome ls signs clean later → AllBecome (l ∷ ls) (s ∷ signs) (part ++ clean) (es ++ later)
+
+-- The lines become one thing and one alone: these signs, this clean script and these events.
+pub record BecomeOneThing (ls : List Line) : Type 0 where
+  pub signs : List ℕ
+  pub clean : List ℕ
+  pub events : List Event
+  pub become : AllBecome ls signs clean events
+  pub alone : {other_signs other_clean : List ℕ} {others : List Event} → AllBecome ls other_signs other_clean others
+      → (other_signs ≡ signs) × (other_clean ≡ clean) × (others ≡ events)

@@ -1,5 +1,6 @@
 pub mod Says
 pub mod Spells
 pub mod Becomes
+pub mod Steps
 pub mod Promise
 pub mod Example

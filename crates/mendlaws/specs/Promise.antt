@@ -1,6 +1,6 @@
 -- What is promised of a call that mends a captured script: of its number, of both outputs, and of what the clean script means
 -- ("Mending captured scripts").
-use Rattle.std.specs.Prelude.{◌≡◌, cond, ◌||◌, List, [], ◌∷◌, ℕ, suc, ◌+◌, ◌/◌, ◌%◌, ◌<◌, ◌≤◌, eqb, length, take, drop, replicate}
+use Rattle.std.specs.Prelude.{◌≡◌, cond, ◌||◌, List, [], ◌∷◌, ℕ, suc, ◌+◌, ◌/◌, ◌%◌, ◌<◌, ◌≤◌, eqb, length, take, drop, replicate, Result, Ok, Err}
 use Rattle.bus.specs.Event.{Event}
 use Rattle.chip.specs.declared.Chip.{Chip}
 use Rattle.chip.specs.Pins.{pins_of}
@@ -12,6 +12,9 @@ use Rattle.text.specs.Lines.{lines_of, line_count}
 use Rattle.text.specs.History.{history_of}
 use Rattle.script.specs.Answers.{by_device, answers_of}
 use Rattle.script.specs.History.{answers_to}
+use Rattle.mend.specs.declared.Mended.{Mended as Lengths}
+use Rattle.mend.specs.declared.MendRefusal.{MendRefusal}
+use Rattle.mend.specs.declared.MendRefusal.TheVariants.{TooLong, NoRoom}
 use Rattle.mend.specs.Mend.{mend_answer, clean_left, report_left}
 use Rattle.mendlaws.specs.Says.{AllSay}
 use Rattle.mendlaws.specs.Becomes.{AllBecome}
@@ -84,3 +87,10 @@ pub record Numbered (text clean report cs ss : List ℕ) : Type 0 where
   pub no_report_room : length text ≤ 4096 → length cs ≤ 4096 → length report < length ss → RefusedWith 7 text clean report
   pub accepted : length text ≤ 4096 → length cs ≤ 4096 → length cs ≤ length clean → length ss ≤ length report → answer_of text clean report % 256 ≡ 0
   pub one_more : length cs ≤ length text + 1
+
+-- The call of Rattle tells what the call for C answers: where it is accepted, both lengths; where it is refused, for which number.
+abbrev pub Tells : List ℕ → List ℕ → List ℕ → Result Lengths MendRefusal → Type 0
+Tells text clean report (Ok lengths) =
+    (answer_of text clean report % 256 ≡ 0) × (clean_length text clean report ≡ lengths.clean) × (sign_count text clean report ≡ lengths.report)
+Tells text clean report (Err TooLong) = answer_of text clean report ≡ 6
+Tells text clean report (Err NoRoom) = answer_of text clean report ≡ 7

@@ -1,2 +1,60 @@
-//! Theorems about the mending of captured scripts, in specs/ and proofs/. This crate has no function.
+//! Theorems about the mending of captured scripts. A function here does nothing: its contract is the theorem.
 #![tactic(auto)]
+
+ghost use Rattle.std.specs.Prelude.{◌≡◌, ◌↔◌, ◌≤◌, ◌%◌, true, List, ℕ, length, Result};
+ghost use Rattle.bus.specs.Event.{Event};
+ghost use Rattle.text.specs.Lines.{Line, lines_of, line_count};
+ghost use Rattle.text.specs.Frames.{is_frame, frame_of};
+ghost use Rattle.text.specs.History.{event_of};
+ghost use Rattle.mend.specs.declared.Mended.{Mended as Lengths};
+ghost use Rattle.mend.specs.declared.MendRefusal.{MendRefusal};
+ghost use Rattle.mend.specs.Mend.{mend_told, outcome_of};
+ghost use Rattle.mendlaws.specs.Says.{Says, AllSay};
+ghost use Rattle.mendlaws.specs.Becomes.{AllBecome, BecomeOneThing};
+ghost use Rattle.mendlaws.specs.Steps.{MeansTheSame};
+ghost use Rattle.mendlaws.specs.Promise.{answer_of, Stays, Mended, Numbered, Tells};
+ghost use Rattle.mendlaws.specs.Example.{a_capture, all_of, given, said};
+
+/// Lines become one thing and one alone: a sign each, a clean script, and the events that it says.
+pub fn lines_become_one_thing()
+    ensures { (ls : List Line) → BecomeOneThing ls }
+{}
+
+/// A line is a frame exactly where it says an event in plain codes, and it is read as that event.
+pub fn frames_say_events()
+    ensures frame { (bytes : List ℕ) → (is_frame bytes ≡ true) ↔ ((e : Event) × Says bytes e) }
+    ensures event { (bytes : List ℕ) (e : Event) → Says bytes e → event_of (frame_of bytes) ≡ e }
+{}
+
+/// A kept or mended line means the same frame as before: the one that the line is once a rest has its LF, one CR is dropped and digits are raised.
+/// Any other line is no frame even then.
+pub fn fit_lines_mean_the_same()
+    ensures { (l : Line) → MeansTheSame l }
+{}
+
+/// The number of every call: 6 where the text or its clean form is longer than 4,096 bytes, then 7 where an output is too short, and else 0. A
+/// refused call changes neither output.
+pub fn calls_are_numbered()
+    ensures { (text clean report signs script : List ℕ) (es : List Event) → AllBecome (lines_of text) signs script es → Numbered text clean report script signs }
+{}
+
+/// The call of Rattle tells the same as the call for C: its two lengths, or the number of its refusal.
+pub fn both_calls_tell_the_same()
+    ensures { (text clean report : List ℕ) (r : Result Lengths MendRefusal) → mend_told r ≡ outcome_of text (length clean) (length report) → Tells text clean report r }
+{}
+
+/// An accepted call writes the clean script, and one sign for each line of the text; what stood behind both stays. No line of the clean script is
+/// malformed. Its answers are those to the frames of the text, in order. Mended again, it stays as it is.
+pub fn accepted_calls_mend()
+    ensures { (text clean report : List ℕ) → answer_of text clean report % 256 ≡ 0 → Mended text clean report }
+{}
+
+/// A text of at most 4,096 bytes, of which no line is malformed, comes out equal where both outputs have room, and each of its lines is kept.
+pub fn clean_texts_stay()
+    ensures { (text clean report : List ℕ) (es : List Event) → AllSay (lines_of text) es → length text ≤ 4096 → length text ≤ length clean → line_count text ≤ length report → Stays text clean report }
+{}
+
+/// The example has each reason to keep, to mend and to leave out a line: the call gives the clean script and the signs that stand beside it.
+pub fn example_is_mended()
+    ensures { given (all_of a_capture) ≡ said }
+{}

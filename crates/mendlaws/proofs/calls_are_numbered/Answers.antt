@@ -1,0 +1,7 @@
+-- The number of every call.
+-- Rests on Mended.
+use Rattle.mendlaws.proofs.Mended.{numbered}
+use Rattle.mendlaws.proofs.calls_are_numbered.Goals as goal
+
+pub returns : goal.returns
+returns c text clean report signs script es = numbered text clean report
