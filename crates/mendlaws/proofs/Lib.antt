@@ -5,4 +5,5 @@ pub mod Steps
 pub mod AllLines
 pub mod Calls
 pub mod Mended
+pub mod Longest
 pub mod Example

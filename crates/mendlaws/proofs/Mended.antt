@@ -36,7 +36,7 @@ module _ (text clean report : List ℕ) where
   unfolding mend_number
   long-text long = rw (lt-ltb _ _ long)
 
-  long-clean : longest_script < length (clean_of text) → number text clean report ≡ 6
+  pub long-clean : longest_script < length (clean_of text) → number text clean report ≡ 6
   unfolding mend_number
   long-clean long = rw (lt-ltb longest_script (length (clean_of text)) long, or-true (too_long text))
 

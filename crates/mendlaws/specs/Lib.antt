@@ -3,4 +3,5 @@ pub mod Spells
 pub mod Becomes
 pub mod Steps
 pub mod Promise
+pub mod Longest
 pub mod Example

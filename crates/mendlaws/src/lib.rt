@@ -12,7 +12,8 @@ ghost use Rattle.mend.specs.Mend.{mend_told, outcome_of};
 ghost use Rattle.mendlaws.specs.Says.{Says, AllSay};
 ghost use Rattle.mendlaws.specs.Becomes.{AllBecome, BecomeOneThing};
 ghost use Rattle.mendlaws.specs.Steps.{MeansTheSame};
-ghost use Rattle.mendlaws.specs.Promise.{answer_of, Stays, Mended, Numbered, Tells};
+ghost use Rattle.mendlaws.specs.Promise.{answer_of, Stays, Mended, RefusedWith, Numbered, Tells};
+ghost use Rattle.mendlaws.specs.Longest.{lacks_one_lf};
 ghost use Rattle.mendlaws.specs.Example.{a_capture, all_of, given, said};
 
 /// Lines become one thing and one alone: a sign each, a clean script, and the events that it says.
@@ -36,6 +37,12 @@ pub fn fit_lines_mean_the_same()
 /// refused call changes neither output.
 pub fn calls_are_numbered()
     ensures { (text clean report signs script : List ℕ) (es : List Event) → AllBecome (lines_of text) signs script es → Numbered text clean report script signs }
+{}
+
+/// A text that is short enough may have a clean form that is too long: this one of 4,096 bytes lacks the last LF alone, and is refused with 6.
+pub fn clean_forms_may_be_too_long()
+    ensures short { length lacks_one_lf ≡ 4096 }
+    ensures refused { (clean report : List ℕ) → RefusedWith 6 lacks_one_lf clean report }
 {}
 
 /// The call of Rattle tells the same as the call for C: its two lengths, or the number of its refusal.

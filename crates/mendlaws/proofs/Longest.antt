@@ -1,0 +1,55 @@
+-- A text of 4,096 bytes whose clean form has one byte more is refused.
+-- Rests on Calls and Mended, and on mend's Cleaning.
+use mathlib.Core.Path.{◌≡◌, refl}
+use mathlib.Core.List.{List, [], ◌∷◌, flat_map}
+use Prim.Native.Nat.{ℕ, zero, suc, ◌+◌, ◌*◌, ◌<◌}
+use native.Mathlib.Omega.{arith}
+use lib.ListN.{length, length-append}
+use Rattle.bus.specs.Kinds.{is_kind, operands_of}
+use Rattle.text.specs.Digits.{digit_value, pair_value}
+use Rattle.text.specs.Lines.{lines_of}
+use Rattle.text.specs.Frames.{leading_byte, is_frame}
+use Rattle.mend.specs.Line.{without_cr, raised, mended, clean_line}
+use Rattle.mend.specs.Mend.{clean_of}
+use Rattle.mend.proofs.Cleaning.{clean_in}
+use Rattle.mendlaws.specs.Promise.{RefusedWith}
+use Rattle.mendlaws.specs.Longest.{ends_before, lacks_one_lf}
+use Rattle.mendlaws.proofs.Calls.{refused-with}
+use Rattle.mendlaws.proofs.Mended.{long-clean}
+
+-- Each line 02 is three bytes of the text, and of its clean form.
+bytes-before : (n : ℕ) (text : List ℕ) → length (ends_before n text) ≡ 3 * n + length text
+unfolding ends_before
+bytes-before zero text = omega arith
+bytes-before (suc n) text = omega (arith, bytes-before n text)
+
+abbrev end : List ℕ
+end = 48 ∷ 50 ∷ []
+
+three : length (clean_line end) ≡ 3
+unfolding is_kind operands_of digit_value pair_value leading_byte is_frame without_cr raised mended clean_line
+three = refl
+
+clean-before : (n : ℕ) (text : List ℕ) → length (clean_of (ends_before n text)) ≡ 3 * n + length (clean_of text)
+unfolding ends_before lines_of flat_map clean_of
+clean-before zero text = omega arith
+clean-before (suc n) text =
+    omega (arith, three, clean-before n text, length-append (clean_line end) (flat_map clean_in (lines_of (ends_before n text))))
+
+abbrev the_rest : List ℕ
+the_rest = 48 ∷ 49 ∷ 48 ∷ 48 ∷ []
+
+five : length (clean_of the_rest) ≡ 5
+unfolding flat_map is_kind operands_of digit_value pair_value lines_of leading_byte is_frame without_cr raised mended clean_line clean_of
+five = refl
+
+pub as-long-as-may-be : length lacks_one_lf ≡ 4096
+unfolding lacks_one_lf
+as-long-as-may-be = omega (arith, bytes-before 1364 the_rest)
+
+one-more : 4096 < length (clean_of lacks_one_lf)
+unfolding lacks_one_lf
+one-more = omega (arith, clean-before 1364 the_rest, five)
+
+pub refused-then : (clean report : List ℕ) → RefusedWith 6 lacks_one_lf clean report
+refused-then clean report = refused-with lacks_one_lf clean report 6 (long-clean lacks_one_lf clean report one-more) (λ e. omega (arith, e))
