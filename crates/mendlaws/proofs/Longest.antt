@@ -13,7 +13,7 @@ use Rattle.mend.specs.Line.{without_cr, raised, mended, clean_line}
 use Rattle.mend.specs.Mend.{clean_of}
 use Rattle.mend.proofs.Cleaning.{clean_in}
 use Rattle.mendlaws.specs.Promise.{RefusedWith}
-use Rattle.mendlaws.specs.Longest.{ends_before, lacks_one_lf}
+use Rattle.mendlaws.specs.Longest.{ends_before, fit_rest, lacks_one_lf}
 use Rattle.mendlaws.proofs.Calls.{refused-with}
 use Rattle.mendlaws.proofs.Mended.{long-clean}
 
@@ -36,20 +36,17 @@ clean-before zero text = omega arith
 clean-before (suc n) text =
     omega (arith, three, clean-before n text, length-append (clean_line end) (flat_map clean_in (lines_of (ends_before n text))))
 
-abbrev the_rest : List ℕ
-the_rest = 48 ∷ 49 ∷ 48 ∷ 48 ∷ []
-
-five : length (clean_of the_rest) ≡ 5
+five : length (clean_of fit_rest) ≡ 5
 unfolding flat_map is_kind operands_of digit_value pair_value lines_of leading_byte is_frame without_cr raised mended clean_line clean_of
 five = refl
 
 pub as-long-as-may-be : length lacks_one_lf ≡ 4096
 unfolding lacks_one_lf
-as-long-as-may-be = omega (arith, bytes-before 1364 the_rest)
+as-long-as-may-be = omega (arith, bytes-before 1364 fit_rest)
 
 one-more : 4096 < length (clean_of lacks_one_lf)
 unfolding lacks_one_lf
-one-more = omega (arith, clean-before 1364 the_rest, five)
+one-more = omega (arith, clean-before 1364 fit_rest, five)
 
 pub refused-then : (clean report : List ℕ) → RefusedWith 6 lacks_one_lf clean report
 refused-then clean report = refused-with lacks_one_lf clean report 6 (long-clean lacks_one_lf clean report one-more) (λ e. omega (arith, e))
