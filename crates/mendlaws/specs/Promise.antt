@@ -88,7 +88,7 @@ pub record Numbered (text clean report cs ss : List ℕ) : Type 0 where
   pub accepted : length text ≤ 4096 → length cs ≤ 4096 → length cs ≤ length clean → length ss ≤ length report → answer_of text clean report % 256 ≡ 0
   pub one_more : length cs ≤ length text + 1
 
--- The call of Rattle tells what the call for C answers: where it is accepted, both lengths; where it is refused, for which number.
+-- The call of Rattle tells what the call for C answers: where it is accepted, both lengths; where it is refused, the refusal with that number.
 abbrev pub Tells : List ℕ → List ℕ → List ℕ → Result Lengths MendRefusal → Type 0
 Tells text clean report (Ok lengths) =
     (answer_of text clean report % 256 ≡ 0) × (clean_length text clean report ≡ lengths.clean) × (sign_count text clean report ≡ lengths.report)
