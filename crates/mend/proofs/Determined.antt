@@ -2,11 +2,17 @@
 -- other answer tells.
 -- Rests on bits' Determined.
 use mathlib.Core.Path.{◌≡◌, ◌∙◌, refl, ap, sym}
-use Rattle.std.specs.Prelude.{cond, eqb, Result, Ok, Err}
+use Rattle.std.specs.Prelude.{ℕ, cond, eqb, Option, Some, None, Result, Ok, Err}
 use Rattle.bits.proofs.Determined.{Determines, equation-determines}
 use Rattle.mend.specs.declared.Mended.{Mended}
 use Rattle.mend.specs.declared.MendRefusal.{MendRefusal}
 use Rattle.mend.specs.declared.MendRefusal.TheVariants.{TooLong, NoRoom}
+use Rattle.mend.specs.declared.signs.Reason.{Reason}
+use Rattle.mend.specs.declared.signs.Sign.{Sign}
+use Rattle.mend.specs.declared.signs.Sign.TheVariants as Signs
+use Rattle.mend.specs.declared.signs.Sign.TheVariants.{Kept, Blank, Unfit}
+use Rattle.mend.specs.Line.{kept_sign, mended_sign, letter_of}
+use Rattle.mend.specs.Reason.{reason_told}
 use Rattle.mend.specs.Mend.{Outcome, mend_told}
 use Rattle.mend.specs.contracts as mend_says
 use Rattle.mend.proofs as mend
@@ -21,6 +27,25 @@ told-so : (r : Result Mended MendRefusal) → r ≡ answer_of (mend_told r)
 told-so (Ok m) = refl
 told-so (Err TooLong) = refl
 told-so (Err NoRoom) = refl
+
+-- The sign that has a letter and a reason. Before its answer stands the line, which is not written.
+abbrev sign_with : ℕ → Option Reason → Sign
+sign_with letter (Some reason) = Unfit reason
+sign_with letter None = cond (eqb letter kept_sign) Kept (cond (eqb letter mended_sign) Signs.Mended Blank)
+
+told-apart : (s : Sign) → s ≡ sign_with (letter_of s) (reason_told s)
+told-apart Kept = refl
+told-apart Signs.Mended = refl
+told-apart Blank = refl
+told-apart (Unfit reason) = refl
+
+pub sign-determined : Determines mend_says.signs.Sign.of.ended mend.signs.Sign.of.Reads.Learnt
+sign-determined c x y p q =
+    let result = told-apart x.0 ∙ (λ i. sign_with ((p.0 ∙ sym q.0) i) ((p.1 ∙ sym q.1) i)) ∙ sym (told-apart y.0) in
+    λ i. (result i, (tt, tt))
+
+pub letter-determined : Determines mend_says.signs.Sign.letter.ended mend.signs.Sign.letter.Reads.Learnt
+letter-determined c x y = equation-determines
 
 pub number-determined : Determines mend_says.MendRefusalNumbered.number.ended mend.MendRefusalNumbered.number.Reads.Learnt
 number-determined c x y = equation-determines

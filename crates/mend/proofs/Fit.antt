@@ -30,8 +30,8 @@ pub told-event : (o : Option events.Event) → is_event (frame_told o) ≡ is_so
 told-event (Some e) = refl
 told-event None = refl
 
-pub event-told : (o : Option events.Event) (l : Line) → frame_told o ≡ frame_in l → is_event (frame_in l) ≡ is_some o
-event-told o l told = sym (ap is_event told) ∙ told-event o
+pub event_told : (o : Option events.Event) (l : Line) → frame_told o ≡ frame_in l → is_event (frame_in l) ≡ is_some o
+event_told o l told = sym (ap is_event told) ∙ told-event o
 
 module _ (line : List ℕ) where
   pub mended-length : length (mended line) ≡ length (without_cr line)

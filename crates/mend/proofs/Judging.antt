@@ -1,14 +1,16 @@
 -- The sign of a line, by whether it is a frame as it stands, whether it is one when it is mended, and whether anything is left of it.
 -- A frame stays as it is when it is mended, and so just the frames are kept.
--- Rests on bits' Logic, Same and Tested, on text's WrittenBack, and on Fit.
+-- Rests on bits' Logic, Same and Tested, on text's WrittenBack, and on Fit, Cleaning and Unfit.
 use mathlib.Core.Path.{◌≡◌, ◌∙◌, refl, ap, sym}
 use mathlib.Core.Bool.{Bool, true, false, not, ◌&&◌}
-use mathlib.Core.List.{List, [], ◌∷◌, ◌++◌}
+use mathlib.Core.List.{List, [], ◌∷◌, ◌++◌, map}
 use Prim.Native.Nat.{ℕ, zero, suc, ◌/◌, ◌%◌}
 use native.Mathlib.Omega.{arith}
 use lib.Dec.{eqb}
 use lib.ListN.{length, get_or}
-use borrow.Author.Tests.{eqb-true, not-true}
+use borrow.Author.Tests.{eqb-true, eqb-false, not-true}
+use denote.Ref.{Bor}
+use Rattle.std.specs.Prelude.{Some, None}
 use Rattle.bits.specs.Same.{same_bytes}
 use Rattle.bits.proofs.Logic.{both, contrary}
 use Rattle.bits.proofs.Same.{same_lists, same_self}
@@ -16,12 +18,18 @@ use Rattle.bits.proofs.Tested.{bits}
 use Rattle.bus.specs.Kinds.{is_kind, operands_of}
 use Rattle.bus.specs.Event.{Event}
 use Rattle.text.specs.Digits.{digits, digit_code, in_digits}
+use Rattle.text.specs.declared.line.Line as lent
+use Rattle.text.specs.Answers.{line_of, bytes_lent}
 use Rattle.text.specs.Lines.{Line, ended, rest}
 use Rattle.text.specs.Frames.{leading_byte, is_frame, is_event, frame_in}
 use Rattle.text.specs.Written.{operands_out, written_out}
 use Rattle.text.proofs.WrittenBack.{event_in, written_back}
 use Rattle.mend.specs.Line.{bytes_of, cr, without_cr, raised, mended, is_blank, was_so, kept_sign, mended_sign, blank_sign, unfit_sign, sign_of}
+use Rattle.mend.specs.declared.signs.Reason.{Reason}
+use Rattle.mend.specs.Reason.{why, reason_of}
 use Rattle.mend.proofs.Fit.{event-of, mended-length}
+use Rattle.mend.proofs.Cleaning.{bytes-got}
+use Rattle.mend.proofs.Unfit.{no-reason, reason-given}
 
 -- A code to which nothing is done: it is no small digit, and no CR.
 abbrev plain_code : ℕ → Bool
@@ -121,3 +129,37 @@ module _ (l : Line) where
   pub sign-unfit : ¬ (length (without_cr (bytes_of l)) ≡ 0) → is_frame (mended (bytes_of l)) ≡ false → unfit_sign ≡ sign_of l
   unfolding sign_of
   sign-unfit some unfit = rw (none-if-blank (bytes_of l) some, unfit)
+
+-- The same in the words of what the functions answer: the letter and the reason of each sign.
+module _ (line : lent.Line) where
+  abbrev l : Line
+  l = line_of line
+
+  pub kept_reason : is_event (frame_in l) ≡ true → None ≡ reason_of l
+  kept_reason frame = no-reason l kept_sign (sign_kept l frame) refl
+
+  module _ (none : is_event (frame_in l) ≡ false) (bytes : Bor (List ℕ)) (lent : bytes ≡ bytes_lent line) (fit : is_frame (mended bytes.now) ≡ true) where
+    pub mended_letter : mended_sign ≡ sign_of l
+    mended_letter = sign-mended l none (ap (λ (bytes : List ℕ). is_frame (mended bytes)) (sym (bytes-got line bytes lent)) ∙ fit)
+
+    pub mended_reason : None ≡ reason_of l
+    mended_reason = no-reason l mended_sign mended_letter refl
+
+  module _ (bytes : Bor (List ℕ)) (lent : bytes ≡ bytes_lent line) (left : List ℕ) (is : left ≡ without_cr bytes.now) where
+    here : left ≡ without_cr (bytes_of l)
+    here = is ∙ ap without_cr (bytes-got line bytes lent)
+
+    pub blank_letter : eqb (length left) 0 ≡ true → blank_sign ≡ sign_of l
+    blank_letter none = sign-blank l (sym (ap length here) ∙ eqb-true (length left) 0 none)
+
+    pub blank_reason : eqb (length left) 0 ≡ true → None ≡ reason_of l
+    blank_reason none = no-reason l blank_sign (blank_letter none) refl
+
+    module _ (some : eqb (length left) 0 ≡ false) (other : is_frame (mended bytes.now) ≡ false) where
+      pub unfit_letter : unfit_sign ≡ sign_of l
+      unfit_letter =
+          sign-unfit l (λ none. eqb-false (length left) 0 some (ap length here ∙ none))
+          (ap (λ (bytes : List ℕ). is_frame (mended bytes)) (sym (bytes-got line bytes lent)) ∙ other)
+
+      pub unfit_reason : (reason : Reason) → reason ≡ why (map raised left) → Some reason ≡ reason_of l
+      unfit_reason reason given = reason-given l left reason unfit_letter here given

@@ -1,2 +1,4 @@
 pub mod Line
+pub mod Reason
+pub mod Words
 pub mod Mend

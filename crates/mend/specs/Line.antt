@@ -4,8 +4,8 @@ use Rattle.bits.specs.Same.{same_bytes}
 use Rattle.text.specs.Digits.{digits, place_from}
 use Rattle.text.specs.Lines.{lf, Line, ended, rest}
 use Rattle.text.specs.Frames.{is_frame}
-use Rattle.mend.specs.declared.line.Sign.{Sign}
-use Rattle.mend.specs.declared.line.Sign.TheVariants.{Kept, Mended, Blank, Unfit}
+use Rattle.mend.specs.declared.signs.Sign.{Sign}
+use Rattle.mend.specs.declared.signs.Sign.TheVariants.{Kept, Mended, Blank, Unfit}
 
 -- First, a rest gets its LF: from here on each line is its bytes, with LF behind them.
 abbrev pub bytes_of : Line → List ℕ
@@ -59,7 +59,7 @@ abbrev pub letter_of : Sign → ℕ
 letter_of Kept = kept_sign
 letter_of Mended = mended_sign
 letter_of Blank = blank_sign
-letter_of Unfit = unfit_sign
+letter_of (Unfit reason) = unfit_sign
 
 -- The sign of a line: blank; or fit, being a frame of the script, and then kept or mended; or unfit.
 unfoldable pub sign_of : Line → ℕ

@@ -11,6 +11,7 @@ use text::lines;
 mod clean;
 mod line;
 mod report;
+pub mod signs;
 
 /// How long the clean script and the report are.
 #[derive(Clone, Copy, Debug, PartialEq, Eq)]

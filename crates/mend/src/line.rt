@@ -1,9 +1,8 @@
-//! One line of a captured script: its bytes as they are mended, whether they are a frame then, and its sign.
+//! One line of a captured script: its bytes as they are mended, and whether they are a frame then.
 ghost use Rattle.std.specs.Prelude.{◌≡◌, ◌∷◌, ◌++◌, map, suc, ◌<◌, length, drop};
 ghost use Rattle.text.specs.Lines.{lf};
 ghost use Rattle.text.specs.Frames.{is_frame};
-ghost use Rattle.text.specs.Answers.{line_of};
-ghost use Rattle.mend.specs.Line.{raised, without_cr, mended, letter_of, sign_of};
+ghost use Rattle.mend.specs.Line.{raised, without_cr, mended};
 
 use text::LF;
 use text::line::Line;
@@ -16,7 +15,7 @@ const LONGEST_FRAME: usize = 6;
 
 // The capital of a small digit; any other code is as it was.
 #[tactic(auto, unfolding(crate::specs::Line::raised))]
-fn raise(code: u8) -> u8
+pub(super) fn raise(code: u8) -> u8
     ensures { result ≡ raised code }
 {
     match code {
@@ -57,43 +56,4 @@ pub(super) fn is_fit(line: &[u8]) -> bool
     let mut room = [0u8; LONGEST_FRAME + 1];
     put(&mut room, bytes);
     Line::Ended(&room[..bytes.len()]).event().is_some()
-}
-
-// What becomes of a line.
-#[derive(Clone, Copy, Debug, PartialEq, Eq)]
-pub(super) enum Sign {
-    Kept,
-    Mended,
-    Blank,
-    Unfit,
-}
-
-impl Sign {
-    // The sign of a line. It is kept just where it is a frame as it stands.
-    pub(super) fn of(line: Line<'_>) -> Self
-        ensures { letter_of result ≡ sign_of (line_of line.entry) }
-    {
-        if line.event().is_some() {
-            return Sign::Kept;
-        }
-        if is_fit(line.bytes()) {
-            return Sign::Mended;
-        }
-        if without_cr(line.bytes()).is_empty() {
-            return Sign::Blank;
-        }
-        Sign::Unfit
-    }
-
-    // Its letter in the report. By discriminants it would be no plainer: they are of type `isize`, and each letter would be cast to it.
-    pub(super) fn letter(self) -> u8
-        ensures { result ≡ letter_of self }
-    {
-        match self {
-            Sign::Kept => b'K',
-            Sign::Mended => b'M',
-            Sign::Blank => b'B',
-            Sign::Unfit => b'U',
-        }
-    }
 }

@@ -3,7 +3,7 @@ ghost use Rattle.std.specs.Prelude.{◌≡◌, ◌≤◌, length};
 ghost use Rattle.text.specs.Lines.{line_count};
 ghost use Rattle.mend.specs.Mend.{report_of, in_front};
 
-use crate::line::Sign;
+use crate::signs::Sign;
 use text::lines::Lines;
 
 // Writes the report to the front of an output.

@@ -18,7 +18,7 @@ loop-at-init c =
 pub loop-at-preserved : goal.loop-at-preserved
 loop-at-preserved c =
     let s = c.in-Some.ensures.steps in
-    rw (c.letter.ensures, c.of.ensures, s.2, s.1)
+    rw (c.letter.ensures, c.of.ensures.letter, s.2, s.1)
     (stored put _ _ c.loop-at.out _ _ c.loop-at.at-iterator.count (rw s.0 at c.loop-at.invariant) _ refl)
 
 pub returns : goal.returns

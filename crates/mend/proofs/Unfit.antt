@@ -1,0 +1,90 @@
+-- Why a line is unfit: which of its codes are digits once they are raised, and whether two of them are the number of a kind.
+-- Rests on bits' Tested, the bus's ByKind and text's WrittenBack.
+use mathlib.Core.Path.{◌≡◌, refl, ap, sym}
+use mathlib.Core.Bool.{Bool, true, false, cond, ◌&&◌, and-false}
+use mathlib.Core.List.{List, [], ◌∷◌, map}
+use Prim.Native.Nat.{ℕ, ◌≤◌}
+use native.Mathlib.Omega.{arith}
+use lib.Dec.{eqb, leb, ltb}
+use lib.ListN.{get_or, drop}
+use borrow.Author.Tests.{ltb-true, ltb-false}
+use Rattle.std.specs.Prelude.{Option, Some, None, is_some, unwrap_or}
+use Rattle.std.proofs.lemmas.Option.{none-some}
+use Rattle.std.proofs.lemmas.Bool.{lt-leb}
+use Rattle.std.specs.List.{list_all}
+use Rattle.std.specs.Char.{is_ascii_hexdigit}
+use Rattle.bits.proofs.Tested.{bits}
+use Rattle.bus.specs.Kinds.{is_kind}
+use Rattle.bus.specs.Answers.{kind_numbered}
+use Rattle.bus.specs.declared.kinds.Kind.{Kind}
+use Rattle.bus.proofs.ByKind.{kind-back, none-back, none_above}
+use Rattle.text.specs.Digits.{digits, digit_value, no_byte, pair_value}
+use Rattle.text.specs.Lines.{Line}
+use Rattle.text.specs.Frames.{leading_byte}
+use Rattle.text.specs.Answers.{if_below}
+use Rattle.text.proofs.WrittenBack.{no_place}
+use Rattle.mend.specs.Line.{bytes_of, without_cr, small_digits, raised, mended, unfit_sign, sign_of}
+use Rattle.mend.specs.Reason.{is_digit, all_digits, why, reason_of}
+use Rattle.mend.specs.declared.signs.Reason.{Reason}
+
+-- A code is a digit once it is raised exactly where it is one of either size: up to the last small digit by a test, and above it is neither.
+above : (code : ℕ) → 103 ≤ code → is_digit (raised code) ≡ false
+unfolding digit_value raised
+above code far =
+    let stays : raised code ≡ code = ap (λ n. get_or (drop 10 digits) n code) (no_place small_digits 0 103 code refl far) in
+    rw (stays, no_place digits 0 103 code refl far)
+
+pub either_size : (code : ℕ) → is_ascii_hexdigit code ≡ is_digit (raised code)
+unfolding digit_value raised
+either_size code = go (ltb code 103) refl
+  where
+    go : (t : Bool) → ltb code 103 ≡ t → is_ascii_hexdigit code ≡ is_digit (raised code)
+    go true t = bits 103 is_ascii_hexdigit (λ code. is_digit (raised code)) tt code (ltb-true code 103 t)
+    go false t =
+        let far = ltb-false code 103 t in
+        rw (above code far, lt-leb code 57 (omega (arith, far)), lt-leb code 70 (omega (arith, far)), lt-leb code 102 far, and-false (leb 48 code), and-false (leb 65 code), and-false (leb 97 code))
+
+-- Codes are digits once they are raised exactly where their raised codes are.
+pub all_raised : (bytes : List ℕ) → list_all (λ code. is_digit (raised code)) bytes ≡ all_digits (map raised bytes)
+all_raised [] = refl
+all_raised (b ∷ bytes) = ap (λ t. is_digit (raised b) && t) (all_raised bytes)
+
+-- A number is that of a kind where a kind is found for it.
+pub kind-found : (n : ℕ) → is_some (kind_numbered n) ≡ is_kind n
+kind-found n = go (kind_numbered n) refl
+  where
+    go : (o : Option Kind) → o ≡ kind_numbered n → is_some o ≡ is_kind n
+    go (Some k) is = sym (kind-back n k is).1
+    go None is = sym (none-back n is)
+
+-- Two codes are the number of a kind where they write a byte, and that is one.
+module _ (high low : ℕ) where
+  abbrev written : Option ℕ
+  written = if_below no_byte (leading_byte (high ∷ low ∷ []))
+
+  pub number-written : (n : ℕ) → Some n ≡ written → n ≡ pair_value high low
+  unfolding leading_byte
+  number-written n is = go (ltb (pair_value high low) no_byte) refl is
+    where
+      go : (t : Bool) → ltb (pair_value high low) no_byte ≡ t → Some n ≡ cond t (Some (pair_value high low)) None → n ≡ pair_value high low
+      go true t is = ap (λ o. unwrap_or o 0) is
+      go false t is = absurd (none-some n (sym is))
+
+  pub none-written : None ≡ written → is_kind (pair_value high low) ≡ false
+  unfolding leading_byte
+  none-written is = go (ltb (pair_value high low) no_byte) refl is
+    where
+      go : (t : Bool) → ltb (pair_value high low) no_byte ≡ t → None ≡ cond t (Some (pair_value high low)) None → is_kind (pair_value high low) ≡ false
+      go true t is = absurd (none-some (pair_value high low) is)
+      go false t is = none_above (pair_value high low) (omega (arith, ltb-false (pair_value high low) no_byte t))
+
+-- The reason of a line by its sign.
+module _ (l : Line) where
+  pub no-reason : (sign : ℕ) → sign ≡ sign_of l → eqb sign unfit_sign ≡ false → None ≡ reason_of l
+  unfolding reason_of
+  no-reason sign is other = rw (← is, other)
+
+  pub reason-given : (bytes : List ℕ) (reason : Reason) → unfit_sign ≡ sign_of l → bytes ≡ without_cr (bytes_of l) → reason ≡ why (map raised bytes)
+      → Some reason ≡ reason_of l
+  unfolding mended reason_of
+  reason-given bytes reason is left given = rw (← is, given, left)
