@@ -19,7 +19,8 @@ use Rattle.mend.proofs.Cleaning.{clean_in, of-a-fit, of-another}
 use Rattle.mend.proofs.Judging.{frame-stays, sign_kept}
 use Rattle.mendlaws.specs.Says.{Digit, figure, letter, AllSay, none as none-say, next as next-says}
 use Rattle.mendlaws.specs.Becomes.{AllBecome, none, next, BecomeOneThing}
-use Rattle.mendlaws.proofs.Spelled.{AllDigits, over, digit, said-in-digits}
+use Rattle.mendlaws.specs.Reasons.{AllDigits, over, digit}
+use Rattle.mendlaws.proofs.Spelled.{said-in-digits}
 use Rattle.mendlaws.proofs.OneLine.{events_of, says-frame, says-event, frame-says, becomes, only}
 
 -- All lines become what the relation says, and nothing else.

@@ -2,6 +2,7 @@ pub mod Shapes
 pub mod Spelled
 pub mod OneLine
 pub mod Steps
+pub mod Reasons
 pub mod AllLines
 pub mod Calls
 pub mod Mended

@@ -20,7 +20,7 @@ use Rattle.text.proofs.WrittenBack.{event_in, exact-event, written_back}
 use Rattle.mendlaws.specs.Says.{Digit, figure, letter, Byte, Says, reset, begin_read, end_cycle, begin_write, levels}
 
 -- A digit is worth what it is said to be.
-worth : {code n : ℕ} → Digit code n → (digit_value code ≡ n) × (n < 16)
+pub worth : {code n : ℕ} → Digit code n → (digit_value code ≡ n) × (n < 16)
 unfolding digit_value
 worth {n} (figure few is) = (ap digit_value is ∙ numbers 10 (λ n. digit_value (48 + n)) (λ n. n) tt n few, omega (arith, few))
 worth {n} (letter many few is) =
@@ -28,7 +28,7 @@ worth {n} (letter many few is) =
     let code : 55 + n ≡ 65 + (n - 10) = omega (arith, many) in
     (ap digit_value (is ∙ code) ∙ numbers 6 (λ n. digit_value (65 + n)) (λ n. 10 + n) tt (n - 10) (omega (arith, few)) ∙ place, few)
 
-pair-worth : {high low b : ℕ} → Byte high low b → (pair_value high low ≡ b) × (b < no_byte)
+pub pair-worth : {high low b : ℕ} → Byte high low b → (pair_value high low ≡ b) × (b < no_byte)
 unfolding pair_value
 pair-worth byte =
     let high = worth byte.first in
@@ -38,7 +38,7 @@ pair-worth byte =
     )
 
 -- And each number below 16 has its digit.
-digit-of : (n : ℕ) → Digit (digit_code n) (n % 16)
+pub digit-of : (n : ℕ) → Digit (digit_code n) (n % 16)
 unfolding digit_code
 digit-of n = go (ltb (n % 16) 10) refl
   where

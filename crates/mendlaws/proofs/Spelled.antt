@@ -15,6 +15,7 @@ use Rattle.text.proofs.WrittenBack.{no_place}
 use Rattle.mend.specs.Line.{cr, small_digits, without_cr, raised, mended}
 use Rattle.mendlaws.specs.Says.{Digit, figure, letter, Byte, Says, reset, begin_read, end_cycle, begin_write, levels}
 use Rattle.mendlaws.specs.Spells.{StandsFor, itself, small, Spells, done, cr as cr-left, next}
+use Rattle.mendlaws.specs.Reasons.{AllDigits, over, digit}
 
 -- What is raised: the codes from 97 to 102, by a test, and no code below or above.
 pub raised_below : (b : ℕ) → b < 97 → raised b ≡ b
@@ -59,11 +60,6 @@ module _ {c n : ℕ} (digit : Digit c n) where
   no-cr : (b : ℕ) → StandsFor b c → eqb b cr ≡ false
   no-cr b (itself is) = ne_eqb b cr (λ e. omega (arith, e, is, in_between.0))
   no-cr b (small many few is) = ne_eqb b cr (λ e. omega (arith, e, many))
-
--- Lines that are made of digits.
-pub data AllDigits : List ℕ → Type 0 where
-  over : AllDigits []
-  digit : {c n : ℕ} {cs : List ℕ} → Digit c n → AllDigits cs → AllDigits (c ∷ cs)
 
 -- Each event is said in digits.
 two-digits : {h l b : ℕ} {cs : List ℕ} → Byte h l b → AllDigits cs → AllDigits (h ∷ l ∷ cs)

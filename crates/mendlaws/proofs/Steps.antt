@@ -103,7 +103,7 @@ module _ (l : Line) where
     raised = all-raised (without_cr (bytes_of l));
   }
 
-  alone : {others : List ℕ} → MendsTo l others → others ≡ mended (bytes_of l)
+  pub alone : {others : List ℕ} → MendsTo l others → others ≡ mended (bytes_of l)
   unfolding mended
   alone to = all-raised-is to.raised ∙ ap (map raised) (left-is to.without_cr ∙ ap without_cr (same-bytes l))
 

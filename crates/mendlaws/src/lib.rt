@@ -12,6 +12,7 @@ ghost use Rattle.mend.specs.Mend.{mend_told, outcome_of};
 ghost use Rattle.mendlaws.specs.Says.{Says, AllSay};
 ghost use Rattle.mendlaws.specs.Becomes.{AllBecome, BecomeOneThing};
 ghost use Rattle.mendlaws.specs.Steps.{MeansTheSame};
+ghost use Rattle.mendlaws.specs.Reasons.{HasItsReason, unfit_lines, reasons_of, reasons_beside};
 ghost use Rattle.mendlaws.specs.Promise.{answer_of, Stays, Mended, RefusedWith, Numbered, Tells};
 ghost use Rattle.mendlaws.specs.Longest.{lacks_one_lf};
 ghost use Rattle.mendlaws.specs.Example.{a_capture, all_of, given, said};
@@ -31,6 +32,13 @@ pub fn frames_say_events()
 /// Any other line is no frame even then.
 pub fn fit_lines_mean_the_same()
     ensures { (l : Line) → MeansTheSame l }
+{}
+
+/// Each unfit line has one reason, and no other line has any: a code is no digit once small digits are raised; or each is one, and the first two are
+/// the number of no kind; or each is one, and there is one alone, or there are more than the kind and its operands have, or fewer.
+pub fn unfit_lines_have_a_reason()
+    ensures reason { (l : Line) → HasItsReason l }
+    ensures examples { reasons_of unfit_lines ≡ reasons_beside unfit_lines }
 {}
 
 /// The number of every call: 6 where the text or its clean form is longer than 4,096 bytes, then 7 where an output is too short, and else 0. A
