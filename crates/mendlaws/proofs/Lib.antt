@@ -8,3 +8,4 @@ pub mod Calls
 pub mod Mended
 pub mod Longest
 pub mod Example
+pub mod Determined
