@@ -1,5 +1,5 @@
 -- A text is refused exactly where a number alone is printed of it: answers are none, or five bytes or more.
--- Rests on script's Pieces and on rackscript's Enough.
+-- A captured script is refused where 06 alone is printed. Rests on FailingToMend, on script's Pieces and on rackscript's Enough.
 use Rattle.std.proofs.Common.{◌≡◌, ℕ, zero, suc, ◌+◌, ◌*◌, Bool, true, false, List, length, ap, sym, ◌∙◌, refl, eqb, arith}
 use borrow.Author.Tests.{ne_eqb}
 use Rattle.bus.specs.Device as devices
@@ -19,6 +19,7 @@ use Rattle.towanchor.specs.declared.answers.Device.{Device}
 use Rattle.towanchor.specs.declared.answers.Device.TheVariants.{I8255A, I82C55A, I8355}
 use Rattle.towanchor.specs.Printed.{printed, printed_by, refuses_rack, printed_of_rack}
 use Rattle.towanchor.specs.Failing.{alone, Failing}
+use Rattle.towanchor.proofs.FailingToMend.{mending}
 
 -- Lines of five bytes or more are not three bytes.
 not-alone : (w n : ℕ) (bytes : List ℕ) → length bytes ≡ (5 + w) * n → eqb (length bytes) alone ≡ false
@@ -54,6 +55,7 @@ unfolding printed
 failing = record {
   device = λ d text. go d text;
   rack = by-rack;
+  mending = mending;
 }
   where
     go : (d : Device) (text : List ℕ) → too_long text ≡ eqb (length (printed d text)) alone

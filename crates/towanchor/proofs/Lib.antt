@@ -1,5 +1,8 @@
 pub mod Answered
 pub mod AnsweredByRack
+pub mod CleanScript
+pub mod Captured
 pub mod OnEach
 pub mod LeftByOlder
+pub mod FailingToMend
 pub mod Failing

@@ -1,5 +1,6 @@
 // Why the whole of a text is refused, in plain words. The number that is printed in place of answers is the library's own.
 use journal::TrimRefusal;
+use mend::MendRefusal;
 use rackscript::RackRunRefusal;
 use script::RunRefusal;
 use thiserror::Error;
@@ -10,8 +11,12 @@ pub(super) enum Refused {
     NoFrame,
     #[error("the text is longer than 4,096 bytes, and was not run")]
     TooLong,
+    #[error("the text or its clean form is longer than 4,096 bytes, and was not mended")]
+    TooLongToMend,
     #[error("there is no room for the answers")]
     NoRoom,
+    #[error("there is no room for the clean script")]
+    NoRoomToMend,
     #[error("there is no such edition")]
     NoEdition,
     #[error("the first line is no rack, and no further line was answered")]
@@ -42,6 +47,15 @@ impl From<TrimRefusal> for Refused {
             TrimRefusal::NoFrame => Refused::NoFrame,
             TrimRefusal::TooLong => Refused::TooLong,
             TrimRefusal::NoEdition => Refused::NoEdition,
+        }
+    }
+}
+
+impl From<MendRefusal> for Refused {
+    fn from(refusal: MendRefusal) -> Self {
+        match refusal {
+            MendRefusal::TooLong => Refused::TooLongToMend,
+            MendRefusal::NoRoom => Refused::NoRoomToMend,
         }
     }
 }
