@@ -44,9 +44,6 @@ sign-determined c x y p q =
     let result = told-apart x.0 ∙ (λ i. sign_with ((p.0 ∙ sym q.0) i) ((p.1 ∙ sym q.1) i)) ∙ sym (told-apart y.0) in
     λ i. (result i, (tt, tt))
 
-pub letter-determined : Determines mend_says.signs.Sign.letter.ended mend.signs.Sign.letter.Reads.Learnt
-letter-determined c x y = equation-determines
-
 pub number-determined : Determines mend_says.MendRefusalNumbered.number.ended mend.MendRefusalNumbered.number.Reads.Learnt
 number-determined c x y = equation-determines
 

@@ -52,7 +52,7 @@ fn all_digits(bytes: &[u8]) -> bool
     bytes.iter().all(|code| is_digit(*code))
 }
 
-// Whether two digits, small ones or capitals, are the number of a kind.
+// Whether two digits, small ones or capitals, are the number of a kind. They are read as a line, since `text` reads a pair of digits alone for itself.
 fn is_kind(high: u8, low: u8) -> bool
     ensures { result ≡ is_kind (pair_value (raised high) (raised low)) }
 {
@@ -116,9 +116,8 @@ impl Sign {
         Sign::Unfit(Reason::of(bytes))
     }
 
-    /// Its letter in the report.
-    // By discriminants it would be no plainer: they are of type `isize`, and each letter would be cast to it.
-    pub fn letter(self) -> u8
+    // Its letter in the report. By discriminants it would be no plainer: they are of type `isize`, and each letter would be cast to it.
+    pub(super) fn letter(self) -> u8
         ensures { result ≡ letter_of self }
     {
         match self {

@@ -29,20 +29,21 @@ pub fn frames_say_events()
 {}
 
 /// A kept or mended line means the same frame as before: the one that the line is once a rest has its LF, one CR is dropped and digits are raised.
-/// Any other line is no frame even then.
+/// So it is mended to these bytes and to no others, and the clean script has them, with LF. Any other line is no frame even then.
 pub fn fit_lines_mean_the_same()
     ensures { (l : Line) → MeansTheSame l }
 {}
 
 /// Each unfit line has one reason, and no other line has any: a code is no digit once small digits are raised; or each is one, and the first two are
-/// the number of no kind; or each is one, and there is one alone, or there are more than the kind and its operands have, or fewer.
+/// the number of no kind; or each is one, and there is one alone, or there are more than the kind and its operands have, or fewer. Nine lines are
+/// computed, with the reason of each.
 pub fn unfit_lines_have_a_reason()
     ensures reason { (l : Line) → HasItsReason l }
     ensures examples { reasons_of unfit_lines ≡ reasons_beside unfit_lines }
 {}
 
 /// The number of every call: 6 where the text or its clean form is longer than 4,096 bytes, then 7 where an output is too short, and else 0. A
-/// refused call changes neither output.
+/// refused call answers its number alone, and changes neither output. The clean form has one byte more than the text at most.
 pub fn calls_are_numbered()
     ensures { (text clean report signs script : List ℕ) (es : List Event) → AllBecome (lines_of text) signs script es → Numbered text clean report script signs }
 {}

@@ -1,6 +1,5 @@
 -- A captured script: what the program prints of it, what it says of its lines, and that it fails ("Mending captured scripts").
-use Rattle.std.specs.Prelude.{◌≡◌, true, false, List, ℕ}
-use Rattle.text.specs.Quoted.{codes}
+use Rattle.std.specs.Prelude.{◌≡◌, true, false, List, ℕ, codes}
 use Rattle.towanchor.specs.Mended.{printed_mended, said_of_all, has_unfit}
 
 -- Of its seven lines three are fit.

@@ -1,4 +1,4 @@
-// The clean form of a captured script, made by the function by which a host mends one, and what is said of its lines.
+// The clean form of a captured script, made by the function that hosts call, and what is said of its lines.
 ghost use Rattle.std.specs.Prelude.{◌≡◌, ◌++◌, ◌||◌, IfOk, OnOk, is_some, string_bytes};
 ghost use Rattle.text.specs.Answers.{line_of};
 ghost use Rattle.towanchor.specs.Mended.{refuses_mending, printed_mended, said_of, said_of_all, is_unfit, has_unfit};
@@ -33,15 +33,15 @@ fn clean(alloc: Global, text: &[u8]) -> Result<Printed, AllocError>
 
 // What is said of the lines, and whether one of them is unfit.
 #[derive(Drop)]
-struct Report {
-    said: String,
+struct Said {
+    words: String,
     unfit: bool,
 }
 
-impl Report {
+impl Said {
     // Says what became of a line, if it was not kept.
     fn say(&mut self, number: usize, line: Line<'_>) -> Result<(), AllocError>
-        ensures said { OnOk result (string_bytes self.new.said ≡ string_bytes self.old.said ++ said_of number (line_of line.entry)) }
+        ensures words { OnOk result (string_bytes self.new.words ≡ string_bytes self.old.words ++ said_of number (line_of line.entry)) }
         ensures unfit { OnOk result (self.new.unfit ≡ (self.old.unfit || is_unfit (line_of line.entry))) }
     {
         let sign = Sign::of(line);
@@ -49,22 +49,22 @@ impl Report {
             return Ok(());
         }
         self.unfit |= matches!(sign, Sign::Unfit(_));
-        writeln!(self.said, "line {number}: {sign}")
+        writeln!(self.words, "line {number}: {sign}")
     }
 
     // Of all lines.
     fn of(alloc: Global, text: &[u8]) -> Result<Self, AllocError>
-        ensures said { IfOk result (λ report. string_bytes report.said ≡ said_of_all text.now) }
-        ensures unfit { IfOk result (λ report. report.unfit ≡ has_unfit text.now) }
+        ensures words { IfOk result (λ all. string_bytes all.words ≡ said_of_all text.now) }
+        ensures unfit { IfOk result (λ all. all.unfit ≡ has_unfit text.now) }
     {
-        let mut report = Report {
-            said: String::new(alloc),
+        let mut all = Said {
+            words: String::new(alloc),
             unfit: false,
         };
         for (at, line) in Lines::new(text).enumerate() {
-            report.say(at + 1, line)?;
+            all.say(at + 1, line)?;
         }
-        Ok(report)
+        Ok(all)
     }
 }
 
@@ -75,9 +75,9 @@ pub(super) fn mend(
 ) -> anyhow::Result<ExitCode> {
     let alloc = rt.alloc();
     clean(alloc, text)?.write(rt)?;
-    let report = Report::of(alloc, text)?;
-    eprint!(rt; "{}", report.said).context("standard error")?;
-    Ok(if report.unfit {
+    let said = Said::of(alloc, text)?;
+    eprint!(rt; "{}", said.words).context("standard error")?;
+    Ok(if said.unfit {
         ExitCode::FAILURE
     } else {
         ExitCode::SUCCESS

@@ -4,9 +4,9 @@ use mathlib.Core.Bool.{◌||◌}
 use Rattle.std.specs.List.{list_any}
 use Rattle.text.specs.Answers.{lines_left}
 use Rattle.towanchor.specs.Mended.{said_from, said_of_all, is_unfit, has_unfit}
-use Rattle.towanchor.proofs.mending.Report.of.Given as goal
+use Rattle.towanchor.proofs.mending.Said.of.Given as goal
 
 abbrev pub invariant-loop-at : goal.invariant-loop-at
 invariant-loop-at l =
-    (string_bytes l.report.said ++ said_from (l.at-iterator.count + 1) (lines_left l.at-iterator.iter) ≡ said_of_all l.text)
-    × ((l.report.unfit || list_any is_unfit (lines_left l.at-iterator.iter)) ≡ has_unfit l.text)
+    (string_bytes l.all.words ++ said_from (l.at-iterator.count + 1) (lines_left l.at-iterator.iter) ≡ said_of_all l.text)
+    × ((l.all.unfit || list_any is_unfit (lines_left l.at-iterator.iter)) ≡ has_unfit l.text)

@@ -1,4 +1,4 @@
--- `towanchor::mending::Report::say`: of a kept line nothing is said, and of another its number and its sign.
+-- `towanchor::mending::Said::say`: of a kept line nothing is said, and of another its number and its sign.
 -- Rests on CleanScript.
 use Rattle.std.proofs.Common.{rules, ◌≡◌, ◌∙◌, ap, sym, eqb}
 use Rattle.std.specs.Prelude.{◌||◌}
@@ -7,15 +7,15 @@ use Rattle.text.specs.Answers.{line_of}
 use Rattle.mend.specs.declared.signs.Sign.TheVariants.{Kept}
 use Rattle.mend.specs.Line.{letter_of, unfit_sign}
 use Rattle.towanchor.proofs.CleanScript.{kept-unsaid, kept-fit, said-so, unfit-so, not-unfit}
-use Rattle.towanchor.proofs.mending.Report.say.Goals as goal
-use Rattle.towanchor.proofs.mending.Report.say.Goals.{in-Unfit, in_default}
+use Rattle.towanchor.proofs.mending.Said.say.Goals as goal
+use Rattle.towanchor.proofs.mending.Said.say.Goals.{in-Unfit, in_default}
 
 pub returns-then-eq : goal.returns-then-eq
 returns-then-eq c =
     let is : c.of-sign.result ≡ Kept = search rules in
     let l = line_of c.args.line in
     record {
-      said = search (rules, kept-unsaid c.args.number l _ c.of-sign.ensures.letter is);
+      words = search (rules, kept-unsaid c.args.number l _ c.of-sign.ensures.letter is);
       unfit = search (rules, kept-fit c.args.number l _ c.of-sign.ensures.letter is);
     }
 
@@ -30,6 +30,6 @@ returns c =
     ] in
     let unfit = ap (λ t. c.args.self.now.unfit || t) (unfit-so c.args.number l _ _ c.of-sign.ensures.letter matched) in
     record {
-      said = rw (said-so c.args.number l _ c.of-sign.ensures.letter c.of-sign.ensures.reason other) c.writeln.ensures.bytes;
+      words = rw (said-so c.args.number l _ c.of-sign.ensures.letter c.of-sign.ensures.reason other) c.writeln.ensures.bytes;
       unfit = on_ok_weaker c.writeln.result (λ ok. unfit) c.writeln.ensures.bytes;
     }
