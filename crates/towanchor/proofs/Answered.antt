@@ -13,7 +13,8 @@ use Rattle.script.specs.Run.{run_told, longest_script, too_long, too_long_number
 use Rattle.script.proofs.Numbers.{number-given}
 use Rattle.script.proofs.Outcome.{room-enough}
 use Rattle.script.proofs.Pieces.{answers-length}
-use Rattle.towanchor.specs.Printed.{refusal_text, kept_of, printed_by}
+use Rattle.prints.specs.Printed.{refusal_text, printed_by}
+use Rattle.towanchor.specs.OfRun.{kept_of}
 
 -- What is to be printed of a run.
 abbrev given : Result ℕ RunRefusal → Result ℕ RunRefusal

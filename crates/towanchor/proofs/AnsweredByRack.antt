@@ -13,7 +13,9 @@ use Rattle.rackscript.specs.Answers.{answering}
 use Rattle.rackscript.specs.Run.{run_told, names_rack, rack_named, to_answer, room_for_text, run_number, run_refusal_number, run-refusal-never-0, Ran, ran_of, output_left}
 use Rattle.rackscript.proofs.Room.{most_room}
 use Rattle.rackscript.proofs.Enough.{answers-length, room-enough}
-use Rattle.towanchor.specs.Printed.{refusal_text, kept_of, printed_of_rack, refuses_rack}
+use Rattle.prints.specs.Printed.{refusal_text, printed_of_rack}
+use Rattle.towanchor.specs.OfRun.{kept_of}
+use Rattle.towanchor.specs.Failing.{refuses_rack}
 
 -- What is to be printed of a run.
 abbrev given : Result counts.Ran RackRunRefusal → Result ℕ RackRunRefusal

@@ -23,7 +23,7 @@ use Rattle.mend.specs.Reason.{reason_told, reason_of}
 use Rattle.mend.specs.Words.{sign_words}
 use Rattle.mend.specs.Mend.{clean_of, mend_number, mend_refusal_number, Outcome, outcome_of, mend_told, clean_left}
 use Rattle.mend.proofs.Numbers.{number_is, lengths-are, written}
-use Rattle.towanchor.specs.Printed.{refusal_text}
+use Rattle.prints.specs.Printed.{refusal_text}
 use Rattle.towanchor.specs.Mended.{refuses_mending, printed_mended, said_of, is_unfit}
 
 module _ (text clean report : List ℕ) (clean_room : longest_script ≤ length clean) (report_room : longest_script ≤ length report) where

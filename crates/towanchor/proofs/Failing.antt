@@ -15,10 +15,10 @@ use Rattle.script.proofs.Pieces.{answers-length}
 use Rattle.rackscript.specs.Answers.{answering}
 use Rattle.rackscript.specs.Run.{names_rack, rack_named, to_answer}
 use Rattle.rackscript.proofs.Enough as racks
-use Rattle.towanchor.specs.declared.answers.Device.{Device}
-use Rattle.towanchor.specs.declared.answers.Device.TheVariants.{I8255A, I82C55A, I8355}
-use Rattle.towanchor.specs.Printed.{printed, printed_by, refuses_rack, printed_of_rack}
-use Rattle.towanchor.specs.Failing.{alone, Failing}
+use Rattle.prints.specs.declared.Device.{Device}
+use Rattle.prints.specs.declared.Device.TheVariants.{I8255A, I82C55A, I8355}
+use Rattle.prints.specs.Printed.{printed, printed_by, printed_of_rack}
+use Rattle.towanchor.specs.Failing.{refuses_rack, alone, Failing}
 use Rattle.towanchor.proofs.FailingToMend.{mending}
 
 -- Lines of five bytes or more are not three bytes.

@@ -2,7 +2,6 @@ pub mod Answered
 pub mod AnsweredByRack
 pub mod CleanScript
 pub mod Captured
-pub mod OnEach
 pub mod LeftByOlder
 pub mod FailingToMend
 pub mod Failing

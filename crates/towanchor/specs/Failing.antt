@@ -1,9 +1,14 @@
 -- Where the program fails because it refuses the whole of a text ("Script and program", "A rack of cards", "Mending captured scripts").
-use Rattle.std.specs.Prelude.{◌≡◌, ◌↔◌, true, List, [], ◌∷◌, ℕ, eqb, length}
+use Rattle.std.specs.Prelude.{◌≡◌, ◌↔◌, Bool, true, not, ◌||◌, List, [], ◌∷◌, ℕ, eqb, length}
 use Rattle.script.specs.Run.{too_long}
-use Rattle.towanchor.specs.declared.answers.Device.{Device}
-use Rattle.towanchor.specs.Printed.{printed, refuses_rack, printed_of_rack}
+use Rattle.rackscript.specs.Run.{names_rack}
+use Rattle.prints.specs.declared.Device.{Device}
+use Rattle.prints.specs.Printed.{printed, printed_of_rack}
 use Rattle.towanchor.specs.Mended.{refuses_mending, printed_mended}
+
+-- Whether the whole of a rack's script is refused. A device's script is refused where it is too long.
+abbrev pub refuses_rack : List ℕ → Bool
+refuses_rack text = too_long text || not (names_rack text)
 
 -- The bytes of a number alone on its line: two digits and LF. No answers have so many.
 abbrev pub alone : ℕ

@@ -1,7 +1,6 @@
-pub mod Printed
+pub mod OfRun
 pub mod Mended
 pub mod Capture
-pub mod OnEach
 pub mod Left
 pub mod LeftByOlder
 pub mod Failing

@@ -7,7 +7,7 @@ use Rattle.script.specs.Run.{too_long, too_long_number}
 use Rattle.mend.specs.Line.{kept_sign, unfit_sign, sign_of}
 use Rattle.mend.specs.Words.{words_of}
 use Rattle.mend.specs.Mend.{clean_of}
-use Rattle.towanchor.specs.Printed.{refusal_text}
+use Rattle.prints.specs.Printed.{refusal_text}
 
 -- The whole text is refused where it or its clean form is longer than a script may be.
 abbrev pub refuses_mending : List ℕ → Bool

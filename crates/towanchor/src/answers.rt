@@ -2,22 +2,15 @@
 ghost use Rattle.std.specs.Prelude.{◌≡◌, IfOk, is_some};
 ghost use Rattle.script.specs.Answers.{by_device};
 ghost use Rattle.script.specs.Run.{too_long};
-ghost use Rattle.towanchor.specs.Printed.{printed_by, printed};
+ghost use Rattle.prints.specs.Printed.{printed_by, printed};
 
 use super::output::{self, Printed};
 use bus::devices;
 use chip::{Chip, Edition, Levels};
 use i8355::Chip8355;
+use prints::Device;
 use script::{ANSWER_WIDTH, LONGEST};
 use std::alloc::{AllocError, Global};
-
-// Which device answers.
-#[derive(Clone, Copy)]
-pub(super) enum Device {
-    I8255A,
-    I82C55A,
-    I8355,
-}
 
 // Enough for the answers to all the lines that a script can have.
 const MOST_ROOM: usize = ANSWER_WIDTH * LONGEST;
@@ -43,7 +36,7 @@ fn answer_by<D: devices::Device>(
 }
 
 // A script is answered by a device at its power-up, with every line high.
-#[tactic(auto, unfolding(crate::specs::Printed::printed))]
+#[tactic(auto, unfolding(prints::specs::Printed::printed))]
 pub(super) fn answer(alloc: Global, device: Device, text: &[u8]) -> Result<Printed, AllocError>
     ensures text { IfOk result (λ answers. answers.text.items ≡ printed device text.now) }
     ensures refused { IfOk result (λ answers. is_some answers.refused ≡ too_long text.now) }

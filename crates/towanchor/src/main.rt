@@ -13,7 +13,7 @@ mod refusals;
 mod strays;
 mod trim;
 
-use answers::Device;
+use prints::Device;
 use std::process::ExitCode;
 use std::rt::Env;
 

@@ -1,7 +1,8 @@
 // What the program prints, and standard output.
 ghost use Rattle.std.specs.Prelude.{◌≡◌, true, IfOk, List, ℕ, Result, length, is_some, is_err};
 ghost use Rattle.std.specs.Fn.{FnOnceReturnsAtMut};
-ghost use Rattle.towanchor.specs.Printed.{refusal_text, kept_of};
+ghost use Rattle.prints.specs.Printed.{refusal_text};
+ghost use Rattle.towanchor.specs.OfRun.{kept_of};
 
 use super::refusals::Refused;
 use anyhow::Context;

@@ -1,6 +1,7 @@
 //! The answers of a rack to its script.
 ghost use Rattle.std.specs.Prelude.{◌≡◌, IfOk, is_some};
-ghost use Rattle.towanchor.specs.Printed.{printed_of_rack, refuses_rack};
+ghost use Rattle.prints.specs.Printed.{printed_of_rack};
+ghost use Rattle.towanchor.specs.Failing.{refuses_rack};
 
 use super::output::{self, Printed};
 use rackscript::MOST_ROOM;

@@ -1,7 +1,7 @@
 -- `towanchor::output::of_run`: where the run is refused, the number is printed.
 use Rattle.std.proofs.Common.{rules, ◌≡◌, Err, is_some, true}
 use Rattle.std.proofs.lemmas.Result.{IfOk-weaker}
-use Rattle.towanchor.specs.Printed.{refusal_text}
+use Rattle.prints.specs.Printed.{refusal_text}
 use Rattle.towanchor.proofs.output.of_run.Goals as goal
 
 pub returns-in-Err : goal.returns-in-Err

@@ -1,5 +1,5 @@
 -- What the program prints of a script ("Script and program", "A rack of cards").
-use Rattle.std.specs.Prelude.{Bool, cond, not, ◌||◌, take, List, [], ◌∷◌, ◌++◌, ℕ, Result, Ok, Err}
+use Rattle.std.specs.Prelude.{cond, not, List, [], ◌∷◌, ◌++◌, ℕ}
 use Rattle.text.specs.Digits.{in_digits}
 use Rattle.text.specs.Lines.{lf}
 use Rattle.chip.specs.declared.Edition.TheVariants.{Older, Newer}
@@ -14,17 +14,12 @@ use Rattle.script.specs.Run.{too_long, too_long_number}
 use Rattle.rack.specs.Bases.{bad_rack_number}
 use Rattle.rackscript.specs.Answers.{answering}
 use Rattle.rackscript.specs.Run.{names_rack, rack_named, to_answer}
-use Rattle.towanchor.specs.declared.answers.Device.{Device}
-use Rattle.towanchor.specs.declared.answers.Device.TheVariants.{I8255A, I82C55A, I8355}
+use Rattle.prints.specs.declared.Device.{Device}
+use Rattle.prints.specs.declared.Device.TheVariants.{I8255A, I82C55A, I8355}
 
 -- A number alone on its line.
 abbrev pub refusal_text : ℕ → List ℕ
 refusal_text n = in_digits n ++ (lf ∷ [])
-
--- What is printed of an output after a run that names so many bytes of it, or the number of its refusal.
-abbrev pub kept_of : {R : Type 0} → (R → ℕ) → Result ℕ R → List ℕ → List ℕ
-kept_of number (Ok n) out = take n out
-kept_of number (Err r) out = refusal_text (number r)
 
 -- The answers of whoever meets the text in a state, or 06 where the text is longer than a script may be.
 unfoldable pub printed_by : {S : Type 0} → Answerer S → S → List ℕ → List ℕ
@@ -42,7 +37,3 @@ printed_of_rack text =
     cond (too_long text) (refusal_text too_long_number)
     (cond (not (names_rack text)) (refusal_text bad_rack_number)
     (answers_from answering (rack_named text) (to_answer text)))
-
--- Whether the whole of a rack's script is refused. A device's script is refused where it is too long.
-abbrev pub refuses_rack : List ℕ → Bool
-refuses_rack text = too_long text || not (names_rack text)
