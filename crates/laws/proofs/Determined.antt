@@ -1,5 +1,5 @@
--- The contracts of the public functions of bits, channel and chip, and of the methods of the chip as a device, leave no choice: two outcomes that one
--- allows of a call are equal.
+-- The contracts of the public functions of bits, channel and chip, of the methods of the chip as a device, and of the function here that does nothing,
+-- leave no choice: two outcomes that one allows of a call are equal.
 -- Rests on bits' Determined.
 use mathlib.Core.Path.{refl}
 use Rattle.bits.proofs.Determined.{Determines, equation-determines, equations-determine}
@@ -9,6 +9,8 @@ use Rattle.channel.specs.contracts as channel_says
 use Rattle.channel.proofs as channel
 use Rattle.chip.specs.contracts as chip_says
 use Rattle.chip.proofs as chip
+use Rattle.laws.specs.contracts as laws_says
+use Rattle.laws.proofs as laws
 
 pub bit-determined : Determines bits_says.bit.ended bits.bit.Reads.Learnt
 bit-determined c x y = equation-determines
@@ -120,3 +122,6 @@ device-begin-write-determined c x y p q = equations-determine (refl, p) (refl, q
 
 pub device-put-levels-determined : Determines chip_says.device.ChipDevice.put_levels.ended chip.device.ChipDevice.put_levels.Reads.Learnt
 device-put-levels-determined c x y p q = equations-determine (refl, p) (refl, q)
+
+pub marked-cases-hold-determined : Determines laws_says.marked_cases_hold.ended laws.marked_cases_hold.Reads.Learnt
+marked-cases-hold-determined c x y p q = refl

@@ -1,8 +1,6 @@
 -- The marked cases P1 to P13 hold of the definitions, of either edition: one theorem for the whole table, which the checker computes.
 -- Rests on nothing.
 use mathlib.Core.Path.{◌≡◌, refl}
-use mathlib.Core.List.{List, [], ◌∷◌}
-use Prim.Native.Nat.{ℕ}
 use Rattle.bits.specs.Bit.{bit_of, value_of, with_bit}
 use Rattle.bus.specs.Kinds.{is_kind}
 use Rattle.bus.specs.Device.{step_in}
@@ -23,16 +21,7 @@ use Rattle.chip.specs.Levels.{fallen, edged, after_levels_on_c, port_after_level
 use Rattle.chip.specs.Reads.{read_port, read_lines, read_of}
 use Rattle.chip.specs.Pins.{drives_port, pins_of_port, pins_of_lines, pins_of}
 use Rattle.chip.specs.Step.{step_of}
-use Rattle.laws.specs.Marked.{Case, given, cases}
-
--- Each case of a list, by what the model gives and by what the table says.
-abbrev modelled : Edition → List Case → List (List ℕ)
-modelled ed [] = []
-modelled ed (c ∷ cs) = given ed c ∷ modelled ed cs
-
-abbrev stated : List Case → List (List ℕ)
-stated [] = []
-stated (c ∷ cs) = c.results ∷ stated cs
+use Rattle.laws.specs.Marked.{cases, modelled, stated}
 
 pub marked : (ed : Edition) → modelled ed cases ≡ stated cases
 unfolding bit_of value_of with_bit mode_of input_of upper_input lower_input strobed_input strobed_output output_of control_of uses_of free_role role_of flag_of after_offer after_follow after_hand_over after_end_read after_clear request_of intr_of cleared_port after_mode_word pin_set after_control_word after_read_begins after_read_ends stored_by latch_written after_write_ends fallen edged after_levels_on_c port_after_levels after_levels read_port read_lines read_of drives_port pins_of_port pins_of_lines pins_of number_of is_kind step_of step_in

@@ -1,6 +1,6 @@
 -- The marked cases P1 to P13, as one table: a history from a power-up with every line high, what is asked after it, and the
 -- results ("Marked cases").
-use Rattle.std.specs.Prelude.{List, [], ◌∷◌, ◌++◌, ℕ}
+use Rattle.std.specs.Prelude.{List, [], ◌∷◌, ◌++◌, ℕ, ◌+◌, length}
 use Rattle.bus.specs.Event.{Event, event}
 use Rattle.bus.specs.Histories.{write, levels, read_from, cycle_end}
 use Rattle.control.specs.declared.Group.TheVariants.{A}
@@ -98,3 +98,17 @@ cases =
     ∷ (P13 asks (offered ∷ overwritten ∷ []) gives (2 ∷ 1 ∷ []))
     ∷ ((P13 ++ read_from 0) asks (byte ∷ []) gives (0x42 ∷ []))
     ∷ []
+
+-- Each case of a list, by what the model gives and by what the table says.
+abbrev pub modelled : Edition → List Case → List (List ℕ)
+modelled ed [] = []
+modelled ed (c ∷ cs) = given ed c ∷ modelled ed cs
+
+abbrev pub stated : List Case → List (List ℕ)
+stated [] = []
+stated (c ∷ cs) = c.results ∷ stated cs
+
+-- How many results the table says of some cases.
+abbrev pub results_of : List Case → ℕ
+results_of [] = 0
+results_of (c ∷ cs) = length c.results + results_of cs
