@@ -23,3 +23,5 @@ pub mod Script
 pub mod Texts
 pub mod RunNumbers
 pub mod ReadBack
+pub mod Decided
+pub mod Determined

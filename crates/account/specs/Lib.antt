@@ -8,3 +8,4 @@ pub mod Unreached
 pub mod ReadBack
 pub mod Script
 pub mod Texts
+pub mod Decided

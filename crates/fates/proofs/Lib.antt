@@ -24,3 +24,7 @@ pub mod Examples
 pub mod Answered
 pub mod DisciplineKept
 pub mod ManyOffers
+pub mod Spared
+pub mod Asked
+pub mod Harm
+pub mod Determined

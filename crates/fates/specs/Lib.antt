@@ -8,3 +8,7 @@ pub mod Promise
 pub mod Discipline
 pub mod ScriptRun
 pub mod Examples
+pub mod Numbers
+pub mod Spared
+pub mod Asked
+pub mod Harm

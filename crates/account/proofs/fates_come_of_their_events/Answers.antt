@@ -1,0 +1,7 @@
+-- Each byte has the fate of the event that decided it.
+-- Rests on Decided.
+use Rattle.account.proofs.Decided.{from-power-up, from-chip}
+use Rattle.account.proofs.fates_come_of_their_events.Goals as goal
+
+pub returns : goal.returns
+returns c = record { power_up = from-power-up; any_chip = from-chip }
