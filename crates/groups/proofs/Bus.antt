@@ -20,7 +20,7 @@ freed h ph = cond (its_cycle h ph) Idle ph
 pub not-its : (h : Group) (ph : Phase) → its_cycle h ph ≡ false → freed h ph ≡ ph
 not-its h ph other = rw (other)
 
-its-busy : (h : Group) (ph : Phase) → its_cycle h ph ≡ true → free ph ≡ false
+pub its-busy : (h : Group) (ph : Phase) → its_cycle h ph ≡ true → free ph ≡ false
 its-busy h Idle its = absurd (contrary false refl its)
 its-busy h (Reading x) its = refl
 its-busy h (Writing x d) its = refl

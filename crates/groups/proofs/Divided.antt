@@ -25,7 +25,7 @@ pin-divided n small = record { belongs = bits 8 (its_pin A) (λ n. not (its_pin 
     acted B = bits 8 (acts_on B) (λ n. its_pin B n && not (eqb n 3)) tt n small
 
 -- Bytes that have the same bits at the pins of both groups.
-bit_at : (g : Group) (x n : ℕ) → n < 8 → its_pin g n ≡ true → bit_of (at_its_pins g x) n ≡ bit_of x n
+pub bit_at : (g : Group) (x n : ℕ) → n < 8 → its_pin g n ≡ true → bit_of (at_its_pins g x) n ≡ bit_of x n
 bit_at g x n small its = bit-of-assembled (λ n. its_pin g n && bit_of x n) n small ∙ rw (its)
 
 same_byte : (x y : ℕ) → x < 256 → y < 256 → ((g : Group) → at_its_pins g x ≡ at_its_pins g y) → x ≡ y

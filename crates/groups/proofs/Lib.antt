@@ -17,3 +17,7 @@ pub mod Divided
 pub mod InNumbers
 pub mod Excluded
 pub mod SideBySide
+pub mod Kept
+pub mod Lines
+pub mod InTheWay
+pub mod Determined

@@ -42,7 +42,7 @@ bit_elsewhere g x n = not (acts_on g n) && bit_of x n
 assembled-elsewhere : (g : Group) (x : ℕ) → assembled (bit_elsewhere g x) ≡ elsewhere g x
 assembled-elsewhere g x = byte-same (bit_elsewhere g x) (bit_elsewhere g x) (λ n small. refl)
 
-bit-elsewhere : (g : Group) (x n : ℕ) → n < 8 → acts_on g n ≡ false → bit_of (elsewhere g x) n ≡ bit_of x n
+pub bit-elsewhere : (g : Group) (x n : ℕ) → n < 8 → acts_on g n ≡ false → bit_of (elsewhere g x) n ≡ bit_of x n
 bit-elsewhere g x n small none =
     ap (λ b. bit_of b n) (sym (assembled-elsewhere g x)) ∙ bit-of-assembled (bit_elsewhere g x) n small ∙ rw (none)
 

@@ -28,7 +28,7 @@ use Rattle.groups.specs.Belongings.{its_pin, at_its_pins, belongings_of}
 use Rattle.groups.proofs.Alike.{SameAt, Alike, AlikeOnBus, line_same, at-its-pin}
 
 -- Bytes with the same bits at the group's pins.
-same_bits : (g : Group) (x y : ℕ) → SameAt g x y → at_its_pins g x ≡ at_its_pins g y
+pub same_bits : (g : Group) (x y : ℕ) → SameAt g x y → at_its_pins g x ≡ at_its_pins g y
 same_bits g x y same = assembled-same _ _ (λ n small. go n small (its_pin g n) refl)
   where
     go : (n : ℕ) → n < 8 → (its : Bool) → its_pin g n ≡ its → (its && bit_of x n) ≡ (its && bit_of y n)
