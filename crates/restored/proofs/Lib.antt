@@ -8,3 +8,10 @@ pub mod Shown
 pub mod SameDiscipline
 pub mod Counts
 pub mod Answers
+pub mod Refusals
+pub mod SwitchedOn
+pub mod Having
+pub mod Table
+pub mod OlderBytes
+pub mod SavedOlder
+pub mod Determined

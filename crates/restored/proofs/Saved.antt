@@ -57,7 +57,7 @@ module _ (l : List ℕ) (bytes : Bytes l) where
     struck = wide-small (i + 12) (i + 12 + 1);
   }
 
-  sixteen-bits : (g : Group) (s : Side) → SixteenBits (tally_of (state_of l) g s)
+  pub sixteen-bits : (g : Group) (s : Side) → SixteenBits (tally_of (state_of l) g s)
   unfolding state_of
   sixteen-bits A Input = tally-small places.tallies
   sixteen-bits A Output = tally-small (places.tallies + places.channel_tallies)

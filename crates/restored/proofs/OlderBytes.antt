@@ -1,0 +1,163 @@
+-- Bytes are an older image exactly where they tell, place by place, a chip that has an image.
+-- Rests on Having and Table, on image's SameBytes, on older's SameBytes, ComesBack and OneImage, and on calls' Converted.
+use mathlib.Core.Path.{◌≡◌, ◌∙◌, refl, ap, sym, subst}
+use mathlib.Core.Bool.{true}
+use mathlib.Core.List.{List, [], ◌∷◌, ◌++◌}
+use Prim.Native.Nat.{ℕ, ◌+◌}
+use lib.ListN.{get_or}
+use Rattle.std.specs.Prelude.{◌↔◌}
+use Rattle.bus.specs.declared.Phase.{Phase}
+use Rattle.bus.specs.declared.Phase.TheVariants.{Idle, Reading, Writing}
+use Rattle.control.specs.declared.Group.TheVariants.{A, B}
+use Rattle.channel.specs.declared.Side.TheVariants.{Input, Output}
+use Rattle.channel.specs.declared.Tally.{Tally}
+use Rattle.chip.specs.declared.Chip.{Chip}
+use Rattle.image.specs.Layout.{five_tallies, image_of}
+use Rattle.image.specs.Good.{Bytes}
+use Rattle.image.proofs.SameBytes.{spelled}
+use Rattle.older.specs.Layout.{bus_byte, address_byte, older_of}
+use Rattle.older.specs.Loaded.{older_state}
+use Rattle.older.specs.Good.{is_older}
+use Rattle.older.specs.Before.{NoneForced, FromBefore}
+use Rattle.older.proofs.SameBytes.{same-bytes}
+use Rattle.older.proofs.ComesBack.{comes_back}
+use Rattle.older.proofs.OneImage.{older-where, tells-such}
+use Rattle.calls.proofs.Converted.{converts, convert-same}
+use Rattle.restored.specs.Having.{HasImage}
+use Rattle.restored.specs.Table.{byte}
+use Rattle.restored.specs.OlderBytes.{TellsFive, running_number, place_number, OlderTells, Converted}
+use Rattle.restored.proofs.Having.{has-so, has-by}
+use Rattle.restored.proofs.Table.{fill-told, enables-told, written-told, two-bytes, low_byte, high_byte, behind}
+
+-- Part by part, the numbers of the layout are those of the table.
+running-told : (ph : Phase) → running_number ph ≡ bus_byte ph
+running-told Idle = refl
+running-told (Reading p) = refl
+running-told (Writing x d) = refl
+
+place-told : (ph : Phase) → place_number ph ≡ address_byte ph
+place-told Idle = refl
+place-told (Reading p) = refl
+place-told (Writing x d) = refl
+
+-- The ten bytes of a channel's tallies.
+abbrev ten : List ℕ → ℕ → List ℕ
+ten o i =
+    byte o i ∷ byte o (i + 1) ∷ byte o (i + 2) ∷ byte o (i + 2 + 1) ∷ byte o (i + 4) ∷ byte o (i + 4 + 1) ∷ byte o (i + 6) ∷ byte o (i + 6 + 1)
+    ∷ byte o (i + 8) ∷ byte o (i + 8 + 1) ∷ []
+
+module _ (o : List ℕ) (i : ℕ) (t : Tally) where
+  five-told : five_tallies t ≡ ten o i → (t.planted ≡ 0) × (t.struck ≡ 0) → TellsFive o i t
+  five-told same none = record {
+    offered = two-bytes t.offered (at 0) (at 1);
+    handed = two-bytes t.handed (at 2) (at 3);
+    overwritten = two-bytes t.overwritten (at 4) (at 5);
+    swallowed = two-bytes t.swallowed (at 6) (at 7);
+    cleared = two-bytes t.cleared (at 8) (at 9);
+    planted = none.0;
+    struck = none.1;
+  }
+    where
+      at : (k : ℕ) → get_or (five_tallies t) k 0 ≡ get_or (ten o i) k 0
+      at k = ap (λ m. get_or m k 0) same
+
+  five-back : Bytes o → TellsFive o i t → five_tallies t ≡ ten o i
+  five-back bytes tells =
+      λ j.
+      low_byte o bytes i tells.offered j ∷ high_byte o bytes i tells.offered j
+      ∷ low_byte o bytes (i + 2) tells.handed j ∷ high_byte o bytes (i + 2) tells.handed j
+      ∷ low_byte o bytes (i + 4) tells.overwritten j ∷ high_byte o bytes (i + 4) tells.overwritten j
+      ∷ low_byte o bytes (i + 6) tells.swallowed j ∷ high_byte o bytes (i + 6) tells.swallowed j
+      ∷ low_byte o bytes (i + 8) tells.cleared j ∷ high_byte o bytes (i + 8) tells.cleared j ∷ []
+
+-- The older layout of a chip tells the chip.
+layout-tells : (c : Chip) → FromBefore c → OlderTells (older_of c) c
+unfolding older_of
+layout-tells c (older, none) =
+    let a = c.core.a.input in
+    let b = c.core.a.output in
+    let d = c.core.b.input in
+    let e = c.core.b.output in
+    record {
+      long = refl;
+      a_in = record { counts = five-told (older_of c) 0 a.tally refl (none A Input); latch = refl; fill = fill-told a.fill };
+      a_out = record { counts = five-told (older_of c) 10 b.tally refl (none A Output); latch = refl; fill = fill-told b.fill };
+      b_in = record { counts = five-told (older_of c) 20 d.tally refl (none B Input); latch = refl; fill = fill-told d.fill };
+      b_out = record { counts = five-told (older_of c) 30 e.tally refl (none B Output); latch = refl; fill = fill-told e.fill };
+      levels_a = refl;
+      levels_b = refl;
+      levels_c = refl;
+      latch_c = refl;
+      mode_word = refl;
+      enables = enables-told c.core.inte.input c.core.inte.output c.core.inte.b;
+      running = running-told c.phase;
+      place = place-told c.phase;
+      written = written-told c.phase;
+      edition = older;
+      unused = refl;
+    }
+
+-- Bytes that tell a chip are its older layout.
+module _ (o : List ℕ) (bytes : Bytes o) (c : Chip) (t : OlderTells o c) where
+  told-layout : older_of c ≡ o
+  unfolding older_of
+  told-layout =
+      let a = c.core.a.input in
+      let b = c.core.a.output in
+      let d = c.core.b.input in
+      let e = c.core.b.output in
+      (λ j.
+      five-back o 0 a.tally bytes t.a_in.counts j
+      ++ five-back o 10 b.tally bytes t.a_out.counts j
+      ++ five-back o 20 d.tally bytes t.b_in.counts j
+      ++ five-back o 30 e.tally bytes t.b_out.counts j
+      ++ (t.levels_a j ∷ t.levels_b j ∷ t.levels_c j ∷ t.latch_c j
+      ∷ t.a_in.latch j ∷ t.a_out.latch j ∷ t.b_in.latch j ∷ t.b_out.latch j
+      ∷ (sym (fill-told a.fill) ∙ t.a_in.fill) j ∷ (sym (fill-told b.fill) ∙ t.a_out.fill) j
+      ∷ (sym (fill-told d.fill) ∙ t.b_in.fill) j ∷ (sym (fill-told e.fill) ∙ t.b_out.fill) j
+      ∷ t.mode_word j ∷ (sym (enables-told c.core.inte.input c.core.inte.output c.core.inte.b) ∙ t.enables) j
+      ∷ (sym (running-told c.phase) ∙ t.running) j ∷ (sym (place-told c.phase) ∙ t.place) j
+      ∷ (sym (written-told c.phase) ∙ t.written) j ∷ [])
+      ++ (sym t.unused ∙ sym (behind o 57 7 t.long)) j)
+      ∙ spelled o 64 t.long
+
+  before : FromBefore c
+  before = (t.edition, none)
+    where
+      none : NoneForced c
+      none A Input = (t.a_in.counts.planted, t.a_in.counts.struck)
+      none A Output = (t.a_out.counts.planted, t.a_out.counts.struck)
+      none B Input = (t.b_in.counts.planted, t.b_in.counts.struck)
+      none B Output = (t.b_out.counts.planted, t.b_out.counts.struck)
+
+  module _ (has : HasImage c) where
+    is-older : is_older o ≡ true
+    is-older = ap is_older (sym told-layout) ∙ older-where c t.edition ∙ has-by c has
+
+    pub converted : Converted o c
+    converted =
+        let same : older_state o ≡ c = ap older_state (sym told-layout) ∙ comes_back c before in
+        record {
+          state = same;
+          answer = λ room long. converts o room bytes is-older long;
+          written = λ room long. convert-same o room bytes is-older long ∙ ap image_of same;
+        }
+
+from-before : (o : List ℕ) → FromBefore (older_state o)
+unfolding older_state
+from-before o = (refl, none)
+  where
+    none : NoneForced (older_state o)
+    none A Input = (refl, refl)
+    none A Output = (refl, refl)
+    none B Input = (refl, refl)
+    none B Output = (refl, refl)
+
+-- Exactly such bytes are an older image.
+pub older-image-where : (o : List ℕ) → Bytes o → (is_older o ≡ true) ↔ ((c : Chip) × HasImage c × OlderTells o c)
+older-image-where o bytes = (tells, λ (c, has, t). is-older o bytes c t has)
+  where
+    tells : is_older o ≡ true → (c : Chip) × HasImage c × OlderTells o c
+    tells good =
+        let c = older_state o in
+        (c, has-so c (tells-such o bytes good), subst (λ l. OlderTells l c) (same-bytes o bytes good) (layout-tells c (from-before o)))

@@ -1,0 +1,99 @@
+-- What is refused with 8, call by call.
+-- Rests on bits' Logic, chip's Outcome and calls' HostStep and Converted.
+use mathlib.Core.Path.{◌≡◌, refl}
+use mathlib.Core.Bool.{Bool, true, false, cond, not, ◌||◌}
+use mathlib.Core.List.{List}
+use Prim.Native.Nat.{ℕ, ◌%◌, ◌≤◌}
+use native.Mathlib.Omega.{arith}
+use lib.Dec.{ltb}
+use lib.ListN.{length}
+use borrow.Author.Tests.{eq-eqb, ne_eqb, lt-ltb, le-ltb}
+use Rattle.std.specs.Prelude.{Option, Some, None}
+use Rattle.bits.proofs.Logic.{by-test}
+use Rattle.bus.specs.declared.Phase.{Phase}
+use Rattle.bus.specs.declared.Limits.{Limits}
+use Rattle.bus.specs.Refusals.{number_of}
+use Rattle.chip.specs.declared.reasons.Explained.{Explained}
+use Rattle.chip.specs.Reasons.{explained_of, numbers_of}
+use Rattle.chip.specs.Step.{limits}
+use Rattle.chip.proofs.Outcome.{step-number}
+use Rattle.image.specs.Loaded.{state_of}
+use Rattle.image.specs.Good.{is_image}
+use Rattle.image.specs.Slices.{saved_in}
+use Rattle.older.specs.Good.{is_older}
+use Rattle.calls.specs.Calls.{last_port, last_channel, last_tally, power_up_as_answer, power_up_as_image, convert_answer, convert_image, step_answer, pins_answer, tally_answer, reasons_given, explain_answer}
+use Rattle.calls.proofs.HostStep.{bad_answer, bad_stays}
+use Rattle.calls.proofs.Converted.{convert-bad}
+use Rattle.restored.specs.Refusals.{RefusedBytes, AcceptedBytes, PowersUp, Converts}
+
+-- What is so of both outcomes is so of either.
+either : {X : Type 0} (b : Bool) (x : X) → cond b x x ≡ x
+either true x = refl
+either false x = refl
+
+-- The table of refusals has no number above 5.
+one_of_five : (a b c d e : Bool) → cond a 1 (cond b 2 (cond c 3 (cond d 4 (cond e 5 0)))) ≤ 5
+one_of_five true b c d e = omega arith
+one_of_five false true c d e = omega arith
+one_of_five false false true d e = omega arith
+one_of_five false false false true e = omega arith
+one_of_five false false false false true = omega arith
+one_of_five false false false false false = omega arith
+
+few : (l : Limits) (ph : Phase) (k x : ℕ) → number_of l ph k x ≤ 5
+unfolding number_of
+few l ph k x = one_of_five _ _ _ _ _
+
+-- The refusal of an answer is at most 5.
+abbrev Few : ℕ → Type 0
+Few answer = answer % 256 ≤ 5
+
+-- What an explanation answers is 0 or 2.
+explained_few : (o : Option Explained) → Few (reasons_given (numbers_of o))
+explained_few None = omega arith
+explained_few (Some e) = omega arith
+
+module _ (l : List ℕ) where
+  -- Bytes that are no image.
+  pub refused_bytes : is_image l ≡ false → RefusedBytes l
+  unfolding pins_answer tally_answer explain_answer
+  refused_bytes bad = record {
+    step = λ k x d. bad_answer l k x d bad;
+    step_leaves = λ k x d. bad_stays l k x d bad;
+    pins = λ p. rw (bad);
+    tally = λ k n. rw (bad);
+    explain = λ g. rw (bad);
+  }
+
+  -- And an image.
+  pub accepted_bytes : is_image l ≡ true → AcceptedBytes l
+  unfolding step_answer pins_answer tally_answer explain_answer
+  accepted_bytes good = record {
+    step = λ k x d.
+        let c = state_of l in
+        rw (good) (omega (arith, step-number c k x d, few (limits c.edition) c.phase k x));
+    pins = λ p. rw (good) (by-test Few (ltb last_port p) _ _ (λ above. omega arith) (λ below. omega arith));
+    tally = λ k n. rw (good) (by-test Few (ltb last_channel k || ltb last_tally n) _ _ (λ above. omega arith) (λ below. omega arith));
+    explain = λ g. rw (good) (explained_few (explained_of (state_of l) g));
+  }
+
+  -- Power-ups.
+  pub powers-up : PowersUp l
+  unfolding power_up_as_answer power_up_as_image saved_in
+  powers-up = record {
+    accepted = λ long. rw (eq-eqb (length l) 96 long);
+    accepted_as = λ ed long few. rw (le-ltb 1 ed few, eq-eqb (length l) 96 long);
+    other_length = λ other. let no = ne_eqb (length l) 96 other in (rw (no), rw (no));
+    other_length_with = λ a b c other. let no = ne_eqb (length l) 96 other in (rw (no), rw (no));
+    other_length_as = λ ed a b c other. let no = ne_eqb (length l) 96 other in (rw (no) (either (not (ltb 1 ed)) 8), rw (no) (either (not (ltb 1 ed)) l));
+    no_edition = λ ed a b c many. let no = lt-ltb 1 ed many in (rw (no), rw (no));
+  }
+
+-- Conversions.
+pub converts-so : (o l : List ℕ) → Converts o l
+unfolding convert_answer convert_image saved_in
+converts-so o l = record {
+  accepted = λ older long. rw (older, eq-eqb (length l) 96 long);
+  no_older = convert-bad o l;
+  other_length = λ other. let no = ne_eqb (length l) 96 other in (rw (no) (either (is_older o) 8), rw (no) (either (is_older o) l));
+}
