@@ -1,0 +1,81 @@
+-- The answers of a rack have the columns that they should have.
+-- Rests on script's Levels, and on rackscript's Shown.
+use Rattle.std.proofs.Common.{◌≡◌, ℕ, zero, suc, ◌+◌, ◌*◌, ◌<◌, ◌≤◌, List, [], ◌∷◌, ◌++◌, drop, refl, ap, ◌∙◌, arith}
+use lib.Seq.{drop_at}
+use borrow.Author.Tests.{lt-ltb}
+use Rattle.bus.specs.Device.{Given}
+use Rattle.chip.specs.Pins.{pins_of}
+use Rattle.text.specs.Digits.{digit_code, in_digits}
+use Rattle.text.specs.Lines.{lf, Line}
+use Rattle.rack.specs.declared.Rack.{Rack}
+use Rattle.rack.specs.State.{chip_at}
+use Rattle.rack.specs.Targets.{is_place}
+use Rattle.rack.specs.Step.{Stepped}
+use Rattle.script.specs.Answers.{levels_from, all_levels, line_text, line_after, answers_from}
+use Rattle.script.proofs.Levels.{all-length, line-length}
+use Rattle.rackscript.specs.Frames.{RackFrame, Event, NoFrame, rack_frame_in}
+use Rattle.rackscript.specs.Answers.{as_given, acted, count-kept, answering}
+use Rattle.rackscript.proofs.Shown.{shows-cards}
+use Rattle.printlaws.specs.Digits.{two_digits}
+use Rattle.printlaws.specs.Columns.{stepped_by, step_at, column, AnswerLine, Answers, none, next}
+
+pub same-digits : (b : ℕ) → in_digits b ≡ two_digits b
+unfolding digit_code
+same-digits b = refl
+
+same-step : (r : Rack) (f : RackFrame) → acted r f ≡ as_given (stepped_by r f)
+unfolding acted
+same-step r (Event k x y z) = refl
+same-step r NoFrame = refl
+
+-- The levels of a port stand where they should, among those of n cards from card i on.
+levels-at : (r : Rack) (rest : List ℕ) (n i place at port : ℕ) → at ≡ place + i → place < n → port < 3
+    → column (6 * place + 2 * port) (levels_from answering r i n ++ rest) ≡ in_digits (answering.levels r at port)
+unfolding levels_from
+levels-at r rest zero i place at port same there is = absurd (omega (arith, there))
+levels-at r rest (suc n) i zero at zero same there is = let first : at ≡ i = omega (arith, same) in rw (first) refl
+levels-at r rest (suc n) i zero at (suc zero) same there is = let first : at ≡ i = omega (arith, same) in rw (first) refl
+levels-at r rest (suc n) i zero at (suc (suc zero)) same there is = let first : at ≡ i = omega (arith, same) in rw (first) refl
+levels-at r rest (suc n) i zero at (suc (suc (suc p))) same there is = absurd (omega (arith, is))
+levels-at r rest (suc n) i (suc place) at port same there is =
+    let behind : 6 * suc place + 2 * port ≡ suc (suc (suc (suc (suc (suc (6 * place + 2 * port)))))) = omega arith in
+    rw (behind) (levels-at r rest n (suc i) place at port (omega (arith, same)) (omega (arith, there)) is)
+
+module _ (given : Stepped) (few : given.rack.count ≤ 8) where
+  abbrev line : List ℕ
+  line = line_after answering (as_given given)
+
+  abbrev levels : List ℕ
+  levels = all_levels answering given.rack
+
+  ports : (place port : ℕ) → place < given.rack.count → port < 3
+      → column (4 + 6 * place + 2 * port) line ≡ two_digits (pins_of (chip_at given.rack place) port).levels
+  unfolding line_text is_place
+  ports place port there is =
+      let behind : 4 + 6 * place + 2 * port ≡ suc (suc (suc (suc (6 * place + 2 * port)))) = omega arith in
+      let shown : answering.levels given.rack place port ≡ (pins_of (chip_at given.rack place) port).levels =
+      shows-cards given.rack place port (rw (lt-ltb place given.rack.count there, lt-ltb place 8 (omega (arith, there, few)))) in
+      rw (behind) (levels-at given.rack (lf ∷ []) given.rack.count 0 place place port (omega arith) there is) ∙ ap in_digits shown ∙ same-digits _
+
+  ended : drop (4 + 6 * given.rack.count) line ≡ lf ∷ []
+  unfolding line_text
+  ended =
+      let behind : 4 + 6 * given.rack.count ≡ suc (suc (suc (suc (6 * given.rack.count)))) = omega arith in
+      rw (behind) (drop_at levels (lf ∷ []) (6 * given.rack.count) (all-length answering given.rack))
+
+  pub line-of-columns : AnswerLine line given
+  unfolding line_text
+  line-of-columns = record {
+    number = same-digits given.number;
+    byte = same-digits given.byte;
+    ports = ports;
+    ended = ended;
+    width = line-length answering (as_given given) ∙ omega arith;
+  }
+
+pub in-columns : (ls : List Line) (r : Rack) → r.count ≤ 8 → Answers r ls (answers_from answering r ls)
+unfolding answers_from
+in-columns [] r few = none
+in-columns (l ∷ ls) r few =
+    let kept : (step_at r l).rack.count ≤ 8 = omega (arith, few, count-kept r (rack_frame_in l), ap (λ (g : Given Rack). g.state.count) (same-step r (rack_frame_in l))) in
+    rw (same-step r (rack_frame_in l)) (next (line-of-columns (step_at r l) kept) (in-columns ls (step_at r l).rack kept))
