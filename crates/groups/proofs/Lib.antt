@@ -19,5 +19,6 @@ pub mod Excluded
 pub mod SideBySide
 pub mod Kept
 pub mod Lines
+pub mod Runs
 pub mod InTheWay
 pub mod Determined

@@ -1,8 +1,8 @@
-//! What the program prints of a script, as definitions (specs/), and for which device it can be asked.
+//! What the program prints of a script, as definitions (specs/), and the devices that it can be asked for.
 #![tactic(auto)]
 
 /// The device that answers a script.
-#[derive(Clone, Copy)]
+#[derive(Clone, Copy, Debug, PartialEq, Eq)]
 pub enum Device {
     I8255A,
     I82C55A,

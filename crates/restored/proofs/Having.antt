@@ -1,43 +1,30 @@
--- A chip has an image exactly where the rules' own words say so, and where there are bytes that are one and tell the chip.
--- Rests on Conditions and Saved, on bits' Logic, on fates' Tables, and on image's ComesBack, SameBytes and OneImage.
-use mathlib.Core.Path.{◌≡◌, ◌∙◌, refl, ap, subst}
+-- A chip has an image exactly where the rules' own words say so.
+-- Rests on Conditions, on bits' Logic and fates' Tables.
+use mathlib.Core.Path.{◌≡◌, ◌∙◌, refl, ap}
 use mathlib.Core.Bool.{Bool, true, false}
-use mathlib.Core.List.{List, [], ◌∷◌, ◌++◌}
 use mathlib.Core.Logic.{◌⊎◌, inl, inr}
-use Prim.Native.Nat.{ℕ, zero, suc, ◌/◌, ◌%◌, ◌<◌}
+use Prim.Native.Nat.{ℕ, ◌<◌}
 use native.Mathlib.Omega.{arith}
-use lib.Dec.{ltb}
-use lib.ListN.{replicate}
 use borrow.Author.Tests.{eqb-true, eq-eqb, ltb-true, lt-ltb}
 use Rattle.std.specs.Prelude.{◌↔◌}
-use Rattle.bits.specs.Bit.{bit_of, value_of}
+use Rattle.bits.specs.Bit.{bit_of}
 use Rattle.bits.proofs.Logic.{contrary}
 use Rattle.bus.specs.declared.Phase.{Phase}
 use Rattle.bus.specs.declared.Phase.TheVariants.{Idle, Reading, Writing}
 use Rattle.control.specs.declared.Group.{Group}
-use Rattle.control.specs.declared.Group.TheVariants.{A, B}
 use Rattle.channel.specs.declared.Side.{Side}
 use Rattle.channel.specs.declared.Side.TheVariants.{Input, Output}
 use Rattle.channel.specs.declared.Fill.{Fill}
 use Rattle.channel.specs.declared.Fill.TheVariants.{Empty, Waiting, Fetching}
-use Rattle.channel.specs.declared.Tally.{Tally}
 use Rattle.chip.specs.declared.Edition.{Edition}
 use Rattle.chip.specs.declared.Edition.TheVariants.{Older, Newer}
 use Rattle.chip.specs.declared.Chip.{Chip}
 use Rattle.chip.specs.State.{channel_of}
 use Rattle.chip.specs.Handshakes.{strobed}
-use Rattle.fates.specs.Promise.{SixteenBits}
 use Rattle.fates.proofs.Tables.{strobes-same}
-use Rattle.image.specs.Places as places
-use Rattle.image.specs.Layout.{tally_bytes, fill_byte, enables_byte, bus_byte, written_byte, port_bytes, bus_bytes, edition_byte, image_of}
-use Rattle.image.specs.Loaded.{byte_at, phase_as, state_of}
-use Rattle.image.specs.Good.{names_its_place, allowed, has_image, Bytes}
-use Rattle.image.proofs.ComesBack.{comes_back}
-use Rattle.image.proofs.SameBytes.{small}
-use Rattle.image.proofs.OneImage.{has-image, tells-such}
-use Rattle.restored.specs.Having.{NamesAPlace, HasImage, ByteWritten, InRange, ComesFromBytes}
+use Rattle.image.specs.Good.{names_its_place, allowed, has_image}
+use Rattle.restored.specs.Having.{NamesAPlace, HasImage}
 use Rattle.restored.proofs.Conditions.{apart, together}
-use Rattle.restored.proofs.Saved.{sixteen-bits}
 
 -- Condition by condition.
 place-so : (ed : Edition) (ph : Phase) → names_its_place ed ph ≡ true → NamesAPlace ed ph
@@ -102,150 +89,7 @@ has-by c k =
 pub has-where : (c : Chip) → (has_image c ≡ true) ↔ HasImage c
 has-where c = (has-so c, has-by c)
 
--- What bytes tell is in range.
-written-small : (bus byte : ℕ) → byte < 256 → ByteWritten (phase_as bus byte)
-written-small bus byte few = go (ltb bus places.writes) (ltb bus places.idle) refl refl
-  where
-    go : (read below : Bool) → ltb bus places.writes ≡ read → ltb bus places.idle ≡ below → ByteWritten (phase_as bus byte)
-    go true below r b = rw (r) tt
-    go false true r b = rw (r, b) few
-    go false false r b = rw (r, b) tt
-
-in-range : (l : List ℕ) → Bytes l → InRange (state_of l)
-unfolding state_of
-in-range l bytes =
-    let at = small l bytes in
-    record {
-      written = written-small (byte_at l places.bus) (byte_at l places.written) (at places.written);
-      word = at places.word;
-      levels_a = at places.levels_a;
-      levels_b = at places.levels_b;
-      levels_c = at places.levels_c;
-      latch_c = at places.latch_c;
-      latch = latch;
-      tallies = sixteen-bits l bytes;
-    }
-  where
-    latch : (g : Group) (s : Side) → (channel_of (state_of l).core g s).latch < 256
-    latch A Input = small l bytes 60
-    latch A Output = small l bytes 61
-    latch B Input = small l bytes 62
-    latch B Output = small l bytes 63
-
--- And the layout of a chip in range is made of bytes.
-bytes-both : (xs ys : List ℕ) → Bytes xs → Bytes ys → Bytes (xs ++ ys)
-bytes-both [] ys bx by = by
-bytes-both (x ∷ xs) ys bx by = (bx.0, bytes-both xs ys bx.1 by)
-
-wide : (n : ℕ) → n < 65536 → (n % 256 < 256) × (n / 256 < 256)
-wide n few = (omega arith, omega (arith, few))
-
-tally-in-bytes : (t : Tally) → SixteenBits t → Bytes (tally_bytes t)
-tally-in-bytes t k =
-    let a = wide t.offered k.offered in
-    let b = wide t.handed k.handed in
-    let c = wide t.overwritten k.overwritten in
-    let d = wide t.swallowed k.swallowed in
-    let e = wide t.cleared k.cleared in
-    let f = wide t.planted k.planted in
-    let g = wide t.struck k.struck in
-    (a.0, (a.1, (b.0, (b.1, (c.0, (c.1, (d.0, (d.1, (e.0, (e.1, (f.0, (f.1, (g.0, (g.1, tt))))))))))))))
-
-fill-small : (f : Fill) → fill_byte f < 256
-fill-small Empty = omega arith
-fill-small Waiting = omega arith
-fill-small Fetching = omega arith
-
-enables-small : (i o b : Bool) → enables_byte (record { input = i; output = o; b = b }) < 256
-unfolding value_of
-enables-small true true true = omega arith
-enables-small true true false = omega arith
-enables-small true false true = omega arith
-enables-small true false false = omega arith
-enables-small false true true = omega arith
-enables-small false true false = omega arith
-enables-small false false true = omega arith
-enables-small false false false = omega arith
-
-edition-small : (ed : Edition) → edition_byte ed < 256
-edition-small Older = omega arith
-edition-small Newer = omega arith
-
+-- What is read is an address.
 pub an-address : (ed : Edition) (p : ℕ) → NamesAPlace ed (Reading p) → p < 4
 an-address Older p few = omega (arith, few)
 an-address Newer p few = omega (arith, few)
-
-cycle-small : (ed : Edition) (ph : Phase) → NamesAPlace ed ph → ByteWritten ph → (bus_byte ph < 256) × (written_byte ph < 256)
-cycle-small ed Idle few is = (omega arith, omega arith)
-cycle-small ed (Reading p) few is = let below = an-address ed p few in (rw (lt-ltb p 4 below) (omega (arith, below)), omega arith)
-cycle-small ed (Writing x d) few is = (rw (lt-ltb x 4 (omega (arith, few))) (omega (arith, few)), is)
-
-pub in-bytes : (c : Chip) → HasImage c → InRange c → Bytes (image_of c)
-unfolding image_of
-in-bytes c has k =
-    let t : Group → Side → List ℕ = λ g s. tally_bytes (channel_of c.core g s).tally in
-    let tally : (g : Group) (s : Side) → Bytes (t g s) = λ g s. tally-in-bytes (channel_of c.core g s).tally (k.tallies g s) in
-    let fill : (g : Group) (s : Side) → fill_byte (channel_of c.core g s).fill < 256 = λ g s. fill-small (channel_of c.core g s).fill in
-    let cycle = cycle-small c.edition c.phase has.place k.written in
-    let core = port_bytes c.core ++ (c.core.word ∷ enables_byte c.core.inte ∷ []) in
-    let behind = core ++ bus_bytes c.phase ++ (edition_byte c.edition ∷ []) ++ replicate 23 0 in
-    let others : Bytes behind = (
-      k.levels_a,
-      (
-        k.levels_b,
-        (
-          k.levels_c,
-          (
-            k.latch_c,
-            (
-              k.latch A Input,
-              (
-                k.latch A Output,
-                (
-                  k.latch B Input,
-                  (
-                    k.latch B Output,
-                    (
-                      fill A Input,
-                      (
-                        fill A Output,
-                        (
-                          fill B Input,
-                          (
-                            fill B Output,
-                            (
-                              k.word,
-                              (
-                                enables-small c.core.inte.input c.core.inte.output c.core.inte.b,
-                                (cycle.0, (cycle.1, (edition-small c.edition, zeros 23))),
-                              ),
-                            ),
-                          ),
-                        ),
-                      ),
-                    ),
-                  ),
-                ),
-              ),
-            ),
-          ),
-        ),
-      ),
-    ) in
-    bytes-both (t A Input) (t A Output ++ t B Input ++ t B Output ++ behind) (tally A Input)
-    (bytes-both (t A Output) (t B Input ++ t B Output ++ behind) (tally A Output)
-    (bytes-both (t B Input) (t B Output ++ behind) (tally B Input)
-    (bytes-both (t B Output) behind (tally B Output) others)))
-  where
-    zeros : (n : ℕ) → Bytes (replicate n 0)
-    zeros zero = tt
-    zeros (suc n) = (omega arith, zeros n)
-
-pub told-where : (c : Chip) → ComesFromBytes c ↔ (HasImage c × InRange c)
-told-where c = (told, by-bytes)
-  where
-    told : ComesFromBytes c → HasImage c × InRange c
-    told (l, bytes, good, is) = subst (λ c. HasImage c × InRange c) is (has-so (state_of l) (tells-such l bytes good), in-range l bytes)
-
-    by-bytes : HasImage c × InRange c → ComesFromBytes c
-    by-bytes (has, k) = let is = has-by c has in (image_of c, in-bytes c has k, has-image c is, comes_back c is)

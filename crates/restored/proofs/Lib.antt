@@ -11,6 +11,7 @@ pub mod Answers
 pub mod Refusals
 pub mod SwitchedOn
 pub mod Having
+pub mod InRange
 pub mod Table
 pub mod OlderBytes
 pub mod SavedOlder
