@@ -1,17 +1,17 @@
 -- What each move of a channel leaves of its latch, of its flag and of a byte that was given, in the account's shapes.
--- Rests on bits' Logic, the channel's ConditionsLeft and laws' Forcing.
+-- Rests on bits' Logic, chip's ConditionsLeft and laws' Forcing.
 use mathlib.Core.Path.{◌≡◌, ◌∙◌, refl, ap, sym}
 use mathlib.Core.Bool.{Bool, true, false, cond, not, ◌&&◌, ◌||◌, and-false, and-true, or-false, or-true}
 use Prim.Native.Nat.{ℕ}
 use Rattle.bits.proofs.Logic.{either_way}
-use Rattle.channel.specs.declared.Side.{Side}
-use Rattle.channel.specs.declared.Side.TheVariants.{Input, Output}
-use Rattle.channel.specs.declared.Fill.{Fill}
-use Rattle.channel.specs.declared.Fill.TheVariants.{Empty, Waiting, Fetching}
-use Rattle.channel.specs.declared.Channel.{Channel}
-use Rattle.channel.specs.Channel.{is_waiting, is_empty, flag_of}
-use Rattle.channel.specs.Moves.{after_offer, after_follow, after_hand_over, after_end_read, after_force}
-use Rattle.channel.proofs.ConditionsLeft.{leaves, offer-waits, offer-latches, follow-stays, follow-latches, hand-over-leaves, hand-over-keeps, end-read-empties, end-read-keeps, forced_to, force-leaves, force-keeps}
+use Rattle.chip.specs.declared.channel.Side.{Side}
+use Rattle.chip.specs.declared.channel.Side.TheVariants.{Input, Output}
+use Rattle.chip.specs.declared.channel.Fill.{Fill}
+use Rattle.chip.specs.declared.channel.Fill.TheVariants.{Empty, Waiting, Fetching}
+use Rattle.chip.specs.declared.channel.Channel.{Channel}
+use Rattle.chip.specs.Channel.{is_waiting, is_empty, flag_of}
+use Rattle.chip.specs.Moves.{after_offer, after_follow, after_hand_over, after_end_read, after_force}
+use Rattle.chip.proofs.ConditionsLeft.{leaves, offer-waits, offer-latches, follow-stays, follow-latches, hand-over-leaves, hand-over-keeps, end-read-empties, end-read-keeps, forced_to, force-leaves, force-keeps}
 use Rattle.chip.specs.declared.Port.{Port}
 use Rattle.chip.specs.State.{with_output}
 use Rattle.chip.specs.Write.{stored_in}

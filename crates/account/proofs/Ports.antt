@@ -1,5 +1,5 @@
 -- The latches of ports A and B, IBF, the byte that a read was given, and OBF go on as the account says.
--- Rests on Columns, ByAct, Moves, bits' Logic, control's Strobed, the channel's ConditionsLeft, chip's OnPort, Flags, SettingsAfter,
+-- Rests on Columns, ByAct, Moves, bits' Logic, control's Strobed, chip's ConditionsLeft, OnPort, Flags, SettingsAfter,
 -- ReadsAfter and LevelsAfter, and fates' PinNamed and Tables.
 use mathlib.Core.Path.{◌≡◌, refl, ap, sym}
 use mathlib.Core.Bool.{Bool, true, false, cond, not, ◌&&◌, and-false, and-true}
@@ -13,11 +13,11 @@ use Rattle.control.specs.declared.Group.{Group}
 use Rattle.control.specs.declared.Group.TheVariants.{A, B}
 use Rattle.control.specs.Mode.{strobed_input, strobed_output, output_of}
 use Rattle.control.proofs.Strobed.{giving-is-output}
-use Rattle.channel.specs.declared.Side.{Side}
-use Rattle.channel.specs.declared.Side.TheVariants.{Input, Output}
-use Rattle.channel.specs.declared.Fill.TheVariants.{Empty, Fetching}
-use Rattle.channel.specs.Moves.{after_force}
-use Rattle.channel.proofs.ConditionsLeft.{clear-empties, clear-zeroes}
+use Rattle.chip.specs.declared.channel.Side.{Side}
+use Rattle.chip.specs.declared.channel.Side.TheVariants.{Input, Output}
+use Rattle.chip.specs.declared.channel.Fill.TheVariants.{Empty, Fetching}
+use Rattle.chip.specs.Moves.{after_force}
+use Rattle.chip.proofs.ConditionsLeft.{clear-empties, clear-zeroes}
 use Rattle.chip.specs.declared.Port.{Port}
 use Rattle.chip.specs.declared.Core.{Core}
 use Rattle.chip.specs.declared.Chip.{Chip}

@@ -13,7 +13,7 @@ use Rattle.control.specs.Mode.{mode_of, input_of, upper_input, lower_input}
 use Rattle.control.specs.Role.{Role, number, role_of, uses_of, free_role}
 use Rattle.control.proofs.PinByMasks.{number-one}
 use Rattle.control.proofs.RoleWords.{role-as-byte}
-use Rattle.channel.specs.declared.Side.TheVariants.{Input, Output}
+use Rattle.chip.specs.declared.channel.Side.TheVariants.{Input, Output}
 use Rattle.chip.specs.Handshakes.{group_at}
 use Rattle.fates.specs.Effects.{strobe_pin}
 use Rattle.account.specs.Summary.{Column, plain_in, plain_out, strobed_in, strobed_out, both_ways, column_of, takes, gives, Signal, io, INTR, IBF, OBF, STB, ACK, row, signal_at, is_in}

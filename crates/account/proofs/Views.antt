@@ -13,9 +13,9 @@ use Rattle.control.specs.declared.Group.{Group}
 use Rattle.control.specs.declared.Group.TheVariants.{A, B}
 use Rattle.control.specs.Role.{role_of}
 use Rattle.control.specs.Role
-use Rattle.channel.specs.declared.Side.{Side}
-use Rattle.channel.specs.declared.Side.TheVariants.{Input, Output}
-use Rattle.channel.specs.Channel.{flag_of}
+use Rattle.chip.specs.declared.channel.Side.{Side}
+use Rattle.chip.specs.declared.channel.Side.TheVariants.{Input, Output}
+use Rattle.chip.specs.Channel.{flag_of}
 use Rattle.chip.specs.declared.Chip.{Chip}
 use Rattle.chip.specs.State.{port_of}
 use Rattle.chip.specs.Handshakes.{group_at, enable_of}

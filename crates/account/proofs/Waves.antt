@@ -10,8 +10,8 @@ use Rattle.bus.specs.Event.{Event}
 use Rattle.bus.specs.declared.Phase.TheVariants.{Idle, Reading, Writing}
 use Rattle.control.specs.declared.Group.{Group}
 use Rattle.control.specs.declared.Group.TheVariants.{A, B}
-use Rattle.channel.specs.declared.Side.{Side}
-use Rattle.channel.specs.declared.Side.TheVariants.{Input, Output}
+use Rattle.chip.specs.declared.channel.Side.{Side}
+use Rattle.chip.specs.declared.channel.Side.TheVariants.{Input, Output}
 use Rattle.chip.proofs.OnPort.{control-not-own}
 use Rattle.fates.specs.Kinds.{new_levels}
 use Rattle.fates.specs.Surroundings.{Surroundings, surroundings_after}

@@ -4,9 +4,9 @@ use Rattle.bits.specs.Bit.{bit_of}
 use Rattle.bus.specs.Event.{Event}
 use Rattle.control.specs.declared.Group.{Group}
 use Rattle.control.specs.Lookup.{lookup_of}
-use Rattle.channel.specs.declared.Side.{Side}
-use Rattle.channel.specs.declared.Side.TheVariants.{Input, Output}
-use Rattle.channel.specs.Channel.{is_waiting, is_empty}
+use Rattle.chip.specs.declared.channel.Side.{Side}
+use Rattle.chip.specs.declared.channel.Side.TheVariants.{Input, Output}
+use Rattle.chip.specs.Channel.{is_waiting, is_empty}
 use Rattle.chip.specs.declared.Chip.{Chip}
 use Rattle.chip.specs.declared.Core.{Core}
 use Rattle.chip.specs.State.{channel_of}

@@ -5,7 +5,7 @@
 ghost use Rattle.std.specs.Prelude.{List, ◌++◌};
 ghost use Rattle.bus.specs.Event.{Event};
 ghost use Rattle.control.specs.declared.Group.{Group};
-ghost use Rattle.channel.specs.declared.Side.{Side};
+ghost use Rattle.chip.specs.declared.channel.Side.{Side};
 ghost use Rattle.chip.specs.declared.Edition.{Edition};
 ghost use Rattle.chip.specs.declared.Chip.{Chip};
 ghost use Rattle.chip.specs.declared.Levels.{Levels};

@@ -1,6 +1,6 @@
 -- What becomes of an older image: the image of the state that it tells, of the older edition, in which nothing was planted or struck; and
 -- bad bytes are refused.
--- Rests on image's ComesBack, OneImage and Long, and on older's ComesBack, Long and OneImage.
+-- Rests on image's ComesBack, OneImage, Long, OlderComesBack, OlderLong and OlderOneImage.
 use mathlib.Core.Path.{◌≡◌, ◌∙◌, refl, ap}
 use mathlib.Core.Bool.{true, false}
 use mathlib.Core.List.{List}
@@ -9,7 +9,7 @@ use native.Mathlib.Omega.{arith}
 use lib.ListN.{length}
 use borrow.Author.Tests.{eq-eqb, ne_eqb, le-ltb}
 use Rattle.control.specs.declared.Group.TheVariants.{A, B}
-use Rattle.channel.specs.declared.Side.TheVariants.{Input, Output}
+use Rattle.chip.specs.declared.channel.Side.TheVariants.{Input, Output}
 use Rattle.chip.specs.declared.Chip.{Chip}
 use Rattle.image.specs.Places as places
 use Rattle.image.specs.Layout.{image_of}
@@ -19,13 +19,13 @@ use Rattle.image.specs.Slices.{saved_in}
 use Rattle.image.proofs.ComesBack.{comes_back}
 use Rattle.image.proofs.OneImage.{has-image}
 use Rattle.image.proofs.Long.{written_over}
-use Rattle.older.specs.Layout.{older_of}
-use Rattle.older.specs.Loaded.{older_state}
-use Rattle.older.specs.Good.{is_older}
-use Rattle.older.specs.Before.{NoneForced, FromBefore}
-use Rattle.older.proofs.ComesBack as older
-use Rattle.older.proofs.Long.{is_long}
-use Rattle.older.proofs.OneImage.{older-where, tells-such}
+use Rattle.image.specs.OlderLayout.{older_of}
+use Rattle.image.specs.OlderLoaded.{older_state}
+use Rattle.image.specs.OlderGood.{is_older}
+use Rattle.image.specs.Before.{NoneForced, FromBefore}
+use Rattle.image.proofs.OlderComesBack as older
+use Rattle.image.proofs.OlderLong.{is_long}
+use Rattle.image.proofs.OlderOneImage.{older-where, tells-such}
 use Rattle.calls.specs.Calls.{last_channel, counter_numbered, tally_answer, convert_answer, convert_image}
 
 module _ (o l : List ℕ) where

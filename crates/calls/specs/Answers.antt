@@ -3,8 +3,8 @@ use Rattle.std.specs.Prelude.{refl, cond, ℕ, ◌*◌, ltb, Option, Some, None,
 use Rattle.bus.specs.Answers.{refusal_number}
 use Rattle.bus.specs.Never0.{Never0, refusal-never-0}
 use Rattle.control.specs.declared.Group.{Group}
-use Rattle.channel.specs.declared.Side.{Side}
-use Rattle.channel.specs.declared.Tally.{Tally}
+use Rattle.chip.specs.declared.channel.Side.{Side}
+use Rattle.chip.specs.declared.channel.Tally.{Tally}
 use Rattle.calls.specs.Calls.{no_state, out_of_range, last_channel, last_tally, group_numbered, side_numbered, counter_numbered}
 use Rattle.calls.specs.declared.refusals.CallRefusal.{CallRefusal}
 use Rattle.calls.specs.declared.refusals.CallRefusal.TheVariants.{NoState, NoEdition, NoSuchKind, Event, OutOfRange}

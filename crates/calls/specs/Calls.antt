@@ -3,9 +3,9 @@
 use Rattle.std.specs.Prelude.{Bool, cond, ◌&&◌, ◌||◌, List, ℕ, ◌+◌, ◌*◌, ◌%◌, eqb, ltb, length}
 use Rattle.control.specs.declared.Group.{Group}
 use Rattle.control.specs.declared.Group.TheVariants.{A, B}
-use Rattle.channel.specs.declared.Side.{Side}
-use Rattle.channel.specs.declared.Side.TheVariants.{Input, Output}
-use Rattle.channel.specs.declared.Tally.{Tally}
+use Rattle.chip.specs.declared.channel.Side.{Side}
+use Rattle.chip.specs.declared.channel.Side.TheVariants.{Input, Output}
+use Rattle.chip.specs.declared.channel.Tally.{Tally}
 use Rattle.chip.specs.State.{levels_by, power_up_as, power_up_with, power_up, tally_of}
 use Rattle.chip.specs.Reasons.{Numbers, explained_of, numbers_of}
 use Rattle.bus.specs.declared.Pins.{Pins}
@@ -17,8 +17,8 @@ use Rattle.image.specs.Layout.{image_of}
 use Rattle.image.specs.Loaded.{edition_as, state_of}
 use Rattle.image.specs.Good.{edition_fits, is_image}
 use Rattle.image.specs.Slices.{saved_in}
-use Rattle.older.specs.Loaded.{older_state}
-use Rattle.older.specs.Good.{is_older}
+use Rattle.image.specs.OlderLoaded.{older_state}
+use Rattle.image.specs.OlderGood.{is_older}
 
 -- A number with two bytes above it.
 abbrev pub packed : ℕ → ℕ → ℕ → ℕ

@@ -8,8 +8,8 @@ ghost use Rattle.calls.specs.Calls.{pins_answer, tally_answer, explain_answer};
 
 use super::refusals::CallRefusal;
 use bus::devices::Device;
-use channel::{Side, Tally};
 use chip::Chip;
+use chip::channel::{Side, Tally};
 use control::Group;
 
 // A part of each view, for which the compiler then loads only what that view looks at.

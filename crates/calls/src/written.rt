@@ -6,6 +6,7 @@ ghost use Rattle.calls.specs.Calls.{power_up_answer, power_up_as_answer, power_u
 
 use super::refusals::CallRefusal;
 use chip::{Chip, Edition, Levels};
+use image::older;
 use image::places::LENGTH;
 
 // A new image, whatever stood there.

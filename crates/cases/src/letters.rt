@@ -2,7 +2,7 @@
 // levels of its pins, a small one those that are driven. And the digits of the channels of an 8255A.
 use bus::Pins;
 use bus::devices::Device;
-use channel::Side;
+use chip::channel::Side;
 use control::Group;
 use std::io;
 

@@ -3,7 +3,7 @@
 use super::answers::Fields;
 use super::letters;
 use bus::devices::Device;
-use channel::{Channel, Fill, Tally};
+use chip::channel::{Channel, Fill, Tally};
 use chip::reasons::{Explained, Reason};
 use chip::{Chip, Edition, PORT_C};
 use std::io;

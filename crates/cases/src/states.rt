@@ -5,7 +5,7 @@ use super::{answers, phases};
 use bus::devices::step;
 use bus::events::Event;
 use bus::refusals::Refusal;
-use channel::Fill;
+use chip::channel::Fill;
 use chip::{Chip, Core, Edition, Levels, PORT_C};
 
 // The cases are those of lines that idle high.

@@ -12,8 +12,8 @@ use Rattle.control.specs.declared.Group.TheVariants.{A, B}
 use Rattle.control.specs.Mode.{mode_of, input_of, upper_input, lower_input, strobed_input, strobed_output}
 use Rattle.control.specs.Role.{Role, IBF, OBF, number, uses_of, free_role, role_of}
 use Rattle.control.proofs.RoleWords.{role-as-byte}
-use Rattle.channel.specs.declared.Side.{Side}
-use Rattle.channel.specs.declared.Side.TheVariants.{Input, Output}
+use Rattle.chip.specs.declared.channel.Side.{Side}
+use Rattle.chip.specs.declared.channel.Side.TheVariants.{Input, Output}
 use Rattle.chip.specs.Handshakes.{strobed, flag_pin, group_at}
 use Rattle.chip.proofs.StrobedWords.{strobed-as-byte}
 use Rattle.chip.proofs.OneChannel.{same_group}

@@ -1,3 +1,4 @@
+pub mod ConditionsLeft
 pub mod OnPort
 pub mod OneChannel
 pub mod StrobedWords

@@ -16,7 +16,7 @@ use Rattle.control.specs.Mode.{strobed_input}
 use Rattle.control.specs.Role.{role_of}
 use Rattle.control.specs.Pins.{handshake_pins, output_pins, handshake_role}
 use Rattle.control.proofs.PinByMasks.{sorted, role-by-masks}
-use Rattle.channel.specs.declared.Side.TheVariants.{Input, Output}
+use Rattle.chip.specs.declared.channel.Side.TheVariants.{Input, Output}
 use Rattle.chip.specs.declared.Chip.{Chip}
 use Rattle.chip.specs.Status.{flag_at, intr_of, status_of}
 use Rattle.chip.specs.Reads.{read_as, read_lines}

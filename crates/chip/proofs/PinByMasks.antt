@@ -13,7 +13,7 @@ use Rattle.control.specs.declared.Group.TheVariants.{A, B}
 use Rattle.control.specs.Mode.{strobed_input}
 use Rattle.control.specs.Pins.{handshake_pins, output_pins, handshake_role}
 use Rattle.control.proofs.PinByMasks.{sorted, role-by-masks}
-use Rattle.channel.specs.declared.Side.TheVariants.{Input, Output}
+use Rattle.chip.specs.declared.channel.Side.TheVariants.{Input, Output}
 use Rattle.chip.specs.declared.Core.{Core}
 use Rattle.chip.specs.State.{with_latch, with_enables}
 use Rattle.chip.specs.ControlWord.{enabled, flag_put, set_as, pin_set}

@@ -7,9 +7,9 @@ use Rattle.control.specs.declared.Group.{Group}
 use Rattle.control.specs.declared.Group.TheVariants.{A, B}
 use Rattle.control.specs.Word.{control_of}
 use Rattle.control.specs.Role.{Role, input, output, INTR, IBF, OBF, STB, ACK, role_of}
-use Rattle.channel.specs.declared.Side.{Side}
-use Rattle.channel.specs.declared.Side.TheVariants.{Input, Output}
-use Rattle.channel.specs.Moves.{after_clear, after_force}
+use Rattle.chip.specs.declared.channel.Side.{Side}
+use Rattle.chip.specs.declared.channel.Side.TheVariants.{Input, Output}
+use Rattle.chip.specs.Moves.{after_clear, after_force}
 use Rattle.chip.specs.declared.Core.{Core}
 use Rattle.chip.specs.State.{port_of, channel_of}
 use Rattle.chip.specs.Handshakes.{enable_of, group_at}

@@ -7,9 +7,9 @@ use Rattle.control.specs.declared.word.Control.{Control}
 use Rattle.control.specs.declared.word.Control.TheVariants.{Mode, Bit}
 use Rattle.control.specs.Word.{control_of}
 use Rattle.control.specs.Role.{Role, input, output, INTR, IBF, OBF, STB, ACK, role_of}
-use Rattle.channel.specs.declared.Side.{Side}
-use Rattle.channel.specs.declared.Side.TheVariants.{Input, Output}
-use Rattle.channel.specs.Moves.{after_force}
+use Rattle.chip.specs.declared.channel.Side.{Side}
+use Rattle.chip.specs.declared.channel.Side.TheVariants.{Input, Output}
+use Rattle.chip.specs.Moves.{after_force}
 use Rattle.chip.specs.declared.Enables.{Enables}
 use Rattle.chip.specs.declared.Core.{Core}
 use Rattle.chip.specs.State.{channel_of, with_channel, with_latch, with_enables}

@@ -1,3 +1,5 @@
+pub mod Channel
+pub mod Moves
 pub mod Addresses
 pub mod State
 pub mod Handshakes

@@ -5,7 +5,7 @@ use Rattle.control.specs.declared.Group.{Group}
 use Rattle.control.specs.declared.Group.TheVariants.{A, B}
 use Rattle.control.specs.Mode.{mode_of, output_of}
 use Rattle.control.specs.Role.{Role, input, output, INTR, IBF, OBF, STB, ACK, role_of}
-use Rattle.channel.specs.declared.Side.TheVariants.{Output}
+use Rattle.chip.specs.declared.channel.Side.TheVariants.{Output}
 use Rattle.chip.specs.declared.Port.{Port}
 use Rattle.chip.specs.declared.Core.{Core}
 use Rattle.chip.specs.declared.Chip.{Chip}

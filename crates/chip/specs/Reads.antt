@@ -5,7 +5,7 @@ use Rattle.control.specs.declared.Group.{Group}
 use Rattle.control.specs.declared.Group.TheVariants.{A, B}
 use Rattle.control.specs.Mode.{strobed_input, output_of}
 use Rattle.control.specs.Role.{Role, input, output, INTR, IBF, OBF, STB, ACK, role_of}
-use Rattle.channel.specs.declared.Side.TheVariants.{Input, Output}
+use Rattle.chip.specs.declared.channel.Side.TheVariants.{Input, Output}
 use Rattle.chip.specs.declared.Port.{Port}
 use Rattle.chip.specs.declared.Chip.{Chip}
 use Rattle.chip.specs.Addresses.{port_a, port_b, port_c, control}

@@ -6,8 +6,8 @@ use Rattle.control.specs.declared.Group.TheVariants.{A}
 use Rattle.control.specs.Mode.{mode_of, strobed_output, output_of}
 use Rattle.control.specs.Role.{role_of, in_lower_half}
 use Rattle.control.specs.Pins.{is_output}
-use Rattle.channel.specs.declared.Channel.{Channel}
-use Rattle.channel.specs.Moves.{after_offer}
+use Rattle.chip.specs.declared.channel.Channel.{Channel}
+use Rattle.chip.specs.Moves.{after_offer}
 use Rattle.chip.specs.declared.Port.{Port}
 use Rattle.chip.specs.declared.Core.{Core}
 use Rattle.chip.specs.Addresses.{port_c, control}

@@ -3,17 +3,18 @@ ghost use Rattle.std.specs.Prelude.{◌≡◌};
 ghost use Rattle.chip.specs.Handshakes.{own_address, strobed, line_pin, enable_of, running};
 ghost use Rattle.chip.specs.Status.{flag_at};
 
+use super::channel::Side;
 use super::{Core, Enables, PORT_A, PORT_B};
 use bus::Phase;
-use channel::Side;
 use control::{Group, mode};
 
-// The pins of port C that the chip listens to in a handshake: STB of group A, ACK of group A, and the pin of group B, which is its STB or its
-// ACK.
+/// The pin of port C that is STB of group A, where port A takes bytes in. Data sheet: Mode 1 (Strobed Input).
 pub const STB_A: u8 = 4;
 
+/// The pin that is ACK of group A, where port A gives bytes out. Data sheet: Mode 1 (Strobed Output).
 pub const ACK_A: u8 = 6;
 
+/// The pin of group B's line: its STB where port B is an input, its ACK where it is an output.
 pub const LINE_B: u8 = 2;
 
 // Those on which it shows whether a byte is there: IBF of group A, OBF of group A, and the pin of group B, which is its IBF or its OBF.

@@ -6,6 +6,7 @@
 ghost use Rattle.std.specs.Prelude.{◌≡◌};
 ghost use Rattle.chip.specs.State.{edition_numbered, fresh_port, power_up_as, power_up, port_of, side_of, channel_of, tally_of};
 
+pub mod channel;
 mod device;
 pub mod handshakes;
 mod outside;
@@ -20,7 +21,7 @@ use bus::Phase;
 use channel::{Channel, Side, Tally};
 use control::Group;
 
-/// Port A or B: its two channels, and the levels put on its pins from outside.
+/// Port A or B: its two channels, and the levels put on its pins from outside. Data sheet: Ports A, B, and C.
 #[derive(Clone, Copy, Debug, PartialEq, Eq)]
 pub struct Port {
     pub input: Channel,
@@ -28,14 +29,15 @@ pub struct Port {
     pub outside: u8,
 }
 
-/// Port C: its output latch, and the levels put on its lines from outside.
+/// Port C: its output latch, and the levels put on its lines from outside. Data sheet: Ports A, B, and C.
 #[derive(Clone, Copy, Debug, PartialEq, Eq)]
 pub struct PortC {
     pub latch: u8,
     pub outside: u8,
 }
 
-/// The interrupt enables: INTE in A, INTE out A, and INTE B, which group B's two channels share. By default none is on.
+/// The interrupt enables: INTE in A, INTE out A, and INTE B, which group B's two channels share. By default none is on. Data sheet: Interrupt
+/// Control Functions.
 #[derive(Clone, Copy, Debug, PartialEq, Eq, Default)]
 pub struct Enables {
     pub input: bool,
@@ -87,16 +89,19 @@ impl Levels {
     };
 }
 
-// The ports A, B and C and control by their addresses on the bus. Outside levels name a port by the same number.
+/// The address of port A on the bus. Outside levels name a port by the same number. Data sheet: Basic Operation.
 pub const PORT_A: u8 = 0;
 
+/// The address of port B, and its number.
 pub const PORT_B: u8 = 1;
 
+/// The address of port C, and its number.
 pub const PORT_C: u8 = 2;
 
+/// The address of the control word. It is no port, and has no levels.
 pub const CONTROL: u8 = 3;
 
-/// The mode word at power-up and after a reset: all ports are inputs in mode 0.
+/// The mode word at power-up and after a reset: all ports are inputs in mode 0. Data sheet: RESET.
 pub const POWER_UP_WORD: u8 = 0x9b;
 
 impl Edition {

@@ -3,9 +3,9 @@
 ghost use Rattle.std.specs.Prelude.{◌≡◌};
 ghost use Rattle.chip.specs.Levels.{fallen, line_falls, edged, after_levels_on_c, lets_through, port_after_levels, after_levels};
 
+use super::channel::{Fill, Side};
 use super::handshakes::line_pin;
 use super::{Core, PORT_A, PORT_B, PORT_C, Port};
-use channel::{Fill, Side};
 use control::Group;
 
 // Whether the level of a pin falls as the byte before becomes the byte after.
@@ -47,7 +47,7 @@ impl Core {
     fn line_falls(&self, levels: u8, group: Group, side: Side) -> bool
         ensures { result ≡ line_falls self.now levels group side }
     {
-        self.strobes(group, side) & falls(self.c.outside, levels, line_pin(group, side))
+        self.strobes(group, side) && falls(self.c.outside, levels, line_pin(group, side))
     }
 
     // The levels of port C: its falling edges act on both ports. All four are found before any acts.
@@ -69,10 +69,11 @@ impl Core {
         ensures { result ≡ lets_through self.now group }
     {
         let stb = bits::bit(self.c.outside, line_pin(group, Side::Input));
-        self.strobes(group, Side::Input) & !stb
+        self.strobes(group, Side::Input) && !stb
     }
 
-    /// The outside levels of a port become these; on a number that is no port nothing happens.
+    /// The outside levels of a port become these: a STB that falls offers the byte of its port, an ACK that falls takes one. On a number that is
+    /// no port nothing happens. Data sheet: STB, ACK.
     #[tactic(auto, unfolding(crate::specs::Levels::after_levels))]
     pub fn put_levels(&mut self, port: u8, levels: u8)
         ensures { self.new ≡ after_levels self.old port levels }

@@ -2,8 +2,8 @@
 ghost use Rattle.std.specs.Prelude.{◌≡◌};
 ghost use Rattle.chip.specs.Read.{fetched_from, done_with, after_read_begins, after_read_ends};
 
+use super::channel::Fill;
 use super::{Core, PORT_A, PORT_B, Port};
-use channel::Fill;
 use control::{Group, mode};
 
 impl Port {
@@ -25,7 +25,7 @@ impl Port {
 }
 
 impl Core {
-    /// A read at the address begins.
+    /// A read at the address begins: a strobed input that is read hands its byte over, and is fetching. Data sheet: Mode 1 (Strobed Input), INTR.
     #[tactic(auto, unfolding(crate::specs::Read::after_read_begins))]
     pub fn begin_read(&mut self, address: u8)
         ensures { self.new ≡ after_read_begins self.old address }
@@ -37,7 +37,7 @@ impl Core {
         }
     }
 
-    /// A read at the address ends.
+    /// A read at the address ends: a strobed input that was read is empty. Data sheet: Mode 1 (Strobed Input), IBF.
     #[tactic(auto, unfolding(crate::specs::Read::after_read_ends))]
     pub fn end_read(&mut self, address: u8)
         ensures { self.new ≡ after_read_ends self.old address }

@@ -3,8 +3,8 @@ ghost use Rattle.std.specs.Prelude.{◌≡◌};
 ghost use Rattle.chip.specs.Reasons.{reason_of, one_way, explained_in, explained_of, reason_number, halves_of};
 
 use super::Chip;
+use super::channel::Side;
 use super::handshakes::{line_pin, running};
-use channel::Side;
 use control::mode::Mode;
 use control::{Group, mode};
 
@@ -103,7 +103,7 @@ impl Chip {
         }
     }
 
-    /// Explains the INTR of a group.
+    /// Explains the INTR of a group. Data sheet: Interrupt Control Functions, INTR.
     #[tactic(auto, unfolding(crate::specs::Reasons::explained_in))]
     pub fn explain(&self, group: Group) -> Explained
         ensures { result ≡ explained_in self.now group }

@@ -2,16 +2,16 @@
 ghost use Rattle.std.specs.Prelude.{◌≡◌, ◌<◌, cond};
 ghost use Rattle.chip.specs.ModeWord.{cleared_port, after_mode_word};
 ghost use Rattle.chip.specs.ControlWord.{set_as, pin_set, after_control_word};
-ghost use Rattle.channel.specs.declared.Side.TheVariants.{Input, Output};
+ghost use Rattle.chip.specs.declared.channel.Side.TheVariants.{Input, Output};
 ghost use Rattle.control.specs.Mode.{strobed_input};
 ghost use Rattle.control.specs.declared.Group.TheVariants.{B};
 ghost use Rattle.control.specs.Pins.{handshake_role};
-ghost use Rattle.channel.specs.Moves.{after_force};
+ghost use Rattle.chip.specs.Moves.{after_force};
 ghost use Rattle.chip.specs.State.{side_of, with_side};
 
+use super::channel::Side;
 use super::handshakes::{ACK_A, FLAG_B, IBF_A, LINE_B, OBF_A, STB_A};
 use super::{Core, Enables, Port};
-use channel::Side;
 use control::word::Control;
 use control::{Group, mode, roles};
 
@@ -47,7 +47,7 @@ pub(super) fn side_of_b(word: u8) -> Side
 }
 
 impl Core {
-    /// The chip under a mode word: latches and enables zero, channels empty. The outside levels stay.
+    /// The chip under a mode word: latches and enables zero, channels empty. The outside levels stay. Data sheet: Mode Selection.
     #[tactic(auto, unfolding(crate::specs::ModeWord::after_mode_word))]
     pub fn renew(&mut self, word: u8)
         ensures { self.new ≡ after_mode_word self.old word }
@@ -88,7 +88,7 @@ impl Core {
         }
     }
 
-    /// The end of a write to the control address.
+    /// The end of a write to the control address: a mode word, or a pin of port C put to a value. Data sheet: Single Bit Set/Reset Feature.
     #[tactic(auto, unfolding(crate::specs::ControlWord::after_control_word))]
     pub fn command(&mut self, byte: u8)
         ensures { self.new ≡ after_control_word self.old byte }

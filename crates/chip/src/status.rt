@@ -2,10 +2,10 @@
 ghost use Rattle.std.specs.Prelude.{◌≡◌};
 ghost use Rattle.chip.specs.Status.{request_of, intr_of, flag_of_b, status_of};
 
+use super::channel::Side;
 use super::handshakes::{line_pin, running};
 use super::settings::side_of_b;
 use super::{Chip, Core};
-use channel::Side;
 use control::Group;
 
 impl Core {
@@ -24,10 +24,10 @@ impl Chip {
         ensures { result ≡ request_of self.now group side }
     {
         self.core.strobes(group, side)
-            & self.core.inte.enables(group, side)
-            & self.core.flag(group, side)
-            & bits::bit(self.core.c.outside, line_pin(group, side))
-            & !running(self.phase, group, side)
+            && self.core.inte.enables(group, side)
+            && self.core.flag(group, side)
+            && bits::bit(self.core.c.outside, line_pin(group, side))
+            && !running(self.phase, group, side)
     }
 
     // The group's INTR.
@@ -35,10 +35,10 @@ impl Chip {
     fn intr(&self, group: Group) -> bool
         ensures { result ≡ intr_of self.now group }
     {
-        self.requests(group, Side::Input) | self.requests(group, Side::Output)
+        self.requests(group, Side::Input) || self.requests(group, Side::Output)
     }
 
-    /// Every flag, enable and request on the pin of port C that tells it.
+    /// The status word: every flag, enable and request on the pin of port C that tells it. Data sheet: Reading Port C Status.
     // Called as a function by itself it has the compiler put the whole chip into memory, which costs a view of any port twice the instructions.
     #[inline(always)]
     #[tactic(auto, unfolding(crate::specs::Status::status_of))]

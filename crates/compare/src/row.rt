@@ -1,6 +1,6 @@
 // What the histories of a run were made of and what happened in them: a row of counts, of which the first is that of the histories and the
-// last that of the differences between the two models, and the first difference. A row, and no struct with a name for each count: the text
-// into which it is printed names them, in their order.
+// last that of the differences between the two models; how often something was to be counted at a place that the row lacks; and the first
+// difference. A row, and no struct with a name for each count: the text into which it is printed names them, in their order.
 ghost use Rattle.std.specs.Prelude.{◌<◌};
 
 use bus::kinds::Kind;
@@ -19,6 +19,7 @@ pub(super) struct Difference<V> {
 #[derive(Clone, Copy)]
 pub(super) struct Row<V, const N: usize> {
     pub(super) counts: [u64; N],
+    pub(super) out_of_place: u64,
     pub(super) first: Option<Difference<V>>,
 }
 
@@ -57,23 +58,23 @@ impl<V, const N: usize> Default for Row<V, N> {
     fn default() -> Self {
         Row {
             counts: [0; N],
+            out_of_place: 0,
             first: None,
         }
     }
 }
 
 impl<V: PartialEq + Copy, const N: usize> Row<V, N> {
-    // Adds to the count at a place, if the row has it.
+    // Adds to the count at a place. A place may come from a number that a model answered, and a wrong one has no count.
     pub(super) fn add(&mut self, place: usize, by: u64) {
-        if let Some(count) = self.counts.get_mut(place) {
-            *count = count.wrapping_add(by);
-        }
+        let count = self.counts.get_mut(place).unwrap_or(&mut self.out_of_place);
+        *count = count.wrapping_add(by);
     }
 
     // Adds to the counts from a place on, one after the other.
     pub(super) fn add_all(&mut self, first: usize, by: &[u16]) {
-        for (count, by) in self.counts.iter_mut().skip(first).zip(by) {
-            *count = count.wrapping_add(u64::from(*by));
+        for (place, by) in (first..).zip(by) {
+            self.add(place, u64::from(*by));
         }
     }
 

@@ -1,7 +1,7 @@
 // Arbitrary states of the proved model, most of which no history reaches: every field is drawn by itself.
 use super::random::{byte, far, next};
 use bus::Phase;
-use channel::{Channel, Fill, Tally};
+use chip::channel::{Channel, Fill, Tally};
 use chip::{Chip, Core, Edition, Enables, Port, PortC};
 
 // A tally: any, or in one of two a value that a few events bring back to 0.

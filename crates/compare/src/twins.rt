@@ -1,7 +1,7 @@
 // The state of the proved model in the form of the second one, whose numbers these are.
 use super::apart::Machine;
 use bus::Phase;
-use channel::{Channel, Fill, Tally};
+use chip::channel::{Channel, Fill, Tally};
 use chip::{Chip, Core, Edition};
 
 // The phases of the bus.

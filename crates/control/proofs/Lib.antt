@@ -7,5 +7,4 @@ pub mod Strobed
 pub mod ByBits
 pub mod RoleWords
 pub mod PinByMasks
-pub mod InRange
 pub mod Determined

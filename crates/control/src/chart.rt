@@ -28,7 +28,7 @@ const CHART: [[bool; 4]; 16] = [
     [INPUT, INPUT, INPUT, INPUT],
 ];
 
-/// The chart's row for a mode word.
+/// The chart's row for a mode word. Data sheet: Mode 0 Port Definition.
 pub fn row(word: u8) -> Directions
     ensures { result ≡ directions_of word }
 {

@@ -31,11 +31,11 @@ fn handshake_role(word: u8, pin: u8) -> Role
 }
 
 impl Role {
-    /// The role of a pin under a mode word; `None` for a word below 128 or a pin above 7.
+    /// The role of a pin of port C under a mode word; `None` for a word below 128 or a pin above 7. Data sheet: Mode Definition Summary.
     pub fn of(word: u8, pin: u8) -> Option<Role>
         ensures { number_told result ≡ lookup_of word pin }
     {
-        if (word < 128) | (7 < pin) {
+        if word < 128 || 7 < pin {
             return None;
         }
         if bits::bit(roles::handshake(word), pin) {

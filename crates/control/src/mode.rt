@@ -1,10 +1,11 @@
-//! The modes and directions that a mode word sets up. Bit 7 counts as set, and is not looked at.
+//! The modes and directions that a mode word sets up. Bit 7 counts as set, and is not looked at. Tests of masks are joined by `|`: so each stays
+//! one number made of a word, which its proof computes at every word.
 ghost use Rattle.std.specs.Prelude.{◌≡◌};
 ghost use Rattle.control.specs.Mode.{mode_of, mode_number, directions_of, strobed_input, strobed_output, output_of};
 
 use crate::{Directions, Group};
 
-/// The mode of a group. Mode 2 is group A's alone.
+/// The mode of a group. Mode 2 is group A's alone. Data sheet: Mode Selection.
 #[derive(Clone, Copy, Debug, PartialEq, Eq)]
 pub enum Mode {
     Zero,
@@ -13,7 +14,7 @@ pub enum Mode {
 }
 
 impl Mode {
-    /// The mode that the word sets the group to.
+    /// The mode that the word sets the group to. Data sheet: Mode Definition Format.
     #[tactic(auto, unfolding(crate::specs::Mode::mode_of))]
     pub fn of(word: u8, group: Group) -> Mode
         ensures { mode_number result ≡ mode_of word group }
@@ -32,8 +33,8 @@ impl Mode {
     }
 }
 
-/// Whether port A, the upper half of C, port B and the lower half of C are set to input. The chart of the data sheet says the same row by row
-/// (chart.rt): both have one contract, so that the sheet's table is proved to be these four bits.
+/// Whether port A, the upper half of C, port B and the lower half of C are set to input. Data sheet: Mode Definition Format. The sheet's chart
+/// says the same row by row (chart.rt): both have one contract, so that the chart is proved to be these four bits.
 #[tactic(auto, unfolding(crate::specs::Mode::input_of, crate::specs::Mode::upper_input, crate::specs::Mode::lower_input))]
 pub fn directions(word: u8) -> Directions
     ensures { result ≡ directions_of word }
@@ -46,7 +47,7 @@ pub fn directions(word: u8) -> Directions
     }
 }
 
-/// Whether the group's port takes bytes in by STB.
+/// Whether the group's port takes bytes in by STB. Data sheet: Mode 1 (Strobed Input), Mode 2 (Strobed Bidirectional Bus I/O).
 pub fn strobed_input(word: u8, group: Group) -> bool
     ensures { result ≡ strobed_input word group }
 {
@@ -56,7 +57,7 @@ pub fn strobed_input(word: u8, group: Group) -> bool
     }
 }
 
-/// Whether the group's port gives bytes out by ACK.
+/// Whether the group's port gives bytes out by ACK. Data sheet: Mode 1 (Strobed Output), Mode 2 (Strobed Bidirectional Bus I/O).
 pub fn strobed_output(word: u8, group: Group) -> bool
     ensures { result ≡ strobed_output word group }
 {

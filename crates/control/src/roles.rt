@@ -7,7 +7,7 @@ ghost use Rattle.control.specs.Pins.{handshake_pins, output_pins};
 // compiler would build on the stack at each call.
 const GROUP_A: u64 = 0xf8f8_f8f8_38c8_0000;
 
-/// The pins that take part in a handshake: group A's, and pins 2 to 0 where group B is in mode 1.
+/// The pins that take part in a handshake, as ones: group A's, and pins 2 to 0 where group B is in mode 1. Data sheet: Mode Definition Summary.
 pub fn handshake(word: u8) -> u8
     ensures { result ≡ handshake_pins word }
 {

@@ -10,7 +10,8 @@ pub enum Control {
 }
 
 impl Control {
-    /// What a byte written to the control address says: bit 7 chooses; the pin stands in bits 3 to 1, and its value in bit 0.
+    /// What a byte written to the control address says: bit 7 chooses; the pin stands in bits 3 to 1, and its value in bit 0. Data sheet:
+    /// Mode Definition Format, Bit Set/Reset Format.
     #[tactic(auto, unfolding(crate::specs::Word::control_of))]
     pub fn of(byte: u8) -> Control
         ensures { result ≡ control_of byte }

@@ -8,8 +8,8 @@ use Rattle.bus.specs.Refusals.{number_of}
 use Rattle.control.specs.Mode.{mode_of, input_of, upper_input, lower_input, strobed_input, strobed_output, output_of}
 use Rattle.control.specs.Word.{control_of}
 use Rattle.control.specs.Role.{uses_of, free_role, role_of}
-use Rattle.channel.specs.Channel.{flag_of}
-use Rattle.channel.specs.Moves.{after_offer, after_follow, after_hand_over, after_end_read, after_clear}
+use Rattle.chip.specs.Channel.{flag_of}
+use Rattle.chip.specs.Moves.{after_offer, after_follow, after_hand_over, after_end_read, after_clear}
 use Rattle.chip.specs.Status.{request_of, intr_of}
 use Rattle.chip.specs.ModeWord.{cleared_port, after_mode_word}
 use Rattle.chip.specs.ControlWord.{pin_set, after_control_word}

@@ -7,9 +7,9 @@ use native.Mathlib.Omega.{arith}
 use Rattle.bits.specs.Bit.{bit_of}
 use Rattle.bus.specs.declared.Phase.TheVariants.{Idle}
 use Rattle.control.specs.declared.Group.TheVariants.{A}
-use Rattle.channel.specs.declared.Side.TheVariants.{Input}
-use Rattle.channel.specs.declared.Fill.{Fill}
-use Rattle.channel.specs.declared.Fill.TheVariants.{Empty, Waiting}
+use Rattle.chip.specs.declared.channel.Side.TheVariants.{Input}
+use Rattle.chip.specs.declared.channel.Fill.{Fill}
+use Rattle.chip.specs.declared.channel.Fill.TheVariants.{Empty, Waiting}
 use Rattle.chip.specs.declared.Edition.{Edition}
 use Rattle.chip.specs.State.{all_high, power_up_as, tally_of}
 use Rattle.laws.specs.Marked.{strobe}

@@ -1,17 +1,17 @@
 -- What an effect does to the chip's channel is what the table of Shapes says: to its condition, its latch and its tallies.
--- Rests on Shapes and on the channel's ConditionsLeft.
+-- Rests on Shapes and on chip's ConditionsLeft.
 use mathlib.Core.Path.{◌≡◌, ◌∙◌, refl}
 use mathlib.Core.Bool.{false}
 use Prim.Native.Nat.{ℕ}
-use Rattle.channel.specs.declared.Side.{Side}
-use Rattle.channel.specs.declared.Side.TheVariants.{Input, Output}
-use Rattle.channel.specs.declared.Fill.{Fill}
-use Rattle.channel.specs.declared.Fill.TheVariants.{Empty, Waiting, Fetching}
-use Rattle.channel.specs.declared.Tally.{Tally}
-use Rattle.channel.specs.declared.Channel.{Channel}
-use Rattle.channel.specs.Channel.{has_room, next}
-use Rattle.channel.specs.Moves.{after_offer, after_follow, after_hand_over, after_end_read, after_clear, after_plant, after_strike}
-use Rattle.channel.proofs.ConditionsLeft.{leaves, hand-over-leaves, hand-over-keeps, hand-over-counts, plants, planted-so, struck-so}
+use Rattle.chip.specs.declared.channel.Side.{Side}
+use Rattle.chip.specs.declared.channel.Side.TheVariants.{Input, Output}
+use Rattle.chip.specs.declared.channel.Fill.{Fill}
+use Rattle.chip.specs.declared.channel.Fill.TheVariants.{Empty, Waiting, Fetching}
+use Rattle.chip.specs.declared.channel.Tally.{Tally}
+use Rattle.chip.specs.declared.channel.Channel.{Channel}
+use Rattle.chip.specs.Channel.{has_room, next}
+use Rattle.chip.specs.Moves.{after_offer, after_follow, after_hand_over, after_end_read, after_clear, after_plant, after_strike}
+use Rattle.chip.proofs.ConditionsLeft.{leaves, hand-over-leaves, hand-over-keeps, hand-over-counts, plants, planted-so, struck-so}
 use Rattle.fates.specs.Effects.{Effect, offered, followed, taken, ended, cleared_away, forced_full, forced_empty, nothing}
 use Rattle.fates.specs.Left.{room_in, after_taken, after_forced_full, after_forced_empty}
 use Rattle.fates.specs.Bytes.{Fate, handed_over, overwritten, swallowed, cleared, struck, waiting, same}

@@ -4,10 +4,10 @@ use mathlib.Core.Path.{◌≡◌, ◌∙◌, refl, ap}
 use mathlib.Core.Bool.{Bool, true, false, cond, ◌&&◌, and-false}
 use Prim.Native.Nat.{ℕ}
 use Rattle.bits.proofs.Logic.{contrary}
-use Rattle.channel.specs.declared.Side.{Side}
-use Rattle.channel.specs.declared.Side.TheVariants.{Input, Output}
-use Rattle.channel.specs.declared.Channel.{Channel}
-use Rattle.channel.specs.Moves.{after_force}
+use Rattle.chip.specs.declared.channel.Side.{Side}
+use Rattle.chip.specs.declared.channel.Side.TheVariants.{Input, Output}
+use Rattle.chip.specs.declared.channel.Channel.{Channel}
+use Rattle.chip.specs.Moves.{after_force}
 use Rattle.chip.specs.Write.{stored_in}
 use Rattle.fates.specs.Effects.{Effect, offered, forced_full, forced_empty, nothing, says_full, when}
 use Rattle.fates.proofs.Moved.{moved}

@@ -6,9 +6,9 @@ use mathlib.Core.List.{List, [], ◌∷◌, ◌++◌}
 use Prim.Native.Nat.{ℕ, suc, ◌<◌, ◌≤◌}
 use native.Mathlib.Omega.{arith}
 use Rattle.bits.proofs.Logic.{contrary}
-use Rattle.channel.specs.declared.Side.{Side}
-use Rattle.channel.specs.declared.Fill.{Fill}
-use Rattle.channel.specs.declared.Fill.TheVariants.{Empty, Waiting, Fetching}
+use Rattle.chip.specs.declared.channel.Side.{Side}
+use Rattle.chip.specs.declared.channel.Fill.{Fill}
+use Rattle.chip.specs.declared.channel.Fill.TheVariants.{Empty, Waiting, Fetching}
 use Rattle.fates.specs.Effects.{Effect}
 use Rattle.fates.specs.Left.{room_in}
 use Rattle.fates.specs.Bytes.{waiting, Offer, Byte, planted_at, same}

@@ -16,9 +16,9 @@ use Rattle.control.specs.declared.Group.{Group}
 use Rattle.control.specs.declared.Group.TheVariants.{A, B}
 use Rattle.control.specs.Mode.{strobed_input, strobed_output, output_of}
 use Rattle.control.proofs.Strobed.{giving-is-output}
-use Rattle.channel.specs.declared.Side.{Side}
-use Rattle.channel.specs.declared.Side.TheVariants.{Input, Output}
-use Rattle.channel.specs.declared.Channel.{Channel}
+use Rattle.chip.specs.declared.channel.Side.{Side}
+use Rattle.chip.specs.declared.channel.Side.TheVariants.{Input, Output}
+use Rattle.chip.specs.declared.channel.Channel.{Channel}
 use Rattle.chip.specs.declared.Edition.{Edition}
 use Rattle.chip.specs.declared.Core.{Core}
 use Rattle.chip.specs.declared.Chip.{Chip}

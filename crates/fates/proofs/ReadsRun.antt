@@ -10,7 +10,7 @@ use Rattle.bus.specs.Event.{Event}
 use Rattle.bus.specs.declared.Phase.{Phase}
 use Rattle.bus.specs.declared.Phase.TheVariants.{Idle, Reading, Writing}
 use Rattle.control.specs.declared.Group.{Group}
-use Rattle.channel.specs.declared.Side.TheVariants.{Input}
+use Rattle.chip.specs.declared.channel.Side.TheVariants.{Input}
 use Rattle.chip.specs.declared.Edition.{Edition}
 use Rattle.fates.specs.Kinds.{Kind, reset, read_begun, cycle_ended, write_begun, new_levels, unknown, kind_of, readable_at, accepts}
 use Rattle.fates.specs.Surroundings.{Surroundings, of_mode_word, surroundings_after, surroundings_next}

@@ -11,10 +11,10 @@ use Rattle.bits.proofs.Logic.{contrary, both}
 use Rattle.bus.specs.Event.{Event}
 use Rattle.bus.specs.declared.Phase.{Phase}
 use Rattle.control.specs.declared.Group.{Group}
-use Rattle.channel.specs.declared.Side.{Side}
-use Rattle.channel.specs.declared.Side.TheVariants.{Input, Output}
-use Rattle.channel.specs.declared.Fill.{Fill}
-use Rattle.channel.specs.declared.Fill.TheVariants.{Empty, Waiting, Fetching}
+use Rattle.chip.specs.declared.channel.Side.{Side}
+use Rattle.chip.specs.declared.channel.Side.TheVariants.{Input, Output}
+use Rattle.chip.specs.declared.channel.Fill.{Fill}
+use Rattle.chip.specs.declared.channel.Fill.TheVariants.{Empty, Waiting, Fetching}
 use Rattle.chip.specs.declared.Chip.{Chip}
 use Rattle.fates.specs.Kinds.{Kind, reset, read_begun, cycle_ended, write_begun, new_levels, unknown, kind_of, accepts}
 use Rattle.fates.specs.Surroundings.{Surroundings, word_after, surroundings_after, surroundings_next}

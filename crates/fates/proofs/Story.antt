@@ -7,11 +7,11 @@ use Prim.Native.Nat.{ℕ, suc, ◌+◌}
 use native.Mathlib.Omega.{arith}
 use lib.ListN.{length}
 use Rattle.bits.specs.Bit.{num}
-use Rattle.channel.specs.declared.Side.{Side}
-use Rattle.channel.specs.declared.Side.TheVariants.{Input, Output}
-use Rattle.channel.specs.declared.Fill.{Fill}
-use Rattle.channel.specs.declared.Fill.TheVariants.{Empty, Waiting, Fetching}
-use Rattle.channel.specs.Channel.{is_waiting}
+use Rattle.chip.specs.declared.channel.Side.{Side}
+use Rattle.chip.specs.declared.channel.Side.TheVariants.{Input, Output}
+use Rattle.chip.specs.declared.channel.Fill.{Fill}
+use Rattle.chip.specs.declared.channel.Fill.TheVariants.{Empty, Waiting, Fetching}
+use Rattle.chip.specs.Channel.{is_waiting}
 use Rattle.fates.specs.Effects.{Effect, offered, followed, taken, ended, cleared_away, forced_full, forced_empty, nothing}
 use Rattle.fates.specs.Left.{left}
 use Rattle.fates.specs.Bytes.{Fate, overwritten, waiting, Offer, Byte, decided_at, bytes, planted_among, offered_among, same}

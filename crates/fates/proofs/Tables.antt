@@ -7,8 +7,8 @@ use lib.Dec.{eqb}
 use Rattle.control.specs.declared.Group.{Group}
 use Rattle.control.specs.declared.Group.TheVariants.{A, B}
 use Rattle.control.proofs.ByBits.{a-takes, a-gives, b-takes, b-gives}
-use Rattle.channel.specs.declared.Side.{Side}
-use Rattle.channel.specs.declared.Side.TheVariants.{Input, Output}
+use Rattle.chip.specs.declared.channel.Side.{Side}
+use Rattle.chip.specs.declared.channel.Side.TheVariants.{Input, Output}
 use Rattle.chip.specs.Handshakes.{own_address, strobed, line_pin, flag_pin}
 use Rattle.fates.specs.Effects.{port_number, strobe_pin, full_pin, strobes}
 

@@ -5,8 +5,8 @@ use Rattle.bus.specs.Event.{Event}
 use Rattle.bus.specs.Histories.{levels, read_from, cycle_end}
 use Rattle.control.specs.declared.Group.{Group}
 use Rattle.control.specs.Mode.{strobed_input}
-use Rattle.channel.specs.declared.Side.TheVariants.{Input}
-use Rattle.channel.specs.declared.Fill.{Fill}
+use Rattle.chip.specs.declared.channel.Side.TheVariants.{Input}
+use Rattle.chip.specs.declared.channel.Fill.{Fill}
 use Rattle.chip.specs.declared.Chip.{Chip}
 use Rattle.chip.specs.State.{port_of, tally_of}
 use Rattle.chip.specs.Pins.{pins_of}

@@ -1,10 +1,10 @@
 -- What the effects leave in a channel, one after the other: its condition, and what its latch holds ("State", "Handshake", "Forcing the flags"). A byte
 -- that is planted needs both: it comes where there is room, with the latch's value.
 use Rattle.std.specs.Prelude.{Bool, true, false, ℕ}
-use Rattle.channel.specs.declared.Side.{Side}
-use Rattle.channel.specs.declared.Side.TheVariants.{Input, Output}
-use Rattle.channel.specs.declared.Fill.{Fill}
-use Rattle.channel.specs.declared.Fill.TheVariants.{Empty, Waiting, Fetching}
+use Rattle.chip.specs.declared.channel.Side.{Side}
+use Rattle.chip.specs.declared.channel.Side.TheVariants.{Input, Output}
+use Rattle.chip.specs.declared.channel.Fill.{Fill}
+use Rattle.chip.specs.declared.channel.Fill.TheVariants.{Empty, Waiting, Fetching}
 use Rattle.fates.specs.Effects.{Effect, offered, followed, taken, ended, cleared_away, forced_full, forced_empty, nothing}
 
 -- The condition and the latch's value.

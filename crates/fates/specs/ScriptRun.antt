@@ -1,8 +1,8 @@
 -- What is promised of every byte in the run of a text, by the history that it is.
 use Rattle.std.specs.Prelude.{◌≡◌, List, ℕ}
 use Rattle.control.specs.declared.Group.{Group}
-use Rattle.channel.specs.declared.Side.{Side}
-use Rattle.channel.specs.declared.Side.TheVariants.{Input}
+use Rattle.chip.specs.declared.channel.Side.{Side}
+use Rattle.chip.specs.declared.channel.Side.TheVariants.{Input}
 use Rattle.chip.specs.declared.Edition.{Edition}
 use Rattle.chip.specs.State.{no_tally, all_high, power_up_as, power_up_with}
 use Rattle.chip.specs.Pins.{pins_of}

@@ -5,7 +5,7 @@
 ghost use Rattle.std.specs.Prelude.{◌≡◌, ◌↔◌, List, ℕ};
 ghost use Rattle.bus.specs.declared.Phase.TheVariants.{Idle, Reading};
 ghost use Rattle.control.specs.declared.Group.{Group};
-ghost use Rattle.channel.specs.declared.Fill.TheVariants.{Empty, Waiting, Fetching};
+ghost use Rattle.chip.specs.declared.channel.Fill.TheVariants.{Empty, Waiting, Fetching};
 ghost use Rattle.chip.specs.declared.Chip.{Chip};
 ghost use Rattle.fates.specs.Numbers.{own_port};
 ghost use Rattle.fates.specs.Bytes.{Byte};

@@ -9,8 +9,8 @@ use borrow.Author.Tests.{ltb-true, lt-ltb, le-ltb}
 use Rattle.bits.specs.Bit.{bit_of}
 use Rattle.control.specs.declared.Group.{Group}
 use Rattle.control.specs.declared.Group.TheVariants.{A, B}
-use Rattle.channel.specs.declared.Side.{Side}
-use Rattle.channel.specs.declared.Side.TheVariants.{Input, Output}
+use Rattle.chip.specs.declared.channel.Side.{Side}
+use Rattle.chip.specs.declared.channel.Side.TheVariants.{Input, Output}
 use Rattle.chip.specs.declared.Port.{Port}
 use Rattle.chip.specs.declared.Core.{Core}
 use Rattle.chip.specs.declared.Chip.{Chip}

@@ -10,7 +10,7 @@ use Rattle.bus.proofs.ByKind.{by_kind}
 use Rattle.bus.specs.Device.{after_in}
 use Rattle.bus.specs.declared.Phase.TheVariants.{Idle}
 use Rattle.control.specs.declared.Group.{Group}
-use Rattle.channel.specs.declared.Side.{Side}
+use Rattle.chip.specs.declared.channel.Side.{Side}
 use Rattle.chip.specs.declared.Chip.{Chip}
 use Rattle.chip.specs.State.{power_up_word}
 use Rattle.chip.specs.Handshakes.{running}

@@ -12,8 +12,8 @@ use Rattle.bus.specs.declared.Phase.{Phase}
 use Rattle.bus.specs.declared.Phase.TheVariants.{Idle, Reading, Writing}
 use Rattle.control.specs.declared.Group.{Group}
 use Rattle.control.specs.declared.Group.TheVariants.{A, B}
-use Rattle.channel.specs.declared.Side.{Side}
-use Rattle.channel.specs.declared.Side.TheVariants.{Input, Output}
+use Rattle.chip.specs.declared.channel.Side.{Side}
+use Rattle.chip.specs.declared.channel.Side.TheVariants.{Input, Output}
 use Rattle.fates.specs.Kinds.{Kind, reset, cycle_ended, unknown, read_begun, write_begun, new_levels, kind_of, accepts}
 use Rattle.fates.specs.Surroundings.{Surroundings, of_mode_word}
 use Rattle.fates.specs.Effects.{forced_full, forced_empty, nothing, levels_on, strobe_pin, full_pin, strobes, read_runs, write_runs, pin_named, says_full, falls, under_low, when, forced, own_effect, clears, effect}

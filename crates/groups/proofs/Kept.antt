@@ -12,7 +12,7 @@ use Rattle.bus.specs.Histories.{levels}
 use Rattle.bus.specs.declared.Pins.{Pins}
 use Rattle.control.specs.declared.Group.{Group}
 use Rattle.control.specs.declared.Group.TheVariants.{A, B}
-use Rattle.channel.specs.declared.Channel.{Channel}
+use Rattle.chip.specs.declared.channel.Channel.{Channel}
 use Rattle.chip.specs.declared.Chip.{Chip}
 use Rattle.chip.specs.Reads.{read_of}
 use Rattle.chip.specs.Pins.{pins_of}

@@ -4,7 +4,7 @@ use Rattle.bits.specs.Bit.{bit_of}
 use Rattle.bus.specs.Event.{Event, event}
 use Rattle.bus.specs.Histories.{write, levels, read_from, cycle_end}
 use Rattle.control.specs.declared.Group.{Group}
-use Rattle.channel.specs.declared.Side.{Side}
+use Rattle.chip.specs.declared.channel.Side.{Side}
 use Rattle.chip.specs.declared.Chip.{Chip}
 use Rattle.fates.specs.Effects.{port_number}
 use Rattle.fates.specs.Bytes.{values_and_fates}

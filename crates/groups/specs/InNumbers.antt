@@ -2,9 +2,9 @@
 use Rattle.std.specs.Prelude.{true, false, List, ◌++◌}
 use Rattle.bus.specs.Event.{Event}
 use Rattle.bus.specs.Histories.{write, levels}
-use Rattle.channel.specs.declared.Fill.TheVariants.{Waiting}
-use Rattle.channel.specs.declared.Tally.{Tally}
-use Rattle.channel.specs.declared.Channel.{Channel}
+use Rattle.chip.specs.declared.channel.Fill.TheVariants.{Waiting}
+use Rattle.chip.specs.declared.channel.Tally.{Tally}
+use Rattle.chip.specs.declared.channel.Channel.{Channel}
 use Rattle.chip.specs.State.{no_byte}
 use Rattle.chip.specs.declared.reasons.Reason.TheVariants.{EnableOff, High}
 use Rattle.chip.specs.declared.reasons.Explained.TheVariants.{InputHalf, OutputHalf}

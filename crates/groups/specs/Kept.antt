@@ -3,7 +3,7 @@
 use Rattle.std.specs.Prelude.{◌≡◌, ℕ, ◌<◌, ◌≤◌}
 use Rattle.bits.specs.Bit.{bit_of}
 use Rattle.control.specs.declared.Group.TheVariants.{A, B}
-use Rattle.channel.specs.declared.Channel.{Channel}
+use Rattle.chip.specs.declared.channel.Channel.{Channel}
 use Rattle.chip.specs.declared.Chip.{Chip}
 use Rattle.chip.specs.Reasons.{explained_in}
 use Rattle.chip.specs.Reads.{read_of}

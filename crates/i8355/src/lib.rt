@@ -9,7 +9,7 @@ mod device;
 use bus::Phase;
 
 /// A port: which of its pins are outputs, by the ones of its data direction register; its output latch; and the levels that the outside puts
-/// on its pins.
+/// on its pins. Data sheet of the 8355: I/O Section.
 #[derive(Clone, Copy, Debug, PartialEq, Eq)]
 pub struct Port {
     pub direction: u8,

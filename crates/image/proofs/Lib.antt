@@ -7,4 +7,9 @@ pub mod Fitting
 pub mod SameBytes
 pub mod OneImage
 pub mod Parts
+pub mod MovedBytes
+pub mod OlderLong
+pub mod OlderComesBack
+pub mod OlderSameBytes
+pub mod OlderOneImage
 pub mod Determined

@@ -16,9 +16,9 @@ use Rattle.bits.specs.Table.{from}
 use Rattle.bits.proofs.Logic.{both}
 use Rattle.bits.proofs.Tabled.{table_at}
 use Rattle.control.specs.declared.Group.TheVariants.{A, B}
-use Rattle.channel.specs.declared.Side.{Side}
-use Rattle.channel.specs.declared.Side.TheVariants.{Input, Output}
-use Rattle.channel.specs.declared.Tally.{Tally}
+use Rattle.chip.specs.declared.channel.Side.{Side}
+use Rattle.chip.specs.declared.channel.Side.TheVariants.{Input, Output}
+use Rattle.chip.specs.declared.channel.Tally.{Tally}
 use Rattle.chip.specs.Handshakes.{strobed}
 use Rattle.image.specs.Places as places
 use Rattle.image.specs.Layout.{fill_byte, enables_byte, port_bytes, edition_byte, image_of}

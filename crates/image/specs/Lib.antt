@@ -3,3 +3,9 @@ pub mod Layout
 pub mod Loaded
 pub mod Good
 pub mod Slices
+pub mod OlderPlaces
+pub mod OlderLayout
+pub mod OlderLoaded
+pub mod OlderGood
+pub mod OlderSlices
+pub mod Before

@@ -6,7 +6,7 @@ ghost use Rattle.image.specs.Good.{cycle_fits, enables_fit, fill_fits, fills_fit
 
 use super::places::{BUS, CONDITIONS, EDITION, ENABLES, IDLE, LENGTH, NEWER, OLDER, WORD, WRITES};
 use super::{load, save};
-use channel::Side;
+use chip::channel::Side;
 use control::Group;
 
 // Above all that the byte of the edition can be.

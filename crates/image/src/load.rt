@@ -10,7 +10,7 @@ use super::places::{
     LEVELS_B, LEVELS_C, OLDER, TALLIES, WORD, WRITES, WRITTEN,
 };
 use bus::Phase;
-use channel::{Channel, Fill, Tally};
+use chip::channel::{Channel, Fill, Tally};
 use chip::handshakes::{ACK_A, LINE_B, STB_A};
 use chip::{Chip, Core, Edition, Enables, Port, PortC};
 

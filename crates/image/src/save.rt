@@ -10,13 +10,13 @@ use super::places::{
     LEVELS_B, LEVELS_C, NOWHERE, TALLIES, UNUSED, WORD, WRITES, WRITTEN,
 };
 use bus::Phase;
-use channel::Tally;
+use chip::channel::Tally;
 use chip::{Chip, Core, Edition, Enables};
 
 // The bytes from a place on become these.
 #[inline(always)]
 #[tactic(auto, using(crate::proofs::Copied::copied))]
-fn put(image: &mut [u8; LENGTH], at: usize, bytes: &[u8])
+pub(super) fn put(image: &mut [u8; LENGTH], at: usize, bytes: &[u8])
     requires { at + length bytes.now ≤ places.length }
     ensures { image.new ≡ sets image.old at bytes.now }
 {

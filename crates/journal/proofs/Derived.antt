@@ -5,12 +5,12 @@ use borrow.Author.Tests.{eqb-true, eq-eqb}
 use Rattle.bits.proofs.Logic.{both, contrary}
 use Rattle.bus.specs.declared.Phase.{Phase}
 use Rattle.bus.specs.contracts.PhasePartialEq.TheImpl as phases
-use Rattle.channel.specs.declared.Fill.{Fill}
-use Rattle.channel.specs.declared.Tally.{Tally}
-use Rattle.channel.specs.declared.Channel.{Channel}
-use Rattle.channel.specs.contracts.FillPartialEq.TheImpl as fills
-use Rattle.channel.specs.contracts.TallyPartialEq.TheImpl as tallies
-use Rattle.channel.specs.contracts.ChannelPartialEq.TheImpl as channels
+use Rattle.chip.specs.declared.channel.Fill.{Fill}
+use Rattle.chip.specs.declared.channel.Tally.{Tally}
+use Rattle.chip.specs.declared.channel.Channel.{Channel}
+use Rattle.chip.specs.contracts.channel.FillPartialEq.TheImpl as fills
+use Rattle.chip.specs.contracts.channel.TallyPartialEq.TheImpl as tallies
+use Rattle.chip.specs.contracts.channel.ChannelPartialEq.TheImpl as channels
 use Rattle.chip.specs.declared.Port.{Port}
 use Rattle.chip.specs.declared.PortC.{PortC}
 use Rattle.chip.specs.declared.Enables.{Enables}

@@ -9,8 +9,8 @@ use lib.ListN.{take, drop, get_or}
 use Rattle.bits.specs.Same.{same_bytes}
 use Rattle.bits.proofs.Same.{same_lists, same_self}
 use Rattle.bus.specs.declared.Phase.{Phase}
-use Rattle.channel.specs.declared.Fill.{Fill}
-use Rattle.channel.specs.declared.Channel.{Channel}
+use Rattle.chip.specs.declared.channel.Fill.{Fill}
+use Rattle.chip.specs.declared.channel.Channel.{Channel}
 use Rattle.chip.specs.declared.Port.{Port}
 use Rattle.chip.specs.declared.Edition.{Edition}
 use Rattle.chip.specs.declared.Chip.{Chip}

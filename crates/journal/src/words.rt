@@ -41,7 +41,7 @@ impl Logged {
         ensures { result ≡ unused_zero operands (event self.kind self.first self.second) }
     {
         match operands {
-            0 => (self.first == 0) & (self.second == 0),
+            0 => self.first == 0 && self.second == 0,
             1 => self.second == 0,
             _ => true,
         }

@@ -1,5 +1,5 @@
 -- What a history leads to, told by its events: what surrounds the channels of the chip, and what the input latches hold.
--- Rests on fates' Shapes, SurroundingsKept and Followed.
+-- Rests on bits' Logic, and on fates' Shapes, SurroundingsKept and Followed.
 use mathlib.Core.Path.{◌≡◌, ◌∙◌, refl, ap}
 use mathlib.Core.List.{List, [], ◌∷◌, ◌++◌}
 use Prim.Native.Nat.{ℕ}
@@ -7,8 +7,8 @@ use Rattle.bits.proofs.Logic.{either_way}
 use Rattle.bus.specs.Event.{Event}
 use Rattle.control.specs.declared.Group.{Group}
 use Rattle.control.specs.declared.Group.TheVariants.{A, B}
-use Rattle.channel.specs.declared.Side.TheVariants.{Input}
-use Rattle.channel.specs.declared.Fill.TheVariants.{Empty}
+use Rattle.chip.specs.declared.channel.Side.TheVariants.{Input}
+use Rattle.chip.specs.declared.channel.Fill.TheVariants.{Empty}
 use Rattle.chip.specs.declared.Edition.{Edition}
 use Rattle.chip.specs.declared.Chip.{Chip}
 use Rattle.chip.specs.declared.Levels.{Levels}

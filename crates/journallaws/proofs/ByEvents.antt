@@ -1,5 +1,6 @@
 -- Which events are kept and which are dropped, by the events alone.
--- Rests on Along, SameLevels and PlainWord, on bits' Logic, and on fates' Tables, Accepted, SurroundingsKept and Followed.
+-- Rests on Along, SameLevels and PlainWord, on bits' Logic, on chip's Outcome, and on fates' Shapes, Tables, Accepted, SurroundingsKept and
+-- Followed.
 use mathlib.Core.Path.{◌≡◌, ◌∙◌, refl, ap, sym, subst}
 use mathlib.Core.Bool.{Bool, true, false, cond}
 use mathlib.Core.List.{List}
@@ -16,7 +17,7 @@ use Rattle.bus.specs.declared.Phase.{Phase}
 use Rattle.bus.specs.declared.Phase.TheVariants.{Idle, Reading, Writing}
 use Rattle.control.specs.declared.Group.{Group}
 use Rattle.control.specs.declared.Group.TheVariants.{A, B}
-use Rattle.channel.specs.declared.Side.TheVariants.{Input}
+use Rattle.chip.specs.declared.channel.Side.TheVariants.{Input}
 use Rattle.chip.specs.declared.Edition.{Edition}
 use Rattle.chip.specs.declared.Chip.{Chip}
 use Rattle.chip.specs.declared.Levels.{Levels}

@@ -7,7 +7,7 @@ use Rattle.bus.specs.Refusals.{number_of}
 use Rattle.bus.specs.Device.{step_in}
 use Rattle.control.specs.Mode.{strobed_input, strobed_output, mode_of, input_of}
 use Rattle.control.specs.Word.{control_of}
-use Rattle.channel.specs.Moves.{after_offer, after_follow, after_hand_over, after_end_read, after_clear}
+use Rattle.chip.specs.Moves.{after_offer, after_follow, after_hand_over, after_end_read, after_clear}
 use Rattle.chip.specs.declared.Edition.{Edition}
 use Rattle.chip.specs.declared.Edition.TheVariants.{Older, Newer}
 use Rattle.chip.specs.ModeWord.{cleared_port, after_mode_word}

@@ -7,11 +7,11 @@ use Prim.Native.Nat.{ℕ, suc}
 use native.Mathlib.Omega.{arith}
 use Rattle.bus.specs.Event.{Event}
 use Rattle.control.specs.declared.Group.{Group}
-use Rattle.channel.specs.declared.Side.{Side}
-use Rattle.channel.specs.declared.Side.TheVariants.{Input, Output}
-use Rattle.channel.specs.declared.Fill.{Fill}
-use Rattle.channel.specs.declared.Fill.TheVariants.{Empty, Waiting, Fetching}
-use Rattle.channel.specs.Channel.{next}
+use Rattle.chip.specs.declared.channel.Side.{Side}
+use Rattle.chip.specs.declared.channel.Side.TheVariants.{Input, Output}
+use Rattle.chip.specs.declared.channel.Fill.{Fill}
+use Rattle.chip.specs.declared.channel.Fill.TheVariants.{Empty, Waiting, Fetching}
+use Rattle.chip.specs.Channel.{next}
 use Rattle.chip.specs.declared.Chip.{Chip}
 use Rattle.chip.specs.State.{tally_of}
 use Rattle.image.specs.Good.{has_image}

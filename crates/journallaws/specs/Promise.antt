@@ -2,7 +2,7 @@
 use Rattle.std.specs.Prelude.{◌≡◌, List, ◌++◌, ℕ, ◌/◌, ◌%◌, ◌<◌, ◌≤◌, length, take, get_or}
 use Rattle.bus.specs.Event.{Event}
 use Rattle.control.specs.declared.Group.{Group}
-use Rattle.channel.specs.declared.Side.{Side}
+use Rattle.chip.specs.declared.channel.Side.{Side}
 use Rattle.chip.specs.declared.Edition.{Edition}
 use Rattle.chip.specs.declared.Levels.{Levels}
 use Rattle.chip.specs.State.{power_up_as}

@@ -16,8 +16,8 @@ use Rattle.control.specs.Mode.{mode_of, input_of, upper_input, lower_input, stro
 use Rattle.control.specs.Role.{Role, INTR, STB, ACK, number, uses_of, free_role, role_of}
 use Rattle.control.proofs.RoleWords.{role-as-byte}
 use Rattle.control.proofs.PinByMasks.{number-one}
-use Rattle.channel.specs.declared.Side.{Side}
-use Rattle.channel.specs.declared.Side.TheVariants.{Input, Output}
+use Rattle.chip.specs.declared.channel.Side.{Side}
+use Rattle.chip.specs.declared.channel.Side.TheVariants.{Input, Output}
 use Rattle.chip.specs.declared.Chip.{Chip}
 use Rattle.chip.specs.Handshakes.{strobed, line_pin, flag_pin, group_at, enable_of}
 use Rattle.chip.proofs.StrobedWords.{strobed-as-byte}

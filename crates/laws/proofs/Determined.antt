@@ -1,12 +1,10 @@
--- The contracts of the public functions of bits, channel and chip, of the methods of the chip as a device, and of the function here that does nothing,
+-- The contracts of the public functions of bits and chip, of the methods of the chip as a device, and of the function here that does nothing,
 -- leave no choice: two outcomes that one allows of a call are equal.
 -- Rests on bits' Determined.
 use mathlib.Core.Path.{refl}
 use Rattle.bits.proofs.Determined.{Determines, equation-determines, equations-determine}
 use Rattle.bits.specs.contracts as bits_says
 use Rattle.bits.proofs as bits
-use Rattle.channel.specs.contracts as channel_says
-use Rattle.channel.proofs as channel
 use Rattle.chip.specs.contracts as chip_says
 use Rattle.chip.proofs as chip
 use Rattle.laws.specs.contracts as laws_says
@@ -27,25 +25,25 @@ blend-determined c x y = equation-determines
 pub choose-determined : Determines bits_says.choose.ended bits.choose.Reads.Learnt
 choose-determined c x y = equation-determines
 
-pub flag-determined : Determines channel_says.Fill.flag.ended channel.Fill.flag.Reads.Learnt
+pub flag-determined : Determines chip_says.channel.Fill.flag.ended chip.channel.Fill.flag.Reads.Learnt
 flag-determined c x y = equation-determines
 
-pub offer-determined : Determines channel_says.Channel.offer.ended channel.Channel.offer.Reads.Learnt
+pub offer-determined : Determines chip_says.channel.Channel.offer.ended chip.channel.Channel.offer.Reads.Learnt
 offer-determined c x y p q = equations-determine (refl, p) (refl, q)
 
-pub follow-determined : Determines channel_says.Channel.follow.ended channel.Channel.follow.Reads.Learnt
+pub follow-determined : Determines chip_says.channel.Channel.follow.ended chip.channel.Channel.follow.Reads.Learnt
 follow-determined c x y p q = equations-determine (refl, p) (refl, q)
 
-pub hand-over-determined : Determines channel_says.Channel.hand_over.ended channel.Channel.hand_over.Reads.Learnt
+pub hand-over-determined : Determines chip_says.channel.Channel.hand_over.ended chip.channel.Channel.hand_over.Reads.Learnt
 hand-over-determined c x y p q = equations-determine (refl, p) (refl, q)
 
-pub end-read-determined : Determines channel_says.Channel.end_read.ended channel.Channel.end_read.Reads.Learnt
+pub end-read-determined : Determines chip_says.channel.Channel.end_read.ended chip.channel.Channel.end_read.Reads.Learnt
 end-read-determined c x y p q = equations-determine (refl, p) (refl, q)
 
-pub clear-determined : Determines channel_says.Channel.clear.ended channel.Channel.clear.Reads.Learnt
+pub clear-determined : Determines chip_says.channel.Channel.clear.ended chip.channel.Channel.clear.Reads.Learnt
 clear-determined c x y p q = equations-determine (refl, p) (refl, q)
 
-pub force-determined : Determines channel_says.Channel.force.ended channel.Channel.force.Reads.Learnt
+pub force-determined : Determines chip_says.channel.Channel.force.ended chip.channel.Channel.force.Reads.Learnt
 force-determined c x y p q = equations-determine (refl, p) (refl, q)
 
 pub edition-numbered-determined : Determines chip_says.Edition.numbered.ended chip.Edition.numbered.Reads.Learnt

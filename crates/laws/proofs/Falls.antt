@@ -1,18 +1,18 @@
 -- Only the fall of a channel's line offers a byte or takes one: in every state, new levels that make none leave the channel's condition and
 -- its tallies. No levels at all touch an output's latch ("Handshake").
--- Rests on bits' Logic, the channel's ConditionsLeft, and chip's LevelsAfter and Outcome.
+-- Rests on bits' Logic, chip's ConditionsLeft, LevelsAfter and Outcome.
 use mathlib.Core.Path.{◌≡◌, ◌∙◌, refl, ap}
 use mathlib.Core.Bool.{Bool, true, false, cond, ◌&&◌, and-false}
 use Prim.Native.Nat.{ℕ}
 use lib.Dec.{eqb}
 use Rattle.bits.proofs.Logic.{either_way}
 use Rattle.control.specs.declared.Group.{Group}
-use Rattle.channel.specs.declared.Side.{Side}
-use Rattle.channel.specs.declared.Side.TheVariants.{Input, Output}
-use Rattle.channel.specs.declared.Fill.TheVariants.{Empty}
-use Rattle.channel.specs.declared.Channel.{Channel}
-use Rattle.channel.specs.Moves.{after_follow, after_hand_over}
-use Rattle.channel.proofs.ConditionsLeft.{follow-stays, follow-counts, hand-over-keeps}
+use Rattle.chip.specs.declared.channel.Side.{Side}
+use Rattle.chip.specs.declared.channel.Side.TheVariants.{Input, Output}
+use Rattle.chip.specs.declared.channel.Fill.TheVariants.{Empty}
+use Rattle.chip.specs.declared.channel.Channel.{Channel}
+use Rattle.chip.specs.Moves.{after_follow, after_hand_over}
+use Rattle.chip.proofs.ConditionsLeft.{follow-stays, follow-counts, hand-over-keeps}
 use Rattle.chip.specs.declared.Core.{Core}
 use Rattle.chip.specs.declared.Chip.{Chip}
 use Rattle.chip.specs.State.{channel_of}

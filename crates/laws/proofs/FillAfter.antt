@@ -1,5 +1,5 @@
 -- What each event can leave of a channel's condition, in every state: the ground of the theorems on the flags and on INTR.
--- Rests on ByEvent, bits' Logic, the channel's ConditionsLeft, and chip's Surrounded, Flags, SettingsAfter, ReadsAfter, WritesAfter and
+-- Rests on ByEvent, bits' Logic, chip's ConditionsLeft, Surrounded, Flags, SettingsAfter, ReadsAfter, WritesAfter and
 -- LevelsAfter.
 use mathlib.Core.Path.{◌≡◌, ◌∙◌, refl, ap}
 use mathlib.Core.Bool.{Bool, true, false, cond, not, ◌&&◌}
@@ -11,13 +11,13 @@ use Rattle.bus.specs.declared.Phase.{Phase}
 use Rattle.bus.specs.declared.Phase.TheVariants.{Reading, Writing}
 use Rattle.control.specs.declared.Group.{Group}
 use Rattle.control.specs.Mode.{strobed_input, strobed_output, output_of}
-use Rattle.channel.specs.declared.Side.{Side}
-use Rattle.channel.specs.declared.Side.TheVariants.{Input, Output}
-use Rattle.channel.specs.declared.Fill.{Fill}
-use Rattle.channel.specs.declared.Fill.TheVariants.{Empty, Waiting, Fetching}
-use Rattle.channel.specs.declared.Channel.{Channel}
-use Rattle.channel.specs.Moves.{after_offer, after_follow, after_hand_over, after_end_read, after_force}
-use Rattle.channel.proofs.ConditionsLeft.{leaves, forced_to, offer-waits, follow-stays, hand-over-leaves, end-read-empties, clear-empties, force-leaves}
+use Rattle.chip.specs.declared.channel.Side.{Side}
+use Rattle.chip.specs.declared.channel.Side.TheVariants.{Input, Output}
+use Rattle.chip.specs.declared.channel.Fill.{Fill}
+use Rattle.chip.specs.declared.channel.Fill.TheVariants.{Empty, Waiting, Fetching}
+use Rattle.chip.specs.declared.channel.Channel.{Channel}
+use Rattle.chip.specs.Moves.{after_offer, after_follow, after_hand_over, after_end_read, after_force}
+use Rattle.chip.proofs.ConditionsLeft.{leaves, forced_to, offer-waits, follow-stays, hand-over-leaves, end-read-empties, clear-empties, force-leaves}
 use Rattle.chip.specs.declared.Core.{Core}
 use Rattle.chip.specs.declared.Chip.{Chip}
 use Rattle.chip.specs.State.{power_up_word, port_of, channel_of}

@@ -10,7 +10,7 @@ use Rattle.bus.specs.Kinds.{is_kind}
 use Rattle.bus.specs.Refusals.{number_of}
 use Rattle.bus.specs.declared.Phase.{Phase}
 use Rattle.control.specs.declared.Group.{Group}
-use Rattle.channel.specs.declared.Side.{Side}
+use Rattle.chip.specs.declared.channel.Side.{Side}
 use Rattle.chip.specs.declared.Edition.{Edition}
 use Rattle.chip.specs.declared.Chip.{Chip}
 use Rattle.chip.specs.Handshakes.{strobed, line_pin, flag_pin}

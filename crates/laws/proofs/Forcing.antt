@@ -1,6 +1,6 @@
 -- A flag that is forced, in every state: the pin shows the level to which it was put, but for IBF while a byte is fetched; and what it said before
 -- and says now is counted ("Writes and bit set/reset", "Forcing the flags").
--- Rests on ChannelPins, FlagAfter, the channel's ConditionsLeft, and chip's SettingsAfter and Ends.
+-- Rests on ChannelPins, FlagAfter, chip's ConditionsLeft, SettingsAfter and Ends.
 use mathlib.Core.Path.{◌≡◌, ◌∙◌, refl, ap}
 use mathlib.Core.Bool.{Bool, true, false}
 use Prim.Native.Nat.{ℕ, ◌/◌, ◌%◌}
@@ -8,14 +8,14 @@ use lib.Dec.{eqb}
 use Rattle.bits.specs.Bit.{bit_of}
 use Rattle.bus.specs.declared.Phase.TheVariants.{Writing}
 use Rattle.control.specs.declared.Group.{Group}
-use Rattle.channel.specs.declared.Side.{Side}
-use Rattle.channel.specs.declared.Side.TheVariants.{Input, Output}
-use Rattle.channel.specs.declared.Fill.{Fill}
-use Rattle.channel.specs.declared.Fill.TheVariants.{Empty, Waiting, Fetching}
-use Rattle.channel.specs.declared.Channel.{Channel}
-use Rattle.channel.specs.Channel.{flag_of, has_room}
-use Rattle.channel.specs.Moves.{after_plant, after_strike, after_force}
-use Rattle.channel.proofs.ConditionsLeft.{forced_to, force-leaves, force-keeps}
+use Rattle.chip.specs.declared.channel.Side.{Side}
+use Rattle.chip.specs.declared.channel.Side.TheVariants.{Input, Output}
+use Rattle.chip.specs.declared.channel.Fill.{Fill}
+use Rattle.chip.specs.declared.channel.Fill.TheVariants.{Empty, Waiting, Fetching}
+use Rattle.chip.specs.declared.channel.Channel.{Channel}
+use Rattle.chip.specs.Channel.{flag_of, has_room}
+use Rattle.chip.specs.Moves.{after_plant, after_strike, after_force}
+use Rattle.chip.proofs.ConditionsLeft.{forced_to, force-leaves, force-keeps}
 use Rattle.chip.specs.declared.Chip.{Chip}
 use Rattle.chip.specs.State.{channel_of}
 use Rattle.chip.specs.Handshakes.{strobed, flag_pin}

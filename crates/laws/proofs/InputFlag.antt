@@ -1,6 +1,6 @@
 -- IBF as the sheet has it, in every state: set by the fall of STB, reset by the end of the read, forced by bit set/reset, and moved by nothing
 -- else but a mode word and a reset ("Handshake", "Forcing the flags").
--- Rests on ChannelPins, FillAfter, Forcing, FlagAfter, bits' Logic, the channel's ConditionsLeft, and chip's ReadsAfter, LevelsAfter, Ends
+-- Rests on ChannelPins, FillAfter, Forcing, FlagAfter, bits' Logic, chip's ConditionsLeft, ReadsAfter, LevelsAfter, Ends
 -- and Outcome.
 use mathlib.Core.Path.{◌≡◌, ◌∙◌, refl, sym, subst}
 use mathlib.Core.Bool.{Bool, true, false, or-true}
@@ -10,11 +10,11 @@ use Rattle.bits.proofs.Logic.{contrary}
 use Rattle.bus.specs.declared.Phase.TheVariants.{Reading}
 use Rattle.control.specs.declared.Group.{Group}
 use Rattle.control.specs.Mode.{strobed_input}
-use Rattle.channel.specs.declared.Side.TheVariants.{Input}
-use Rattle.channel.specs.declared.Fill.{Fill}
-use Rattle.channel.specs.declared.Fill.TheVariants.{Empty, Waiting, Fetching}
-use Rattle.channel.specs.Channel.{flag_of}
-use Rattle.channel.proofs.ConditionsLeft.{leaves, forced_to, offer-waits, end-read-empties}
+use Rattle.chip.specs.declared.channel.Side.TheVariants.{Input}
+use Rattle.chip.specs.declared.channel.Fill.{Fill}
+use Rattle.chip.specs.declared.channel.Fill.TheVariants.{Empty, Waiting, Fetching}
+use Rattle.chip.specs.Channel.{flag_of}
+use Rattle.chip.proofs.ConditionsLeft.{leaves, forced_to, offer-waits, end-read-empties}
 use Rattle.chip.specs.declared.Core.{Core}
 use Rattle.chip.specs.declared.Chip.{Chip}
 use Rattle.chip.specs.State.{port_of, channel_of}

@@ -1,6 +1,6 @@
 -- What loads an input latch, in every state: the fall of STB, and levels on the port's own lines while STB is low. Nothing else but a mode
 -- word and a reset touches it ("Handshake").
--- Rests on ByEvent, ChannelPins, FlagAfter, OwnPort, bits' Logic, the channel's ConditionsLeft, and chip's OnPort, Surrounded, Flags,
+-- Rests on ByEvent, ChannelPins, FlagAfter, OwnPort, bits' Logic, chip's ConditionsLeft, OnPort, Surrounded, Flags,
 -- SettingsAfter, ReadsAfter, LevelsAfter, Strobed and Outcome.
 use mathlib.Core.Path.{◌≡◌, ◌∙◌, refl, ap, sym, subst}
 use mathlib.Core.Bool.{Bool, true, false, cond, not, ◌&&◌, ◌||◌, and-false}
@@ -10,11 +10,11 @@ use Rattle.bits.specs.Bit.{bit_of}
 use Rattle.bits.proofs.Logic.{contrary, either_way}
 use Rattle.control.specs.declared.Group.{Group}
 use Rattle.control.specs.Mode.{strobed_input}
-use Rattle.channel.specs.declared.Side.TheVariants.{Input}
-use Rattle.channel.specs.declared.Fill.TheVariants.{Fetching}
-use Rattle.channel.specs.declared.Channel.{Channel}
-use Rattle.channel.specs.Moves.{after_offer, after_follow, after_hand_over, after_end_read, after_force}
-use Rattle.channel.proofs.ConditionsLeft.{offer-latches, follow-latches, hand-over-keeps, end-read-keeps, force-keeps}
+use Rattle.chip.specs.declared.channel.Side.TheVariants.{Input}
+use Rattle.chip.specs.declared.channel.Fill.TheVariants.{Fetching}
+use Rattle.chip.specs.declared.channel.Channel.{Channel}
+use Rattle.chip.specs.Moves.{after_offer, after_follow, after_hand_over, after_end_read, after_force}
+use Rattle.chip.proofs.ConditionsLeft.{offer-latches, follow-latches, hand-over-keeps, end-read-keeps, force-keeps}
 use Rattle.chip.specs.declared.Core.{Core}
 use Rattle.chip.specs.declared.Chip.{Chip}
 use Rattle.chip.specs.State.{port_of, channel_of}

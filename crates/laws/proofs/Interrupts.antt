@@ -13,8 +13,8 @@ use Rattle.control.specs.declared.Group.TheVariants.{A}
 use Rattle.control.specs.Mode.{mode_of, input_of}
 use Rattle.control.proofs.ModeTwo.{mode-2-both-ways}
 use Rattle.control.proofs.Strobed.{mode-1-takes, mode-1-gives}
-use Rattle.channel.specs.declared.Side.{Side}
-use Rattle.channel.specs.declared.Side.TheVariants.{Input, Output}
+use Rattle.chip.specs.declared.channel.Side.{Side}
+use Rattle.chip.specs.declared.channel.Side.TheVariants.{Input, Output}
 use Rattle.chip.specs.declared.Chip.{Chip}
 use Rattle.chip.specs.Handshakes.{strobed, line_pin, enable_of, own_address, running}
 use Rattle.chip.specs.Status.{flag_at, request_of, intr_of}

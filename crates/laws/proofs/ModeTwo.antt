@@ -6,7 +6,7 @@ use Rattle.bits.specs.Bit.{bit_of}
 use Rattle.control.specs.declared.Group.TheVariants.{A}
 use Rattle.control.specs.Mode.{mode_of}
 use Rattle.control.proofs.ModeTwo.{mode-2-both-ways}
-use Rattle.channel.specs.declared.Side.TheVariants.{Output}
+use Rattle.chip.specs.declared.channel.Side.TheVariants.{Output}
 use Rattle.chip.specs.declared.Chip.{Chip}
 use Rattle.bus.specs.declared.Pins.{Pins}
 use Rattle.chip.specs.Pins.{drives_port, pins_of_port, pins_of}

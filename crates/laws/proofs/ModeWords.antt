@@ -1,6 +1,6 @@
 -- Every mode word, the same one again included, and a reset make the chip anew; after a reset every pin is an input ("State",
 -- "Mode words").
--- Rests on bits' Tested, control's PinByMasks, the channel's ConditionsLeft, and chip's SettingsAfter and Ends.
+-- Rests on bits' Tested, control's PinByMasks, chip's ConditionsLeft, SettingsAfter and Ends.
 use mathlib.Core.Path.{◌≡◌, ◌∙◌, refl, ap}
 use mathlib.Core.Bool.{Bool, true, false, cond}
 use Prim.Native.Nat.{ℕ, ◌<◌}
@@ -16,7 +16,7 @@ use Rattle.control.specs.declared.Group.TheVariants.{A, B}
 use Rattle.control.specs.Mode.{mode_of, input_of, upper_input, lower_input, strobed_input, output_of}
 use Rattle.control.specs.Role.{input, number, uses_of, free_role, role_of}
 use Rattle.control.proofs.PinByMasks.{number-one}
-use Rattle.channel.proofs.ConditionsLeft.{clear-empties, clear-zeroes, clear-counts}
+use Rattle.chip.proofs.ConditionsLeft.{clear-empties, clear-zeroes, clear-counts}
 use Rattle.chip.specs.declared.Core.{Core}
 use Rattle.chip.specs.declared.Chip.{Chip}
 use Rattle.chip.specs.State.{port_of, channel_of}

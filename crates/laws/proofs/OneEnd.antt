@@ -12,7 +12,7 @@ use Rattle.bits.proofs.Logic.{contrary}
 use Rattle.bus.specs.Kinds.{is_kind}
 use Rattle.bus.specs.declared.Phase.TheVariants.{Idle, Reading, Writing}
 use Rattle.control.specs.declared.Group.{Group}
-use Rattle.channel.specs.declared.Side.TheVariants.{Input, Output}
+use Rattle.chip.specs.declared.channel.Side.TheVariants.{Input, Output}
 use Rattle.chip.specs.declared.Core.{Core}
 use Rattle.chip.specs.declared.Chip.{Chip}
 use Rattle.chip.specs.State.{channel_of}

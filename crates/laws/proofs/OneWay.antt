@@ -1,6 +1,6 @@
 -- Ports A and B where they go one way, in modes 0 and 1, by plain bits: an output drives its lines with its latch and is read as it; an input
 -- is not driven, and keeps nothing that is written to it ("Writes and bit set/reset", "Reads and pins").
--- Rests on PlainBits, OwnPort, Falls, bits' Logic, the channel's ConditionsLeft, and chip's WritesAfter, LevelsAfter, Ends and Outcome.
+-- Rests on PlainBits, OwnPort, Falls, bits' Logic, chip's ConditionsLeft, WritesAfter, LevelsAfter, Ends and Outcome.
 use mathlib.Core.Path.{◌≡◌, ◌∙◌, refl, ap, sym}
 use mathlib.Core.Bool.{Bool, true, false, not, ◌&&◌, ◌||◌, and-true, and-false}
 use Prim.Native.Nat.{ℕ}
@@ -10,9 +10,9 @@ use Rattle.bus.specs.declared.Phase.TheVariants.{Writing}
 use Rattle.control.specs.declared.Group.{Group}
 use Rattle.control.specs.declared.Group.TheVariants.{A, B}
 use Rattle.control.specs.Mode.{strobed_output, output_of}
-use Rattle.channel.specs.declared.Side.TheVariants.{Input, Output}
-use Rattle.channel.specs.Moves.{after_offer}
-use Rattle.channel.proofs.ConditionsLeft.{offer-latches}
+use Rattle.chip.specs.declared.channel.Side.TheVariants.{Input, Output}
+use Rattle.chip.specs.Moves.{after_offer}
+use Rattle.chip.proofs.ConditionsLeft.{offer-latches}
 use Rattle.chip.specs.declared.Core.{Core}
 use Rattle.chip.specs.declared.Chip.{Chip}
 use Rattle.chip.specs.State.{port_of, channel_of}

@@ -1,6 +1,6 @@
 -- OBF as the sheet has it, in every state: lowered by the end of the write, raised by the fall of ACK, forced by bit set/reset, and moved by
 -- nothing else but a mode word and a reset ("Handshake", "Forcing the flags").
--- Rests on ChannelPins, FillAfter, Forcing, FlagAfter, bits' Logic, control's Strobed, the channel's ConditionsLeft, and chip's
+-- Rests on ChannelPins, FillAfter, Forcing, FlagAfter, bits' Logic, control's Strobed, chip's ConditionsLeft,
 -- WritesAfter, LevelsAfter, Ends and Outcome.
 use mathlib.Core.Path.{◌≡◌, ◌∙◌, refl, sym, subst}
 use mathlib.Core.Bool.{Bool, true, false, not, or-true}
@@ -11,11 +11,11 @@ use Rattle.bus.specs.declared.Phase.TheVariants.{Writing}
 use Rattle.control.specs.declared.Group.{Group}
 use Rattle.control.specs.Mode.{strobed_output}
 use Rattle.control.proofs.Strobed.{giving-is-output}
-use Rattle.channel.specs.declared.Side.TheVariants.{Output}
-use Rattle.channel.specs.declared.Fill.{Fill}
-use Rattle.channel.specs.declared.Fill.TheVariants.{Empty, Waiting, Fetching}
-use Rattle.channel.specs.Channel.{flag_of}
-use Rattle.channel.proofs.ConditionsLeft.{leaves, forced_to, offer-waits, hand-over-leaves}
+use Rattle.chip.specs.declared.channel.Side.TheVariants.{Output}
+use Rattle.chip.specs.declared.channel.Fill.{Fill}
+use Rattle.chip.specs.declared.channel.Fill.TheVariants.{Empty, Waiting, Fetching}
+use Rattle.chip.specs.Channel.{flag_of}
+use Rattle.chip.proofs.ConditionsLeft.{leaves, forced_to, offer-waits, hand-over-leaves}
 use Rattle.chip.specs.declared.Core.{Core}
 use Rattle.chip.specs.declared.Chip.{Chip}
 use Rattle.chip.specs.State.{channel_of}

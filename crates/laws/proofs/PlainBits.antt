@@ -16,8 +16,8 @@ use Rattle.control.proofs.ByBits.{a-takes, a-gives, b-takes, b-gives}
 use Rattle.control.specs.Role.{number, uses_of, free_role, role_of}
 use Rattle.control.proofs.RoleWords.{role-as-byte}
 use Rattle.control.proofs.PinByMasks.{number-one}
-use Rattle.channel.specs.declared.Side.{Side}
-use Rattle.channel.specs.declared.Side.TheVariants.{Input, Output}
+use Rattle.chip.specs.declared.channel.Side.{Side}
+use Rattle.chip.specs.declared.channel.Side.TheVariants.{Input, Output}
 use Rattle.chip.specs.Handshakes.{strobed}
 use Rattle.laws.specs.PlainBits.{goes_both_ways, handshake, into, handshake_on, role_by}
 

@@ -3,11 +3,11 @@ use Rattle.std.specs.Prelude.{◌≡◌, true}
 use Rattle.bits.specs.Bit.{with_bit}
 use Rattle.bus.specs.declared.Phase.TheVariants.{Idle}
 use Rattle.control.specs.declared.Group.{Group}
-use Rattle.channel.specs.declared.Side.{Side}
-use Rattle.channel.specs.declared.Side.TheVariants.{Input, Output}
-use Rattle.channel.specs.declared.Fill.{Fill}
-use Rattle.channel.specs.declared.Fill.TheVariants.{Empty, Waiting}
-use Rattle.channel.specs.declared.Channel.{Channel}
+use Rattle.chip.specs.declared.channel.Side.{Side}
+use Rattle.chip.specs.declared.channel.Side.TheVariants.{Input, Output}
+use Rattle.chip.specs.declared.channel.Fill.{Fill}
+use Rattle.chip.specs.declared.channel.Fill.TheVariants.{Empty, Waiting}
+use Rattle.chip.specs.declared.channel.Channel.{Channel}
 use Rattle.chip.specs.declared.Core.{Core}
 use Rattle.chip.specs.declared.Chip.{Chip}
 use Rattle.chip.specs.State.{port_of, channel_of, with_input, with_output, with_port, with_enables}

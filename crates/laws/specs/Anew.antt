@@ -2,9 +2,9 @@
 use Rattle.std.specs.Prelude.{◌≡◌, false, ℕ}
 use Rattle.bus.specs.declared.Phase.TheVariants.{Idle}
 use Rattle.control.specs.declared.Group.{Group}
-use Rattle.channel.specs.declared.Side.{Side}
-use Rattle.channel.specs.declared.Fill.TheVariants.{Empty}
-use Rattle.channel.specs.Channel.{is_waiting, counted, cleared}
+use Rattle.chip.specs.declared.channel.Side.{Side}
+use Rattle.chip.specs.declared.channel.Fill.TheVariants.{Empty}
+use Rattle.chip.specs.Channel.{is_waiting, counted, cleared}
 use Rattle.chip.specs.declared.Core.{Core}
 use Rattle.chip.specs.declared.Chip.{Chip}
 use Rattle.chip.specs.State.{port_of, channel_of}

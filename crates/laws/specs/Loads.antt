@@ -1,7 +1,7 @@
 -- What loads an input latch, by what is seen of the chip ("Handshake").
 use Rattle.std.specs.Prelude.{Bool, not, ◌&&◌, ◌||◌, ℕ}
 use Rattle.control.specs.declared.Group.{Group}
-use Rattle.channel.specs.declared.Side.TheVariants.{Input}
+use Rattle.chip.specs.declared.channel.Side.TheVariants.{Input}
 use Rattle.chip.specs.declared.Chip.{Chip}
 use Rattle.chip.specs.Handshakes.{strobed, line_pin, own_address}
 use Rattle.laws.specs.Seen.{pin, lowers}

@@ -4,7 +4,7 @@ use Rattle.std.specs.Prelude.{List, [], ◌∷◌, ◌++◌, ℕ, ◌+◌, lengt
 use Rattle.bus.specs.Event.{Event, event}
 use Rattle.bus.specs.Histories.{write, levels, read_from, cycle_end}
 use Rattle.control.specs.declared.Group.TheVariants.{A}
-use Rattle.channel.specs.declared.Side.TheVariants.{Input}
+use Rattle.chip.specs.declared.channel.Side.TheVariants.{Input}
 use Rattle.chip.specs.declared.Edition.{Edition}
 use Rattle.chip.specs.State.{all_high, power_up_as, tally_of}
 use Rattle.chip.specs.Reads.{read_of}

@@ -5,8 +5,8 @@ use Rattle.control.specs.declared.Group.{Group}
 use Rattle.control.specs.declared.Group.TheVariants.{A, B}
 use Rattle.control.specs.Role.{Role, input, output}
 use Rattle.control.specs.Pins.{handshake_role}
-use Rattle.channel.specs.declared.Side.{Side}
-use Rattle.channel.specs.declared.Side.TheVariants.{Input, Output}
+use Rattle.chip.specs.declared.channel.Side.{Side}
+use Rattle.chip.specs.declared.channel.Side.TheVariants.{Input, Output}
 
 -- A group's port goes both ways, in mode 2, by bit 6; B's never does.
 abbrev pub goes_both_ways : ℕ → Group → Bool

@@ -3,8 +3,8 @@ use Rattle.std.specs.Prelude.{◌≡◌, Bool, true, false, not, ◌&&◌, List,
 use Rattle.control.specs.declared.Group.{Group}
 use Rattle.control.specs.Mode.{mode_of}
 use Rattle.control.specs.Role.{INTR, number, role_of}
-use Rattle.channel.specs.declared.Side.{Side}
-use Rattle.channel.specs.declared.Side.TheVariants.{Input, Output}
+use Rattle.chip.specs.declared.channel.Side.{Side}
+use Rattle.chip.specs.declared.channel.Side.TheVariants.{Input, Output}
 use Rattle.chip.specs.declared.Chip.{Chip}
 use Rattle.chip.specs.Handshakes.{strobed, line_pin, running, flag_pin}
 use Rattle.chip.specs.declared.reasons.Reason.{Reason}

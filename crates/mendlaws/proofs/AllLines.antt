@@ -1,5 +1,5 @@
 -- What becomes of the lines of a text; of the lines of its clean script none is malformed; and a text of which none is stays as it is.
--- Rests on OneLine and Spelled, and on mend's Cleaning and Judging.
+-- Rests on OneLine and Spelled, and on mend's Fit, Cleaning and Judging.
 use mathlib.Core.Path.{◌≡◌, ◌∙◌, refl, ap, sym}
 use mathlib.Core.Bool.{Bool, true, false, cond}
 use mathlib.Core.List.{List, [], ◌∷◌, ◌++◌, map, flat_map}

@@ -1,5 +1,5 @@
 -- What becomes of a line is what the relation says, and the relation says nothing else of it.
--- Rests on Shapes and Spelled, and on mend's Cleaning, Fit and Judging.
+-- Rests on Shapes and Spelled, on bits' Logic, and on mend's Cleaning, Fit and Judging.
 use mathlib.Core.Path.{◌≡◌, ◌∙◌, refl, ap, sym, subst}
 use mathlib.Core.Bool.{Bool, true, false, cond}
 use mathlib.Core.List.{List, [], ◌∷◌}

@@ -1,5 +1,5 @@
 -- A line is a frame exactly where it says an event in plain codes.
--- Rests on bits' Tested, the bus's ByKind and text's WrittenBack.
+-- Rests on bits' Logic and Tested, the bus's ByKind and text's WrittenBack.
 use mathlib.Core.Path.{◌≡◌, ◌∙◌, refl, ap, sym, subst}
 use mathlib.Core.Bool.{Bool, true, false}
 use mathlib.Core.List.{List, [], ◌∷◌}

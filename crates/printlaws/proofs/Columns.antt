@@ -1,5 +1,5 @@
 -- The answers of a rack have the columns that they should have.
--- Rests on script's Levels, and on rackscript's Shown.
+-- Rests on script's Levels and RackShown.
 use Rattle.std.proofs.Common.{◌≡◌, ℕ, zero, suc, ◌+◌, ◌*◌, ◌<◌, ◌≤◌, List, [], ◌∷◌, ◌++◌, drop, refl, ap, ◌∙◌, arith}
 use lib.Seq.{drop_at}
 use borrow.Author.Tests.{lt-ltb}
@@ -13,9 +13,9 @@ use Rattle.rack.specs.Targets.{is_place}
 use Rattle.rack.specs.Step.{Stepped}
 use Rattle.script.specs.Answers.{levels_from, all_levels, line_text, line_after, answers_from}
 use Rattle.script.proofs.Levels.{all-length, line-length}
-use Rattle.rackscript.specs.Frames.{RackFrame, Event, NoFrame, rack_frame_in}
-use Rattle.rackscript.specs.Answers.{as_given, acted, count-kept, answering}
-use Rattle.rackscript.proofs.Shown.{shows-cards}
+use Rattle.script.specs.RackFrames.{RackFrame, Event, NoFrame, rack_frame_in}
+use Rattle.script.specs.RackAnswers.{as_given, acted, count-kept, answering}
+use Rattle.script.proofs.RackShown.{shows-cards}
 use Rattle.printlaws.specs.Digits.{two_digits}
 use Rattle.printlaws.specs.Columns.{stepped_by, step_at, column, AnswerLine, Answers, none, next}
 

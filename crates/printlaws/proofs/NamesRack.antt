@@ -1,5 +1,5 @@
 -- The first line of a rack's script is a rack exactly where it is written as one, and what is then printed.
--- Rests on bits' Logic and Tested, text's WrittenBack, racklaws' Building, rackscript's Written and Columns.
+-- Rests on bits' Logic and Tested, text's WrittenBack, racklaws' Building, script's RackWritten, and Columns.
 use Rattle.std.proofs.Common.{◌≡◌, ℕ, ◌+◌, ◌*◌, ◌/◌, ◌%◌, ◌≤◌, ◌⊎◌, inl, inr, Bool, true, false, not, ◌&&◌, List, [], ◌∷◌, ◌++◌, length, refl, sym, ap, ap₂, ◌∙◌, eqb, ltb, leb, arith}
 use Rattle.std.specs.Prelude.{Ok, is_ok}
 use lib.ListN.{get_or}
@@ -12,9 +12,9 @@ use Rattle.text.proofs.WrittenBack.{pair-back}
 use Rattle.rack.specs.Bases.{is_base, is_among, are_bases, makes_rack}
 use Rattle.rack.specs.State.{rack_of, built_of}
 use Rattle.racklaws.proofs.Building.{made-good, good-made, built-good}
-use Rattle.rackscript.specs.Bases.{base_of, leading_base, bases_of_line, no_rack, rack_of_line, rack_for, further_lines}
-use Rattle.rackscript.specs.Run.{names_rack, to_answer}
-use Rattle.rackscript.proofs.Written.{in_four, in_fours, bases-written}
+use Rattle.script.specs.RackBases.{base_of, leading_base, bases_of_line, no_rack, rack_of_line, rack_for, further_lines}
+use Rattle.script.specs.RackRun.{names_rack, to_answer}
+use Rattle.script.proofs.RackWritten.{in_four, in_fours, bases-written}
 use Rattle.prints.specs.Printed.{printed_of_rack}
 use Rattle.printlaws.specs.NamesRack.{written, NamesRack}
 use Rattle.printlaws.specs.Columns.{Answers}

@@ -7,7 +7,7 @@ use Rattle.bus.specs.Refusals.{number_of}
 use Rattle.bus.specs.Device.{step_in}
 use Rattle.control.specs.Mode.{mode_of, input_of, output_of, lower_input, upper_input, strobed_input, strobed_output}
 use Rattle.control.specs.Role.{uses_of, free_role, role_of}
-use Rattle.channel.specs.Moves.{after_clear}
+use Rattle.chip.specs.Moves.{after_clear}
 use Rattle.control.specs.Word.{control_of}
 use Rattle.text.specs.Digits.{digit_value, digit_code, pair_value}
 use Rattle.text.specs.Lines.{lines_of}
@@ -26,9 +26,9 @@ use Rattle.rack.specs.Step.{step_of}
 use Rattle.rack.specs.Targets.{answers_at, target_from, is_place, target_at, target_of}
 use Rattle.rack.specs.Views.{card_pins}
 use Rattle.script.specs.Answers.{line_text, levels_from, answers_from}
-use Rattle.rackscript.specs.Answers.{acted}
-use Rattle.rackscript.specs.Bases.{base_of, leading_base, bases_of_line, rack_of_line, rack_for, further_lines}
-use Rattle.rackscript.specs.Frames.{operand_bytes, is_rack_frame, event_of, rack_frame_of, rack_frame_in}
+use Rattle.script.specs.RackAnswers.{acted}
+use Rattle.script.specs.RackBases.{base_of, leading_base, bases_of_line, rack_of_line, rack_for, further_lines}
+use Rattle.script.specs.RackFrames.{operand_bytes, is_rack_frame, event_of, rack_frame_of, rack_frame_in}
 use Rattle.prints.specs.Printed.{printed_of_rack}
 use Rattle.printlaws.specs.RackTexts.{rack_texts}
 

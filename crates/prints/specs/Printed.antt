@@ -12,8 +12,8 @@ use Rattle.i8355.specs.Step as i8355
 use Rattle.script.specs.Answers.{Answerer, by_device, answers_from, answers_of}
 use Rattle.script.specs.Run.{too_long, too_long_number}
 use Rattle.rack.specs.Bases.{bad_rack_number}
-use Rattle.rackscript.specs.Answers.{answering}
-use Rattle.rackscript.specs.Run.{names_rack, rack_named, to_answer}
+use Rattle.script.specs.RackAnswers.{answering}
+use Rattle.script.specs.RackRun.{names_rack, rack_named, to_answer}
 use Rattle.prints.specs.declared.Device.{Device}
 use Rattle.prints.specs.declared.Device.TheVariants.{I8255A, I82C55A, I8355}
 

@@ -1,5 +1,5 @@
 -- An event leaves a rack its cards: how many there are, and their bases.
--- Rests on the bus's Outcomes and Numbering.
+-- Rests on the bus's ByKind, Outcomes and Numbering.
 use mathlib.Core.Path.{◌≡◌, refl}
 use Prim.Native.Nat.{ℕ}
 use Rattle.std.specs.Prelude.{Option, Some, None}

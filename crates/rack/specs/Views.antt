@@ -2,8 +2,8 @@
 use Rattle.std.specs.Prelude.{cond, ℕ, Option, Some, None}
 use Rattle.bus.specs.declared.Pins.{Pins}
 use Rattle.control.specs.declared.Group.{Group}
-use Rattle.channel.specs.declared.Side.{Side}
-use Rattle.channel.specs.declared.Tally.{Tally}
+use Rattle.chip.specs.declared.channel.Side.{Side}
+use Rattle.chip.specs.declared.channel.Tally.{Tally}
 use Rattle.chip.specs.declared.Chip.{Chip}
 use Rattle.chip.specs.declared.reasons.Explained.{Explained}
 use Rattle.chip.specs.State.{tally_of}

@@ -8,8 +8,8 @@ use super::device::{place_of, register_of};
 use super::{CARD_EDITION, Rack};
 use bus::devices::Device;
 use bus::{Phase, Pins};
-use channel::{Side, Tally};
 use chip::Chip;
+use chip::channel::{Side, Tally};
 use chip::reasons::Explained;
 use control::Group;
 
@@ -43,7 +43,7 @@ impl Rack {
         }
     }
 
-    /// The card at a place, as a chip alone would be.
+    /// The card at a place, as a chip alone would be; `None` where there is no card.
     #[tactic(auto, unfolding(crate::specs::Views::card_of, crate::specs::Targets::is_place))]
     pub fn card(&self, place: u8) -> Option<Chip>
         ensures { result ≡ card_of self.now place }
@@ -54,7 +54,7 @@ impl Rack {
         Some(self.chip_at(place))
     }
 
-    /// The pins of a port of the card at a place.
+    /// The pins of a port of the card at a place; `None` where there is no card.
     #[tactic(auto, unfolding(crate::specs::Views::card_pins, crate::specs::Views::card_of))]
     pub fn pins(&self, place: u8, port: u8) -> Option<Pins>
         ensures { result ≡ card_pins self.now place port }
@@ -62,7 +62,7 @@ impl Rack {
         Some(self.card(place)?.pins(port))
     }
 
-    /// What became of the bytes offered to a channel of the card at a place, or planted in it.
+    /// What became of the bytes offered to a channel of the card at a place, or planted in it; `None` where there is no card.
     #[tactic(auto, unfolding(crate::specs::Views::card_tally, crate::specs::Views::card_of))]
     pub fn tally(&self, place: u8, group: Group, side: Side) -> Option<Tally>
         ensures { result ≡ card_tally self.now place group side }
@@ -70,7 +70,7 @@ impl Rack {
         Some(self.card(place)?.tally(group, side))
     }
 
-    /// Explains the INTR of a group of the card at a place.
+    /// Explains the INTR of a group of the card at a place; `None` where there is no card.
     #[tactic(auto, unfolding(crate::specs::Views::card_explained, crate::specs::Views::card_of))]
     pub fn explain(&self, place: u8, group: Group) -> Option<Explained>
         ensures { result ≡ card_explained self.now place group }

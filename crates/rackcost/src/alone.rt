@@ -2,9 +2,7 @@
 use super::round::{self, Answering, Handed};
 use bus::devices;
 use bus::events::Event;
-use channel::Side;
 use chip::Chip;
-use control::Group;
 
 impl Answering for Chip {
     // An event stays a call of its own, as programs have it.
@@ -17,8 +15,5 @@ impl Answering for Chip {
 pub(super) fn rounds(count: usize) -> Handed {
     let mut chip = Chip::default();
     round::rounds(&mut chip, count);
-    Handed {
-        digits: chip.tally(Group::A, Side::Input).handed,
-        signs: chip.tally(Group::B, Side::Output).handed,
-    }
+    Handed::by(&chip)
 }

@@ -1,8 +1,6 @@
 //! The rounds on the last card of a rack of eight.
 use super::round::{self, Answering, Handed};
 use bus::events::Event;
-use channel::Side;
-use control::Group;
 use rack::Rack;
 use rack::events::RackEvent;
 
@@ -40,8 +38,6 @@ impl Answering for Rack {
 pub(super) fn rounds(count: usize) -> Option<Handed> {
     let mut rack = Rack::new(&[0x700, 0x708, 0x710, 0x718, 0x720, 0x728, 0x730, LAST_BASE]).ok()?;
     round::rounds(&mut rack, count);
-    Some(Handed {
-        digits: rack.tally(LAST_PLACE, Group::A, Side::Input)?.handed,
-        signs: rack.tally(LAST_PLACE, Group::B, Side::Output)?.handed,
-    })
+    let card = rack.card(LAST_PLACE)?;
+    Some(Handed::by(&card))
 }

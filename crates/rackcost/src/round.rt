@@ -1,12 +1,23 @@
 //! The rounds: their events, who answers them, and what is told after all of them.
 use bus::events::Event;
-use chip::{CONTROL, PORT_A, PORT_B, PORT_C};
+use chip::channel::Side;
+use chip::{CONTROL, Chip, PORT_A, PORT_B, PORT_C};
+use control::Group;
 
 /// How many bytes were handed over: from the scale on port A, and to the printer on port B.
 #[derive(Clone, Copy)]
 pub(super) struct Handed {
     pub(super) digits: u16,
     pub(super) signs: u16,
+}
+
+impl Handed {
+    pub(super) fn by(chip: &Chip) -> Self {
+        Handed {
+            digits: chip.tally(Group::A, Side::Input).handed,
+            signs: chip.tally(Group::B, Side::Output).handed,
+        }
+    }
 }
 
 static EVENTS: [Event; 11] = [

@@ -1,5 +1,5 @@
 -- What a rack gives for any event is told by whom it reaches.
--- Rests on Seek, Inside, Targets, AllCards and Accesses, and on the bus's ByKind and Numbering.
+-- Rests on OnCard, Seek, Inside, Targets, AllCards and Accesses, on bits' Logic, and on the bus's ByKind and Numbering.
 use mathlib.Core.Path.{◌≡◌, refl, sym, ap, ◌∙◌}
 use mathlib.Core.Bool.{Bool, true, false, cond, ◌&&◌}
 use mathlib.Core.List.{List}

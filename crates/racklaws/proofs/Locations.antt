@@ -1,5 +1,5 @@
 -- Where the registers of a rack's cards are.
--- Rests on Seek.
+-- Rests on Seek and on bits' Logic.
 use mathlib.Core.Path.{◌≡◌, refl, sym, ap, subst, ◌∙◌}
 use mathlib.Core.Bool.{Bool, true, false, cond}
 use mathlib.Core.List.{List, [], ◌∷◌}

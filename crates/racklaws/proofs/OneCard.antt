@@ -1,5 +1,5 @@
 -- An accepted event that reaches one card: that card does as a chip alone, and every other is as it was.
--- Rests on Seen and OnCard, on the chip's Outcome and on laws' Editions.
+-- Rests on Seen and OnCard, on the bus's Phases, chip's Outcome and laws' Editions.
 use mathlib.Core.Path.{◌≡◌, refl, sym, ap, ◌∙◌}
 use mathlib.Core.List.{List}
 use Prim.Native.Nat.{ℕ, ◌<◌}

@@ -1,5 +1,5 @@
 -- The number of an event that is for a card or for none, and what a refusal and a reset make of the rack.
--- Rests on Inside and OnCard.
+-- Rests on Inside and OnCard, and on the bus's Outcomes.
 use mathlib.Core.Path.{◌≡◌, refl, sym, ◌∙◌}
 use mathlib.Core.List.{List}
 use Prim.Native.Nat.{ℕ}

@@ -1,5 +1,5 @@
 -- What is promised of every byte from an older image on, once it is converted: the chip that it tells goes on, and its two new tallies count from 0.
--- Rests on Saved, on image's SameBytes, older's OneImage and calls' Converted.
+-- Rests on Saved, on image's SameBytes and OlderOneImage, and calls' Converted.
 use mathlib.Core.Path.{◌≡◌, refl, sym, subst}
 use mathlib.Core.Bool.{true}
 use mathlib.Core.List.{List}
@@ -9,8 +9,8 @@ use lib.ListN.{length}
 use Rattle.bus.specs.Event.{Event}
 use Rattle.control.specs.declared.Group.{Group}
 use Rattle.control.specs.declared.Group.TheVariants.{A, B}
-use Rattle.channel.specs.declared.Side.{Side}
-use Rattle.channel.specs.declared.Side.TheVariants.{Input, Output}
+use Rattle.chip.specs.declared.channel.Side.{Side}
+use Rattle.chip.specs.declared.channel.Side.TheVariants.{Input, Output}
 use Rattle.chip.specs.declared.Chip.{Chip}
 use Rattle.chip.specs.State.{tally_of}
 use Rattle.fates.specs.Promise.{SixteenBits}
@@ -18,9 +18,9 @@ use Rattle.image.specs.Places as places
 use Rattle.image.specs.Loaded.{byte_at}
 use Rattle.image.specs.Good.{has_image, Bytes}
 use Rattle.image.proofs.SameBytes.{small}
-use Rattle.older.specs.Loaded.{channel_tally, older_state}
-use Rattle.older.specs.Good.{is_older}
-use Rattle.older.proofs.OneImage.{tells-such}
+use Rattle.image.specs.OlderLoaded.{channel_tally, older_state}
+use Rattle.image.specs.OlderGood.{is_older}
+use Rattle.image.proofs.OlderOneImage.{tells-such}
 use Rattle.calls.specs.Calls.{convert_image}
 use Rattle.calls.proofs.Converted.{convert-good, convert-tells}
 use Rattle.restored.specs.Host.{GoesOn}

@@ -10,8 +10,8 @@ use lib.ListN.{get_or}
 use borrow.Author.Tests.{ltb-false}
 use Rattle.bus.specs.Event.{Event}
 use Rattle.control.specs.declared.Group.{Group}
-use Rattle.channel.specs.declared.Side.{Side}
-use Rattle.channel.specs.declared.Tally.{Tally}
+use Rattle.chip.specs.declared.channel.Side.{Side}
+use Rattle.chip.specs.declared.channel.Tally.{Tally}
 use Rattle.chip.specs.declared.Chip.{Chip}
 use Rattle.chip.specs.State.{no_tally, tally_of}
 use Rattle.fates.specs.Bytes.{Byte}

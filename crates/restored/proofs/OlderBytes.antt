@@ -1,5 +1,5 @@
 -- Bytes are an older image exactly where they tell, place by place, a chip that has an image.
--- Rests on Having and Table, on image's SameBytes, on older's SameBytes, ComesBack and OneImage, and on calls' Converted.
+-- Rests on Having and Table, on image's SameBytes, OlderSameBytes, OlderComesBack and OlderOneImage, and on calls' Converted.
 use mathlib.Core.Path.{◌≡◌, ◌∙◌, refl, ap, sym, subst}
 use mathlib.Core.Bool.{true}
 use mathlib.Core.List.{List, [], ◌∷◌, ◌++◌}
@@ -9,19 +9,19 @@ use Rattle.std.specs.Prelude.{◌↔◌}
 use Rattle.bus.specs.declared.Phase.{Phase}
 use Rattle.bus.specs.declared.Phase.TheVariants.{Idle, Reading, Writing}
 use Rattle.control.specs.declared.Group.TheVariants.{A, B}
-use Rattle.channel.specs.declared.Side.TheVariants.{Input, Output}
-use Rattle.channel.specs.declared.Tally.{Tally}
+use Rattle.chip.specs.declared.channel.Side.TheVariants.{Input, Output}
+use Rattle.chip.specs.declared.channel.Tally.{Tally}
 use Rattle.chip.specs.declared.Chip.{Chip}
 use Rattle.image.specs.Layout.{five_tallies, image_of}
 use Rattle.image.specs.Good.{Bytes}
 use Rattle.image.proofs.SameBytes.{spelled}
-use Rattle.older.specs.Layout.{bus_byte, address_byte, older_of}
-use Rattle.older.specs.Loaded.{older_state}
-use Rattle.older.specs.Good.{is_older}
-use Rattle.older.specs.Before.{NoneForced, FromBefore}
-use Rattle.older.proofs.SameBytes.{same-bytes}
-use Rattle.older.proofs.ComesBack.{comes_back}
-use Rattle.older.proofs.OneImage.{older-where, tells-such}
+use Rattle.image.specs.OlderLayout.{bus_byte, address_byte, older_of}
+use Rattle.image.specs.OlderLoaded.{older_state}
+use Rattle.image.specs.OlderGood.{is_older}
+use Rattle.image.specs.Before.{NoneForced, FromBefore}
+use Rattle.image.proofs.OlderSameBytes.{same-bytes}
+use Rattle.image.proofs.OlderComesBack.{comes_back}
+use Rattle.image.proofs.OlderOneImage.{older-where, tells-such}
 use Rattle.calls.proofs.Converted.{converts, convert-same}
 use Rattle.restored.specs.Having.{HasImage}
 use Rattle.restored.specs.Table.{byte}

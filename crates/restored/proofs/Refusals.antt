@@ -20,7 +20,7 @@ use Rattle.chip.proofs.Outcome.{step-number}
 use Rattle.image.specs.Loaded.{state_of}
 use Rattle.image.specs.Good.{is_image}
 use Rattle.image.specs.Slices.{saved_in}
-use Rattle.older.specs.Good.{is_older}
+use Rattle.image.specs.OlderGood.{is_older}
 use Rattle.calls.specs.Calls.{last_port, last_channel, last_tally, power_up_as_answer, power_up_as_image, convert_answer, convert_image, step_answer, pins_answer, tally_answer, reasons_given, explain_answer}
 use Rattle.calls.proofs.HostStep.{bad_answer, bad_stays}
 use Rattle.calls.proofs.Converted.{convert-bad}

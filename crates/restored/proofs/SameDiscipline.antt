@@ -9,7 +9,7 @@ use Rattle.bits.specs.Bit.{num}
 use Rattle.bits.specs.Sum.{byte_by}
 use Rattle.bus.specs.Event.{Event}
 use Rattle.control.specs.declared.Group.{Group}
-use Rattle.channel.specs.declared.Side.TheVariants.{Input}
+use Rattle.chip.specs.declared.channel.Side.TheVariants.{Input}
 use Rattle.chip.specs.declared.Chip.{Chip}
 use Rattle.chip.specs.Pins.{pins_of}
 use Rattle.fates.specs.Surroundings.{Surroundings, surroundings_next}

@@ -10,8 +10,8 @@ use Rattle.bits.specs.Bit.{bit_of, value_of}
 use Rattle.control.specs.Mode.{mode_of, input_of, strobed_input, strobed_output}
 use Rattle.image.specs.Layout.{image_of}
 use Rattle.image.proofs.Long.{written_over}
-use Rattle.older.specs.Loaded.{older_state}
-use Rattle.older.specs.Good.{is_older}
+use Rattle.image.specs.OlderLoaded.{older_state}
+use Rattle.image.specs.OlderGood.{is_older}
 use Rattle.calls.specs.Calls.{convert_answer, convert_image}
 use Rattle.restored.specs.SavedOlder.{five_saved, Becomes}
 

@@ -2,12 +2,12 @@
 use Rattle.std.specs.Prelude.{◌≡◌, List, ℕ, ◌+◌, length, drop, replicate}
 use Rattle.bus.specs.declared.Phase.{Phase}
 use Rattle.bus.specs.declared.Phase.TheVariants.{Idle, Reading, Writing}
-use Rattle.channel.specs.declared.Tally.{Tally}
-use Rattle.channel.specs.declared.Channel.{Channel}
+use Rattle.chip.specs.declared.channel.Tally.{Tally}
+use Rattle.chip.specs.declared.channel.Channel.{Channel}
 use Rattle.chip.specs.declared.Edition.TheVariants.{Older}
 use Rattle.chip.specs.declared.Chip.{Chip}
 use Rattle.image.specs.Layout.{image_of}
-use Rattle.older.specs.Loaded.{older_state}
+use Rattle.image.specs.OlderLoaded.{older_state}
 use Rattle.calls.specs.Calls.{convert_answer, convert_image}
 use Rattle.restored.specs.Table.{byte, count_at, condition_number, enables_number, written_number}
 

@@ -1,6 +1,6 @@
 -- Which calls are refused with 8, in plain numbers, and what a refusal leaves ("A host in C", "The 82C55A").
 use Rattle.std.specs.Prelude.{◌≡◌, true, false, List, ℕ, ◌%◌, ◌<◌, ◌≤◌, length}
-use Rattle.older.specs.Good.{is_older}
+use Rattle.image.specs.OlderGood.{is_older}
 use Rattle.calls.specs.Calls.{power_up_answer, power_up_image, power_up_image_with, power_up_as_answer, power_up_as_image, convert_answer, convert_image, step_answer, step_image, pins_answer, tally_answer, explain_answer}
 
 -- Bytes that are no image: the step, the pin view, the tallies and the explanation answer 8, whatever the operands, and the step leaves each byte as

@@ -7,7 +7,7 @@ ghost use Rattle.chip.specs.declared.Chip.{Chip};
 ghost use Rattle.image.specs.Layout.{image_of};
 ghost use Rattle.image.specs.Loaded.{state_of};
 ghost use Rattle.image.specs.Good.{has_image, is_image, Bytes};
-ghost use Rattle.older.specs.Good.{is_older};
+ghost use Rattle.image.specs.OlderGood.{is_older};
 ghost use Rattle.restored.specs.Refusals.{RefusedBytes, AcceptedBytes, PowersUp, Converts};
 ghost use Rattle.restored.specs.Having.{HasImage, InRange, ComesFromBytes};
 ghost use Rattle.restored.specs.Table.{Tells};

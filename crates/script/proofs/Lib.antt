@@ -7,4 +7,15 @@ pub mod Numbers
 pub mod Pieces
 pub mod Outcome
 pub mod History
+pub mod RackNaming
+pub mod RackLeading
+pub mod RackPlacing
+pub mod RackSaid
+pub mod RackFirstLine
+pub mod RackRoom
+pub mod RackOpened
+pub mod RackEnough
+pub mod RackShown
+pub mod RackWritten
 pub mod Determined
+pub mod RackDetermined

@@ -13,6 +13,7 @@ use text::lines::{self, Lines};
 
 mod devices;
 pub mod left;
+pub mod racks;
 mod writer;
 
 /// How many bytes a script may have.

@@ -1,5 +1,5 @@
 -- A text is refused exactly where a number alone is printed of it: answers are none, or five bytes or more.
--- A captured script is refused where 06 alone is printed. Rests on FailingToMend, on script's Pieces and on rackscript's Enough.
+-- A captured script is refused where 06 alone is printed. Rests on FailingToMend, on script's Pieces and RackEnough.
 use Rattle.std.proofs.Common.{◌≡◌, ℕ, zero, suc, ◌+◌, ◌*◌, Bool, true, false, List, length, ap, sym, ◌∙◌, refl, eqb, arith}
 use borrow.Author.Tests.{ne_eqb}
 use Rattle.bus.specs.Device as devices
@@ -12,9 +12,9 @@ use Rattle.i8355.specs.Step as i8355
 use Rattle.script.specs.Answers.{line_width, by_device, answers_of, answers_from}
 use Rattle.script.specs.Run.{too_long}
 use Rattle.script.proofs.Pieces.{answers-length}
-use Rattle.rackscript.specs.Answers.{answering}
-use Rattle.rackscript.specs.Run.{names_rack, rack_named, to_answer}
-use Rattle.rackscript.proofs.Enough as racks
+use Rattle.script.specs.RackAnswers.{answering}
+use Rattle.script.specs.RackRun.{names_rack, rack_named, to_answer}
+use Rattle.script.proofs.RackEnough as racks
 use Rattle.prints.specs.declared.Device.{Device}
 use Rattle.prints.specs.declared.Device.TheVariants.{I8255A, I82C55A, I8355}
 use Rattle.prints.specs.Printed.{printed, printed_by, printed_of_rack}

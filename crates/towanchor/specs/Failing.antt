@@ -1,7 +1,7 @@
 -- Where the program fails because it refuses the whole of a text ("Script and program", "A rack of cards", "Mending captured scripts").
 use Rattle.std.specs.Prelude.{◌≡◌, ◌↔◌, Bool, true, not, ◌||◌, List, [], ◌∷◌, ℕ, eqb, length}
 use Rattle.script.specs.Run.{too_long}
-use Rattle.rackscript.specs.Run.{names_rack}
+use Rattle.script.specs.RackRun.{names_rack}
 use Rattle.prints.specs.declared.Device.{Device}
 use Rattle.prints.specs.Printed.{printed, printed_of_rack}
 use Rattle.towanchor.specs.Mended.{refuses_mending, printed_mended}

@@ -6,7 +6,7 @@ ghost use Rattle.towanchor.specs.Left.{told, left_of};
 
 use super::output::Printed;
 use super::refusals::Refused;
-use channel::Side;
+use chip::channel::Side;
 use chip::reasons::{Explained, Reason};
 use chip::{Chip, Edition, Levels};
 use control::Group;

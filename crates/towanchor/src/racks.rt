@@ -4,7 +4,7 @@ ghost use Rattle.prints.specs.Printed.{printed_of_rack};
 ghost use Rattle.towanchor.specs.Failing.{refuses_rack};
 
 use super::output::{self, Printed};
-use rackscript::MOST_ROOM;
+use script::racks::MOST_ROOM;
 use std::alloc::{AllocError, Global};
 
 pub(super) fn answer(alloc: Global, text: &[u8]) -> Result<Printed, AllocError>
@@ -12,6 +12,6 @@ pub(super) fn answer(alloc: Global, text: &[u8]) -> Result<Printed, AllocError>
     ensures refused { IfOk result (λ printed. is_some printed.refused ≡ refuses_rack text.now) }
 {
     output::of_run(alloc, MOST_ROOM, |out| {
-        rackscript::run(text, out).map(|ran| ran.length)
+        script::racks::run(text, out).map(|ran| ran.length)
     })
 }

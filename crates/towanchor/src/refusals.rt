@@ -1,8 +1,8 @@
 // Why the whole of a text is refused, in plain words. The number that is printed in place of answers is the library's own.
 use journal::TrimRefusal;
 use mend::MendRefusal;
-use rackscript::RackRunRefusal;
 use script::RunRefusal;
+use script::racks::RackRunRefusal;
 use thiserror::Error;
 
 #[derive(Clone, Copy, Debug, Error)]

@@ -9,7 +9,7 @@ use super::apart;
 use super::apart::{Answer, NOWHERE, Shelf};
 use bus::refusals::Numbered;
 use bus::{Phase, Pins};
-use channel::{Side, Tally};
+use chip::channel::{Side, Tally};
 use control::Group;
 use rack::Rack;
 use rack::refusals::RackRefusal;

@@ -1,5 +1,5 @@
 -- `are_bases` meets its contract: the first is tested, and then those behind it.
--- Rests on InBases.
+-- Rests on InBases and on bits' Logic.
 use Rattle.std.proofs.Common.{◌∙◌, sym, refl, arith}
 use Rattle.bits.proofs.Logic.{contrary}
 use Rattle.rack.proofs.InBases.{first-and-later}

@@ -1,15 +1,15 @@
 -- `written::convert` meets its contract: 8 before all else, and then the image of the state.
--- Rests on image's SameBytes, and on older's Long and OneImage.
+-- Rests on image's SameBytes, OlderLong and OlderOneImage.
 use Rattle.std.proofs.Common.{◌≡◌, sym, true, length}
 use borrow.Author.Tests.{eq-eqb, ne_eqb}
 use Rattle.image.specs.Places as places
 use Rattle.image.specs.Slices.{saved_in}
 use Rattle.image.proofs.SameBytes.{bytes-by}
-use Rattle.older.specs.Places as older
-use Rattle.older.specs.Good.{is_older}
-use Rattle.older.specs.Slices.{converted_in}
-use Rattle.older.proofs.Long.{is_long}
-use Rattle.older.proofs.OneImage.{converted}
+use Rattle.image.specs.OlderPlaces as older
+use Rattle.image.specs.OlderGood.{is_older}
+use Rattle.image.specs.OlderSlices.{converted_in}
+use Rattle.image.proofs.OlderLong.{is_long}
+use Rattle.image.proofs.OlderOneImage.{converted}
 use Rattle.calls.specs.Calls.{convert_image}
 use Rattle.calls.proofs.written.convert.Goals as goal
 

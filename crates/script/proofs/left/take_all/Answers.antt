@@ -1,5 +1,5 @@
 -- `left::take_all` meets its contract: no more lines are refused than the text has bytes, so that their count fits.
--- Rests on text's LineCount.
+-- Rests on Walking.
 use Rattle.std.proofs.Common.{arith}
 use Rattle.script.proofs.Walking.{fits}
 use Rattle.script.proofs.left.take_all.Goals as goal

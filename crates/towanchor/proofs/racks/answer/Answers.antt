@@ -1,8 +1,8 @@
 -- `towanchor::racks::answer`: what is kept of the output, or the number of the refusal, is what the program prints; and it is refused where the
--- rule says. Rests on AnsweredByRack.
+-- rule says. Rests on AnsweredByRack and on script's RackRoom.
 use Rattle.std.proofs.Common.{rules, ◌∙◌, ◌≤◌, length, arith}
 use Rattle.std.proofs.lemmas.Result.{IfOk-weaker}
-use Rattle.rackscript.proofs.Room.{most_room}
+use Rattle.script.proofs.RackRoom.{most_room}
 use Rattle.towanchor.proofs.AnsweredByRack.{kept, refused-by-rule}
 use Rattle.towanchor.proofs.racks.answer.Goals as goal
 

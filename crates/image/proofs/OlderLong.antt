@@ -1,0 +1,14 @@
+-- An older image is as long as older images are.
+-- Rests on Long.
+use mathlib.Core.Path.{◌≡◌}
+use mathlib.Core.Bool.{true}
+use mathlib.Core.List.{List}
+use Prim.Native.Nat.{ℕ}
+use lib.ListN.{length}
+use Rattle.image.proofs.Long.{long-and-more}
+use Rattle.image.specs.OlderPlaces as places
+use Rattle.image.specs.OlderGood.{bytes_fit, is_older}
+
+pub is_long : (l : List ℕ) → is_older l ≡ true → length l ≡ places.length
+unfolding is_older
+is_long l good = long-and-more l places.length (bytes_fit l) good

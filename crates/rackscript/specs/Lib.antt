@@ -1,4 +1,0 @@
-pub mod Bases
-pub mod Frames
-pub mod Answers
-pub mod Run

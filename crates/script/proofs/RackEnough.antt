@@ -1,0 +1,60 @@
+-- What a caller of a run can count on: the answers have as many bytes as it says, lie within the output, and leave what stands behind
+-- them; and with enough room no text is refused for want of it.
+-- Rests on Pieces and RackRoom.
+use mathlib.Core.Path.{◌≡◌, refl}
+use mathlib.Core.Bool.{Bool, true, false, cond, not}
+use mathlib.Core.List.{List}
+use Prim.Native.Nat.{ℕ, ◌≤◌}
+use native.Mathlib.Omega.{arith}
+use lib.Dec.{ltb}
+use lib.ListN.{length, drop}
+use lib.Seq.{drop_at}
+use borrow.Author.Tests.{ltb-true, ltb-false}
+use Rattle.rack.specs.declared.Rack.{Rack}
+use Rattle.rack.specs.Bases.{bad_rack_number}
+use Rattle.script.specs.Answers.{answers_from}
+use Rattle.script.specs.Run.{longest_script, too_long, too_long_number, no_room_number}
+use Rattle.script.proofs.Pieces.{width-each}
+use Rattle.text.specs.Lines.{Line}
+use Rattle.script.specs.RackAnswers.{answering}
+use Rattle.script.specs.RackRun.{names_rack, rack_named, to_answer, room_for, room_for_text, run_number, Ran, ran_by, ran_of, output_left}
+use Rattle.script.proofs.RackRoom.{most_room, most-room}
+
+-- One width to a line.
+pub answers-length : (r : Rack) (ls : List Line) → length (answers_from answering r ls) ≡ room_for r ls
+answers-length r ls = width-each answering r ls
+
+-- An accepted run leaves every byte behind its answers.
+pub behind-stays : (text out : List ℕ) → run_number text (length out) ≡ 0
+    → drop (room_for_text text) (output_left text out) ≡ drop (room_for_text text) out
+behind-stays text out e =
+    let answers : List ℕ = answers_from answering (rack_named text) (to_answer text) in
+    rw (e) (drop_at answers (drop (room_for_text text) out) (room_for_text text) (answers-length (rack_named text) (to_answer text)))
+
+-- The number of a run by its three tests.
+abbrev first_of : Bool → Bool → Bool → ℕ
+first_of long rack short = cond long too_long_number (cond (not rack) bad_rack_number (cond short no_room_number 0))
+
+-- What a run says that it wrote lies within the output.
+pub answers-fit : (text : List ℕ) (room : ℕ) (r : Ran) → r ≡ ran_of text room → r.length ≤ room
+unfolding run_number
+answers-fit text room r is = rw (is) (go (too_long text) (names_rack text) (ltb room (room_for_text text)) refl)
+  where
+    go : (long rack short : Bool) → ltb room (room_for_text text) ≡ short → (ran_by (first_of long rack short) text).length ≤ room
+    go true rack short e = omega arith
+    go false false short e = omega arith
+    go false true true e = omega arith
+    go false true false e = ltb-false room (room_for_text text) e
+
+-- Where there is room enough for any script no text is refused with 7.
+pub room-enough : (text : List ℕ) (room : ℕ) → most_room ≤ room → ¬ (run_number text room ≡ no_room_number)
+unfolding run_number
+room-enough text room enough = go (too_long text) (names_rack text) (ltb room (room_for_text text)) refl refl
+  where
+    go : (long rack short : Bool) → too_long text ≡ long → ltb room (room_for_text text) ≡ short
+        → ¬ (first_of long rack short ≡ no_room_number)
+    go true rack short l e seven = omega (arith, seven)
+    go false false short l e seven = omega (arith, seven)
+    go false true false l e seven = omega (arith, seven)
+    go false true true l e seven =
+        omega (arith, ltb-true room (room_for_text text) e, enough, most-room text (ltb-false longest_script (length text) l))
