@@ -36,7 +36,10 @@ pub(super) fn run<V: Debug, const N: usize>(
     print!(rt; "{title}")?;
     filled(rt, text, &row.counts)?;
     if row.out_of_place != 0 {
-        println!(rt; "  counted at places that there are not: {}", row.out_of_place)?;
+        println!(rt;
+            "  counted at places that there are not: {}",
+            row.out_of_place
+        )?;
     }
     Ok(())
 }
