@@ -3,14 +3,13 @@
 use mathlib.Core.Path.{◌≡◌, ◌∙◌, refl, ap, sym}
 use mathlib.Core.Bool.{Bool, true, false, not, ◌&&◌, and-false}
 use mathlib.Core.List.{List, [], ◌∷◌, ◌++◌}
-use Prim.Native.Nat.{ℕ, zero, suc, ◌+◌, ◌*◌, ◌/◌, ◌%◌, ◌<◌}
+use Prim.Native.Nat.{ℕ, zero, suc, ◌+◌, ◌*◌}
 use native.Mathlib.Omega.{arith}
-use mir.Val.{bool_byte}
 use lib.Dec.{eqb, ltb}
 use borrow.Author.Tests.{ltb-true, ltb-false, lt-ltb, le-ltb, eq-eqb, ne_eqb}
 use Rattle.image.specs.Places as places
-use Rattle.image.specs.Loaded.{byte_at, wide_at, eight_at}
-use Rattle.image.specs.Good.{cycle_fits, edition_fits, all_zero, unused_zero, end_fits}
+use Rattle.image.specs.Loaded.{byte_at, eight_at}
+use Rattle.image.specs.Good.{edition_fits, all_zero, unused_zero}
 
 -- Bytes as one number, the lowest first.
 abbrev value : List ℕ → ℕ
@@ -55,12 +54,8 @@ by_eight l i = byte_at l i ∷ behind_it l i
 as_one : (l : List ℕ) (i : ℕ) → eight_at l i ≡ value (by_eight l i)
 as_one l i = omega arith
 
-below_one : (n : ℕ) → ltb n 1 ≡ eqb n 0
-below_one zero = refl
-below_one (suc n) = le-ltb (suc n) 1 (omega arith) ∙ sym (ne_eqb (suc n) 0 (λ e. absurd (omega (arith, e))))
-
-eight-zero : (l : List ℕ) (i : ℕ) → ltb (eight_at l i) 1 ≡ all_zero (by_eight l i)
-eight-zero l i = below_one (eight_at l i) ∙ ap (λ (n : ℕ). eqb n 0) (as_one l i) ∙ value-zero (by_eight l i)
+eight-zero : (l : List ℕ) (i : ℕ) → eqb (eight_at l i) 0 ≡ all_zero (by_eight l i)
+eight-zero l i = ap (λ (n : ℕ). eqb n 0) (as_one l i) ∙ value-zero (by_eight l i)
 
 edition-first : (l : List ℕ) (i : ℕ) → ltb (eight_at l i) 2 ≡ (edition_fits (byte_at l i) && all_zero (behind_it l i))
 edition-first l i =
@@ -77,54 +72,17 @@ in_two : (xs ys : List ℕ) → (all_zero xs && all_zero ys) ≡ all_zero (xs ++
 in_two [] ys = refl
 in_two (x ∷ xs) ys = and_assoc (eqb x 0) (all_zero xs) (all_zero ys) ∙ ap (λ (z : Bool). eqb x 0 && z) (in_two xs ys)
 
-module _ (l : List ℕ) where
-  -- The bytes behind the bus, eight and eight and eight: the first with the edition, and the others each compared with the same number.
-  abbrev pub three_eights : ℕ → Bool
-  three_eights n =
-      ltb (eight_at l places.edition) 2 && ltb (eight_at l (places.edition + 8)) n && ltb (eight_at l (places.edition + 16)) n
-
-  abbrev behind_fits : Bool
-  behind_fits = edition_fits (byte_at l places.edition) && unused_zero l
-
-  all_fit : three_eights 1 ≡ behind_fits
-  all_fit =
-      let first = behind_it l places.edition in
-      let second = by_eight l (places.edition + 8) in
-      let third = by_eight l (places.edition + 16) in
-      let fits = edition_fits (byte_at l places.edition) in
-      (λ i. edition-first l places.edition i && eight-zero l (places.edition + 8) i && eight-zero l (places.edition + 16) i)
-      ∙ ap (λ (z : Bool). z && all_zero third) (and_assoc fits (all_zero first) (all_zero second))
-      ∙ and_assoc fits (all_zero first && all_zero second) (all_zero third)
-      ∙ ap (λ (z : Bool). fits && (z && all_zero third)) (in_two first second)
-      ∙ ap (λ (z : Bool). fits && z) (in_two (first ++ second) third)
-
-  -- Nothing is below 0.
-  none-fit : three_eights 0 ≡ false
-  none-fit =
-      rw (le-ltb (eight_at l (places.edition + 16)) 0 (omega arith))
-      (and-false (ltb (eight_at l places.edition) 2 && ltb (eight_at l (places.edition + 8)) 0))
-
-  by-bus : (fits : Bool) → three_eights (bool_byte fits) ≡ (fits && behind_fits)
-  by-bus true = all_fit
-  by-bus false = none-fit
-
-  abbrev cycle : ℕ → Bool
-  cycle edition = cycle_fits edition (byte_at l places.bus) (byte_at l places.written)
-
-  -- Where the first eight do not fit, nothing else matters; where they do, the edition is what the first two are.
-  by-edition : (below : Bool) → ltb (eight_at l places.edition) 2 ≡ below
-      → three_eights (bool_byte (cycle (wide_at l places.edition))) ≡ three_eights (bool_byte (cycle (byte_at l places.edition)))
-  by-edition true is =
-      let first : wide_at l places.edition ≡ byte_at l places.edition = omega (arith, ltb-true (eight_at l places.edition) 2 is) in
-      ap (λ (e : ℕ). three_eights (bool_byte (cycle e))) first
-  by-edition false is = rw (is)
-
-  -- The number is 1 where the bus fits, by its two bytes as one number, and otherwise 0.
-  pub end-fits : byte_at l places.bus < 256
-      → three_eights (bool_byte (cycle_fits (wide_at l places.edition) (wide_at l places.bus % 256) (wide_at l places.bus / 256))) ≡ end_fits l
-  end-fits small =
-      let bus : wide_at l places.bus % 256 ≡ byte_at l places.bus = omega (arith, small) in
-      let written : wide_at l places.bus / 256 ≡ byte_at l places.written = omega (arith, small) in
-      (λ i. three_eights (bool_byte (cycle_fits (wide_at l places.edition) (bus i) (written i))))
-      ∙ by-edition (ltb (eight_at l places.edition) 2) refl
-      ∙ by-bus (cycle (byte_at l places.edition))
+-- The bytes behind the bus, eight and eight and eight: the first with the edition.
+pub all_fit : (l : List ℕ)
+    → (ltb (eight_at l places.edition) 2 && eqb (eight_at l (places.edition + 8)) 0 && eqb (eight_at l (places.edition + 16)) 0)
+    ≡ (edition_fits (byte_at l places.edition) && unused_zero l)
+all_fit l =
+    let first = behind_it l places.edition in
+    let second = by_eight l (places.edition + 8) in
+    let third = by_eight l (places.edition + 16) in
+    let fits = edition_fits (byte_at l places.edition) in
+    (λ i. edition-first l places.edition i && eight-zero l (places.edition + 8) i && eight-zero l (places.edition + 16) i)
+    ∙ ap (λ (z : Bool). z && all_zero third) (and_assoc fits (all_zero first) (all_zero second))
+    ∙ and_assoc fits (all_zero first && all_zero second) (all_zero third)
+    ∙ ap (λ (z : Bool). fits && (z && all_zero third)) (in_two first second)
+    ∙ ap (λ (z : Bool). fits && z) (in_two (first ++ second) third)

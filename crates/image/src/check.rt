@@ -1,29 +1,31 @@
 //! Whether bytes are the image of a state.
-ghost use Rattle.std.specs.Prelude.{◌≡◌, ◌+◌, ◌/◌, ◌%◌, ◌<◌};
+ghost use Rattle.std.specs.Prelude.{◌≡◌, ◌+◌, ◌/◌, ◌%◌, ◌<◌, ◌&&◌, [], ◌∷◌};
+ghost use Rattle.chip.specs.declared.channel.Side.TheVariants.{Input, Output};
+ghost use Rattle.chip.specs.Handshakes.{strobed};
 ghost use Rattle.image.specs.Places as places;
 ghost use Rattle.image.specs.Loaded.{byte_at, eight_at};
-ghost use Rattle.image.specs.Good.{cycle_fits, enables_fit, fill_fits, fills_fit, core_fits, end_fits, bytes_fit, is_image};
+ghost use Rattle.image.specs.Good.{cycle_fits, edition_fits, unused_zero, enables_fit, conditions, fills_fit, core_fits, end_fits, bytes_fit, is_image};
 
-use super::places::{BUS, CONDITIONS, EDITION, ENABLES, IDLE, LENGTH, NEWER, OLDER, WORD, WRITES};
+use super::places::{
+    BUS, CONDITIONS, EDITION, ENABLES, IDLE, LENGTH, NEWER, OLDER, WORD, WRITES, WRITTEN,
+};
 use super::{load, save};
-use chip::channel::Side;
 use control::Group;
 
 // Above all that the byte of the edition can be.
 const BEYOND_THE_EDITION: u64 = NEWER as u64 + 1;
 
-// The four bytes from the bus on, as one number, where the older edition would read control.
-const OLDER_READS_CONTROL: u32 = chip::CONTROL as u32 + 0x1_0000 * (OLDER as u32);
-
-// The two bytes of the bus are taken as one number, and all four as another, which takes fewer instructions: where nothing is written, the
-// first is the lower byte.
-fn cycle(bus: u16, behind: u16) -> bool
-    ensures { result ≡ cycle_fits behind (bus % 256) (bus / 256) }
+// That nothing runs is asked first, since it mostly is so.
+fn cycle(edition: u8, bus: u8, written: u8) -> bool
+    ensures { result ≡ cycle_fits edition bus written }
 {
-    let lower = bus % 256;
-    let writes = (lower >= WRITES as u16) & (lower < IDLE as u16);
-    let all = (bus as u32) + 0x1_0000 * (behind as u32);
-    (writes | (bus <= IDLE as u16)) & (all != OLDER_READS_CONTROL)
+    if bus == IDLE {
+        written == 0
+    } else if bus < WRITES {
+        written == 0 && (bus != chip::CONTROL || edition != OLDER)
+    } else {
+        bus < IDLE
+    }
 }
 
 fn enables(byte: u8) -> bool
@@ -32,83 +34,89 @@ fn enables(byte: u8) -> bool
     save::enables(load::enables(byte)) == byte
 }
 
-// Whether a channel's condition is one that it can be in, by whether the mode word strobes it.
-fn condition(strobed: bool, side: Side, fill: u8) -> bool
-    ensures { result ≡ fill_fits strobed side fill }
+// How many conditions the input and the output of a group can be in, of empty, waiting and fetching, by the way that bytes go.
+const NO_HANDSHAKE: [u8; 2] = [1, 1];
+
+const OUTPUT: [u8; 2] = [1, 2];
+
+const INPUT: [u8; 2] = [3, 1];
+
+const BOTH_WAYS: [u8; 2] = [3, 2];
+
+// Of group A by the mode and the direction in bits 6 to 4 of the mode word, and of group B by those in bits 2 and 1. A row is looked up in
+// fewer instructions than each channel's own test takes. Constants in place of these would be built anew on the stack at each call.
+static OF_A: [[u8; 2]; 8] = [
+    NO_HANDSHAKE,
+    NO_HANDSHAKE,
+    OUTPUT,
+    INPUT,
+    BOTH_WAYS,
+    BOTH_WAYS,
+    BOTH_WAYS,
+    BOTH_WAYS,
+];
+
+static OF_B: [[u8; 2]; 4] = [NO_HANDSHAKE, NO_HANDSHAKE, OUTPUT, INPUT];
+
+fn conditions(word: u8, group: Group) -> [u8; 2]
+    ensures { result ≡ conditions (strobed word group Input) Input ∷ conditions (strobed word group Output) Output ∷ [] }
 {
-    let last = match side {
-        Side::Input => 2,
-        Side::Output => 1,
-    };
-    fill <= if strobed { last } else { 0 }
+    match group {
+        Group::A => OF_A[((word >> 4) & 7) as usize],
+        Group::B => OF_B[((word >> 1) & 3) as usize],
+    }
 }
 
-// The number of the eight bytes from a place on. By eight indexes: an array of a part of the image would come as an `Option`, which is never
-// empty here.
+// The number of the eight bytes from a place on. They are copied first: of a number that is put together byte by byte the compiler compares
+// each byte with 0 by itself.
 fn eight(image: &[u8; LENGTH], at: usize) -> u64
     requires { at + 7 < places.length }
     ensures { result ≡ eight_at image.now at }
 {
-    u64::from_le_bytes([
-        image[at],
-        image[at + 1],
-        image[at + 2],
-        image[at + 3],
-        image[at + 4],
-        image[at + 5],
-        image[at + 6],
-        image[at + 7],
-    ])
+    let mut bytes = [0; 8];
+    bytes.copy_from_slice(&image[at..at + 8]);
+    u64::from_le_bytes(bytes)
 }
 
-// The bus, and what is behind it: the edition, and what is not used, which is 0. Of eight bytes as one number the edition is the lowest, and
-// that number is below 2 where the edition is and the other seven are 0. The rest is compared with a number that is 1 where the bus fits and
-// otherwise 0, so that what is below it is 0 and the bus fits. It is not compared with 0 itself: eight bytes of which the compiler knows that
-// they are compared with 0 it compares one by one.
+// The edition, and what is not used behind it, which is 0. Of eight bytes as one number the edition is the lowest, and that number is below 2
+// where the edition is and the other seven are 0.
+#[tactic(auto, using(crate::proofs::Zeros::all_fit))]
+fn behind(image: &[u8; LENGTH]) -> bool
+    ensures { result ≡ (edition_fits (byte_at image.now places.edition) && unused_zero image.now) }
+{
+    (eight(image, EDITION) < BEYOND_THE_EDITION)
+        & (eight(image, EDITION + 8) == 0)
+        & (eight(image, EDITION + 16) == 0)
+}
+
 fn end(image: &[u8; LENGTH]) -> bool
     ensures { result ≡ end_fits image.now }
 {
-    let fits = cycle(load::wide(image, BUS), load::wide(image, EDITION));
-    let above = fits as u64;
-    (eight(image, EDITION) < BEYOND_THE_EDITION)
-        & (eight(image, EDITION + 8) < above)
-        & (eight(image, EDITION + 16) < above)
+    cycle(image[EDITION], image[BUS], image[WRITTEN]) && behind(image)
 }
 
 fn fills(image: &[u8; LENGTH]) -> bool
     ensures { result ≡ fills_fit (byte_at image.now) }
 {
-    let word = image[WORD];
-    condition(
-        control::mode::strobed_input(word, Group::A),
-        Side::Input,
-        image[CONDITIONS],
-    ) & condition(
-        control::mode::strobed_output(word, Group::A),
-        Side::Output,
-        image[CONDITIONS + 1],
-    ) & condition(
-        control::mode::strobed_input(word, Group::B),
-        Side::Input,
-        image[CONDITIONS + 2],
-    ) & condition(
-        control::mode::strobed_output(word, Group::B),
-        Side::Output,
-        image[CONDITIONS + 3],
-    )
+    let [a_input, a_output] = conditions(image[WORD], Group::A);
+    let [b_input, b_output] = conditions(image[WORD], Group::B);
+    image[CONDITIONS] < a_input
+        && image[CONDITIONS + 1] < a_output
+        && image[CONDITIONS + 2] < b_input
+        && image[CONDITIONS + 3] < b_output
 }
 
 fn core(image: &[u8; LENGTH]) -> bool
     ensures { result ≡ core_fits (byte_at image.now) }
 {
-    bits::bit(image[WORD], 7) & fills(image) & enables(image[ENABLES])
+    bits::bit(image[WORD], 7) && enables(image[ENABLES]) && fills(image)
 }
 
-// The end is asked first, and alone: so the compiler has fewer answers to keep at a time.
+// The end is asked last, so that what runs on the bus is still at hand where a call asks for it next.
 fn fits(image: &[u8; LENGTH]) -> bool
     ensures { result ≡ bytes_fit image.now }
 {
-    end(image) && core(image)
+    core(image) && end(image)
 }
 
 /// Whether the bytes are the image of a state. Those of another length are none.

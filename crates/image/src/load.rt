@@ -15,7 +15,7 @@ use chip::handshakes::{ACK_A, LINE_B, STB_A};
 use chip::{Chip, Core, Edition, Enables, Port, PortC};
 
 // The number of the two bytes from a place on.
-pub(super) fn wide(image: &[u8; LENGTH], at: usize) -> u16
+fn wide(image: &[u8; LENGTH], at: usize) -> u16
     requires { at + 1 < places.length }
     ensures { result ≡ wide_at image.now at }
 {
