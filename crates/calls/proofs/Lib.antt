@@ -2,3 +2,4 @@ pub mod Running
 pub mod HostStep
 pub mod Converted
 pub mod Determined
+pub mod Counted

@@ -1,20 +1,10 @@
--- What a number names, if anything; why a call gives nothing; and what it answers.
-use Rattle.std.specs.Prelude.{refl, cond, ℕ, ◌*◌, ltb, Option, Some, None, Result, Ok, Err}
+-- Why a call gives nothing, and what it answers.
+use Rattle.std.specs.Prelude.{refl, ℕ, ◌*◌, Result, Ok, Err}
 use Rattle.bus.specs.Answers.{refusal_number}
 use Rattle.bus.specs.Never0.{Never0, refusal-never-0}
-use Rattle.control.specs.declared.Group.{Group}
-use Rattle.chip.specs.declared.channel.Side.{Side}
-use Rattle.chip.specs.declared.channel.Tally.{Tally}
-use Rattle.calls.specs.Calls.{no_state, out_of_range, last_channel, last_tally, group_numbered, side_numbered, counter_numbered}
+use Rattle.calls.specs.Calls.{no_state, out_of_range}
 use Rattle.calls.specs.declared.refusals.CallRefusal.{CallRefusal}
 use Rattle.calls.specs.declared.refusals.CallRefusal.TheVariants.{NoState, NoEdition, NoSuchKind, Event, OutOfRange}
-
-abbrev pub channel_numbered : ℕ → Option (Group × Side)
-channel_numbered n = cond (ltb last_channel n) None (Some (group_numbered n, side_numbered n))
-
--- The count of a tally's number.
-abbrev pub counter_given : Tally → ℕ → Option ℕ
-counter_given t n = cond (ltb last_tally n) None (Some (counter_numbered t n))
 
 -- 1, there is no such kind of event. What the chip refuses has the number that it has elsewhere.
 abbrev pub call_number : CallRefusal → ℕ

@@ -3,7 +3,7 @@ ghost use Rattle.std.specs.Prelude.{◌≡◌, true, false, MatchResult};
 ghost use Rattle.image.specs.Loaded.{state_of};
 ghost use Rattle.image.specs.Good.{is_image};
 ghost use Rattle.calls.specs.declared.refusals.CallRefusal.TheVariants as refusals;
-ghost use Rattle.calls.specs.Answers.{answered, channel_numbered, counter_given};
+ghost use Rattle.calls.specs.Answers.{answered};
 ghost use Rattle.calls.specs.Calls.{pins_answer, tally_answer, explain_answer};
 
 use super::refusals::CallRefusal;
@@ -11,6 +11,12 @@ use bus::devices::Device;
 use chip::Chip;
 use chip::channel::{Side, Tally};
 use control::Group;
+use image::places::{CHANNEL_TALLIES, TALLIES};
+
+// The last of the four channels, and of the seven tallies of each, by C's numbers.
+const LAST_CHANNEL: u8 = 3;
+
+const LAST_TALLY: u8 = 6;
 
 // A part of each view, for which the compiler then loads only what that view looks at.
 #[inline(always)]
@@ -37,42 +43,20 @@ pub(super) fn pins(image: &[u8], port: u8) -> Result<u16, CallRefusal>
     Ok(u16::from_le_bytes([pins.levels, pins.driven]))
 }
 
-// The channel of a number, as C has it.
-fn channel(number: u8) -> Option<(Group, Side)>
-    ensures { result ≡ channel_numbered number }
+// C numbers channels and tallies in the order in which an image has them, so that the two numbers tell where the two bytes are. No state is
+// loaded, and no more than these bytes.
+#[tactic(auto, using(image::proofs::Long::is_long, crate::proofs::Counted::counted), unfolding(crate::specs::Calls::tally_answer))]
+pub(super) fn tally(image: &[u8], channel: u8, number: u8) -> Result<u16, CallRefusal>
+    ensures { answered result ≡ tally_answer image.now channel number }
 {
-    match number {
-        0 => Some((Group::A, Side::Input)),
-        1 => Some((Group::A, Side::Output)),
-        2 => Some((Group::B, Side::Input)),
-        3 => Some((Group::B, Side::Output)),
-        _ => None,
+    if !image::check::good(image) {
+        return Err(CallRefusal::NoState);
     }
-}
-
-#[tactic(auto, unfolding(crate::specs::Calls::counter_numbered))]
-fn counter(tally: Tally, number: u8) -> Option<u16>
-    ensures { result ≡ counter_given tally number }
-{
-    match number {
-        0 => Some(tally.offered),
-        1 => Some(tally.handed),
-        2 => Some(tally.overwritten),
-        3 => Some(tally.swallowed),
-        4 => Some(tally.cleared),
-        5 => Some(tally.planted),
-        6 => Some(tally.struck),
-        _ => None,
+    if LAST_CHANNEL < channel || LAST_TALLY < number {
+        return Err(CallRefusal::OutOfRange);
     }
-}
-
-#[tactic(auto, unfolding(crate::specs::Calls::tally_answer))]
-pub(super) fn tally(image: &[u8], channel_number: u8, number: u8) -> Result<u16, CallRefusal>
-    ensures { answered result ≡ tally_answer image.now channel_number number }
-{
-    let chip = load(image)?;
-    let (group, side) = channel(channel_number).ok_or(CallRefusal::OutOfRange)?;
-    counter(chip.tally(group, side), number).ok_or(CallRefusal::OutOfRange)
+    let at = TALLIES + CHANNEL_TALLIES * (channel as usize) + 2 * (number as usize);
+    Ok(u16::from_le_bytes([image[at], image[at + 1]]))
 }
 
 #[tactic(auto, unfolding(crate::specs::Calls::explain_answer, chip::specs::Reasons::explained_of))]
@@ -80,7 +64,11 @@ pub(super) fn explain(image: &[u8], group: u8) -> Result<u16, CallRefusal>
     ensures { answered result ≡ explain_answer image.now group }
 {
     let chip = load(image)?;
-    let explained = chip.explain_numbered(group).ok_or(CallRefusal::OutOfRange)?;
+    // Each group has a call of its own, so that the compiler loads no more than is asked of that group.
+    let explained = match Group::numbered(group).ok_or(CallRefusal::OutOfRange)? {
+        Group::A => chip.explain(Group::A),
+        Group::B => chip.explain(Group::B),
+    };
     let halves = explained.halves();
     Ok(u16::from_le_bytes([halves.input, halves.output]))
 }

@@ -7,7 +7,7 @@ use Rattle.bits.proofs.Same.{same_lists}
 use Rattle.bits.proofs.Tested.{all, each, same-is}
 use Rattle.control.specs.declared.Group.{Group}
 use Rattle.control.specs.declared.Group.TheVariants.{A, B}
-use Rattle.channel.specs.declared.Side.TheVariants.{Input, Output}
+use Rattle.chip.specs.declared.channel.Side.TheVariants.{Input, Output}
 use Rattle.control.specs.Mode.{mode_of, input_of, strobed_input, strobed_output}
 use Rattle.chip.specs.Handshakes.{strobed}
 use Rattle.image.specs.Good.{conditions}
