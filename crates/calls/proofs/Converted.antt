@@ -1,15 +1,13 @@
 -- What becomes of an older image: the image of the state that it tells, of the older edition, in which nothing was planted or struck; and
 -- bad bytes are refused.
 -- Rests on image's ComesBack, OneImage, Long, OlderComesBack, OlderLong and OlderOneImage.
-use mathlib.Core.Path.{◌≡◌, ◌∙◌, refl, ap}
+use mathlib.Core.Path.{◌≡◌, ◌∙◌, ap}
 use mathlib.Core.Bool.{true, false}
 use mathlib.Core.List.{List}
 use Prim.Native.Nat.{ℕ, ◌<◌}
 use native.Mathlib.Omega.{arith}
 use lib.ListN.{length}
 use borrow.Author.Tests.{eq-eqb, ne_eqb, le-ltb}
-use Rattle.control.specs.declared.Group.TheVariants.{A, B}
-use Rattle.chip.specs.declared.channel.Side.TheVariants.{Input, Output}
 use Rattle.chip.specs.declared.Chip.{Chip}
 use Rattle.image.specs.Places as places
 use Rattle.image.specs.Layout.{image_of}
@@ -22,7 +20,7 @@ use Rattle.image.proofs.Long.{written_over}
 use Rattle.image.specs.OlderLayout.{older_of}
 use Rattle.image.specs.OlderLoaded.{older_state}
 use Rattle.image.specs.OlderGood.{is_older}
-use Rattle.image.specs.Before.{NoneForced, FromBefore}
+use Rattle.image.specs.Before.{FromBefore}
 use Rattle.image.proofs.OlderComesBack as older
 use Rattle.image.proofs.OlderLong.{is_long}
 use Rattle.image.proofs.OlderOneImage.{older-where, tells-such}
@@ -56,28 +54,17 @@ module _ (o l : List ℕ) where
     pub convert-tells : state_of (convert_image o l) ≡ older_state o
     convert-tells = ap state_of convert-same ∙ comes_back (older_state o) (tells-such o bytes good)
 
--- A chip that an older image tells is of the older edition, and nothing was planted or struck in it.
-from-before : (o : List ℕ) → FromBefore (older_state o)
-unfolding older_state
-from-before o = (refl, none)
-  where
-    none : NoneForced (older_state o)
-    none A Input = (refl, refl)
-    none A Output = (refl, refl)
-    none B Input = (refl, refl)
-    none B Output = (refl, refl)
-
 -- Both new tallies read 0 in every channel.
 module _ (o l : List ℕ) (bytes : Bytes o) (good : is_older o ≡ true) (long : length l ≡ places.length) (k : ℕ) (channel : k < 4) where
   pub none-planted : tally_answer (convert_image o l) k 5 ≡ 0
   unfolding tally_answer counter_numbered
   none-planted =
-      rw (convert-good o l bytes good long, convert-tells o l bytes good long, le-ltb last_channel k (omega (arith, channel)), ((from-before o).1 _ _).0)
+      rw (convert-good o l bytes good long, convert-tells o l bytes good long, le-ltb last_channel k (omega (arith, channel)), ((older.from-before o).1 _ _).0)
 
   pub none-struck : tally_answer (convert_image o l) k 6 ≡ 0
   unfolding tally_answer counter_numbered
   none-struck =
-      rw (convert-good o l bytes good long, convert-tells o l bytes good long, le-ltb last_channel k (omega (arith, channel)), ((from-before o).1 _ _).1)
+      rw (convert-good o l bytes good long, convert-tells o l bytes good long, le-ltb last_channel k (omega (arith, channel)), ((older.from-before o).1 _ _).1)
 
 -- Of every state of the older edition with an image, in which nothing was planted or struck, the older image becomes the image.
 pub brought-over : (c : Chip) (l : List ℕ) → has_image c ≡ true → FromBefore c → length l ≡ places.length → convert_image (older_of c) l ≡ image_of c

@@ -16,7 +16,7 @@ mod refusals;
 mod views;
 mod written;
 
-/// The chip at power-up, under the default levels.
+/// The chip at power-up, under the default levels. 8 where there are more or fewer bytes than an image has.
 pub fn towanchor_power_up(image: &mut [u8]) -> u32
     ensures value { result ≡ power_up_answer image.old }
     ensures image_after { image.new ≡ power_up_image image.old }
@@ -25,7 +25,7 @@ pub fn towanchor_power_up(image: &mut [u8]) -> u32
     answer(written::start(image, &chip))
 }
 
-/// The chip at power-up, under levels that the host names for ports A, B and C.
+/// The chip at power-up, under levels that the host names for ports A, B and C. 8 where there are more or fewer bytes than an image has.
 pub fn towanchor_power_up_with_levels(image: &mut [u8], a: u8, b: u8, c: u8) -> u32
     ensures value { result ≡ power_up_answer image.old }
     ensures image_after { image.new ≡ power_up_image_with image.old a b c }
@@ -34,7 +34,8 @@ pub fn towanchor_power_up_with_levels(image: &mut [u8], a: u8, b: u8, c: u8) -> 
     answer(written::start(image, &Chip::new(Edition::Older, levels)))
 }
 
-/// The same of a chip of the edition that the host names, by its number in an image.
+/// The same of a chip of the edition that the host names, by its number in an image. 8 where there are more or fewer bytes than an image
+/// has, or no such edition.
 pub fn towanchor_power_up_as(image: &mut [u8], edition: u8, a: u8, b: u8, c: u8) -> u32
     ensures value { result ≡ power_up_as_answer image.old edition }
     ensures image_after { image.new ≡ power_up_as_image image.old edition a b c }
@@ -42,7 +43,7 @@ pub fn towanchor_power_up_as(image: &mut [u8], edition: u8, a: u8, b: u8, c: u8)
     answer(written::start_as(image, edition, Levels { a, b, c }))
 }
 
-/// An older image made the image of the same state.
+/// An older image made the image of the same state. 8 where the bytes are no older image, or where there is not the room of an image.
 pub fn towanchor_convert(older: &[u8], image: &mut [u8]) -> u32
     ensures value { result ≡ convert_answer older.now image.old }
     ensures image_after { image.new ≡ convert_image older.now image.old }
@@ -50,7 +51,7 @@ pub fn towanchor_convert(older: &[u8], image: &mut [u8]) -> u32
     answer(written::convert(older, image))
 }
 
-/// One event, with its number and the byte of an accepted read.
+/// One event, with its number and the byte of an accepted read. 8 where the bytes are no image, before any other refusal.
 #[tactic(auto, using(image::proofs::Long::is_long), unfolding(crate::specs::Calls::step_answer, crate::specs::Calls::step_image))]
 pub fn towanchor_step(image: &mut [u8], kind: u8, first: u8, second: u8) -> u32
     ensures value { result ≡ step_answer image.old kind first second }
@@ -62,21 +63,22 @@ pub fn towanchor_step(image: &mut [u8], kind: u8, first: u8, second: u8) -> u32
     })
 }
 
-/// The levels of a port's pins, and a one for each that the chip drives.
+/// The levels of a port's pins, and a one for each that the chip drives. 8 where the bytes are no image, and then 2 where there is no such port.
 pub fn towanchor_pins(image: &[u8], port: u8) -> u32
     ensures { result ≡ pins_answer image.now port }
 {
     answer(views::pins(image, port))
 }
 
-/// One of the seven tallies of one of the four channels.
+/// One of the seven tallies of one of the four channels. 8 where the bytes are no image, and then 2 where there is no such channel or tally.
 pub fn towanchor_tally(image: &[u8], channel: u8, number: u8) -> u32
     ensures { result ≡ tally_answer image.now channel number }
 {
     answer(views::tally(image, channel, number))
 }
 
-/// What each half of a group's INTR is doing, and where it is low the first reason.
+/// What each half of a group's INTR is doing, and where it is low the first reason. 8 where the bytes are no image, and then 2 where there is no
+/// such group.
 pub fn towanchor_explain(image: &[u8], group: u8) -> u32
     ensures { result ≡ explain_answer image.now group }
 {

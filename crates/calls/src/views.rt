@@ -9,7 +9,6 @@ ghost use Rattle.calls.specs.Calls.{pins_answer, tally_answer, explain_answer};
 use super::refusals::CallRefusal;
 use bus::devices::Device;
 use chip::Chip;
-use chip::channel::{Side, Tally};
 use control::Group;
 use image::places::{CHANNEL_TALLIES, TALLIES};
 
@@ -43,8 +42,8 @@ pub(super) fn pins(image: &[u8], port: u8) -> Result<u16, CallRefusal>
     Ok(u16::from_le_bytes([pins.levels, pins.driven]))
 }
 
-// C numbers channels and tallies in the order in which an image has them, so that the two numbers tell where the two bytes are. No state is
-// loaded, and no more than these bytes.
+// C numbers channels and tallies in the order in which an image has them, so that the two numbers tell where the two bytes stand. Behind the
+// check nothing is read but these two, and no state is loaded.
 #[tactic(auto, using(image::proofs::Long::is_long, crate::proofs::Counted::counted), unfolding(crate::specs::Calls::tally_answer))]
 pub(super) fn tally(image: &[u8], channel: u8, number: u8) -> Result<u16, CallRefusal>
     ensures { answered result ≡ tally_answer image.now channel number }

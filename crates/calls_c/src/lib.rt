@@ -5,7 +5,7 @@
 ghost use Rattle.std.specs.Prelude.{◌≡◌};
 ghost use Rattle.calls.specs.Calls.{power_up_answer, power_up_image, power_up_image_with, power_up_as_answer, power_up_as_image, convert_answer, convert_image, step_answer, step_image, pins_answer, tally_answer, explain_answer};
 
-/// The chip at power-up, under the default levels.
+/// The chip at power-up, under the default levels. 8 where there are more or fewer bytes than an image has.
 #[unsafe(no_mangle)]
 pub extern "C" fn towanchor_power_up(image: &mut [u8]) -> u32
     ensures value { result ≡ power_up_answer image.old }
@@ -14,7 +14,7 @@ pub extern "C" fn towanchor_power_up(image: &mut [u8]) -> u32
     calls::towanchor_power_up(image)
 }
 
-/// The chip at power-up, under levels that the host names for ports A, B and C.
+/// The chip at power-up, under levels that the host names for ports A, B and C. 8 where there are more or fewer bytes than an image has.
 #[unsafe(no_mangle)]
 pub extern "C" fn towanchor_power_up_with_levels(image: &mut [u8], a: u8, b: u8, c: u8) -> u32
     ensures value { result ≡ power_up_answer image.old }
@@ -23,7 +23,8 @@ pub extern "C" fn towanchor_power_up_with_levels(image: &mut [u8], a: u8, b: u8,
     calls::towanchor_power_up_with_levels(image, a, b, c)
 }
 
-/// The same of a chip of the edition that the host names, by its number in an image.
+/// The same of a chip of the edition that the host names, by its number in an image. 8 where there are more or fewer bytes than an image
+/// has, or no such edition.
 #[unsafe(no_mangle)]
 pub extern "C" fn towanchor_power_up_as(image: &mut [u8], edition: u8, a: u8, b: u8, c: u8) -> u32
     ensures value { result ≡ power_up_as_answer image.old edition }
@@ -32,7 +33,7 @@ pub extern "C" fn towanchor_power_up_as(image: &mut [u8], edition: u8, a: u8, b:
     calls::towanchor_power_up_as(image, edition, a, b, c)
 }
 
-/// An older image made the image of the same state.
+/// An older image made the image of the same state. 8 where the bytes are no older image, or where there is not the room of an image.
 #[unsafe(no_mangle)]
 pub extern "C" fn towanchor_convert(older: &[u8], image: &mut [u8]) -> u32
     ensures value { result ≡ convert_answer older.now image.old }
@@ -41,7 +42,7 @@ pub extern "C" fn towanchor_convert(older: &[u8], image: &mut [u8]) -> u32
     calls::towanchor_convert(older, image)
 }
 
-/// One event, with its number and the byte of an accepted read.
+/// One event, with its number and the byte of an accepted read. 8 where the bytes are no image, before any other refusal.
 #[unsafe(no_mangle)]
 pub extern "C" fn towanchor_step(image: &mut [u8], kind: u8, first: u8, second: u8) -> u32
     ensures value { result ≡ step_answer image.old kind first second }
@@ -50,7 +51,7 @@ pub extern "C" fn towanchor_step(image: &mut [u8], kind: u8, first: u8, second: 
     calls::towanchor_step(image, kind, first, second)
 }
 
-/// The levels of a port's pins, and a one for each that the chip drives.
+/// The levels of a port's pins, and a one for each that the chip drives. 8 where the bytes are no image, and then 2 where there is no such port.
 #[unsafe(no_mangle)]
 pub extern "C" fn towanchor_pins(image: &[u8], port: u8) -> u32
     ensures { result ≡ pins_answer image.now port }
@@ -58,7 +59,7 @@ pub extern "C" fn towanchor_pins(image: &[u8], port: u8) -> u32
     calls::towanchor_pins(image, port)
 }
 
-/// One of the seven tallies of one of the four channels.
+/// One of the seven tallies of one of the four channels. 8 where the bytes are no image, and then 2 where there is no such channel or tally.
 #[unsafe(no_mangle)]
 pub extern "C" fn towanchor_tally(image: &[u8], channel: u8, number: u8) -> u32
     ensures { result ≡ tally_answer image.now channel number }
@@ -66,7 +67,8 @@ pub extern "C" fn towanchor_tally(image: &[u8], channel: u8, number: u8) -> u32
     calls::towanchor_tally(image, channel, number)
 }
 
-/// What each half of a group's INTR is doing, and where it is low the first reason.
+/// What each half of a group's INTR is doing, and where it is low the first reason. 8 where the bytes are no image, and then 2 where there is no
+/// such group.
 #[unsafe(no_mangle)]
 pub extern "C" fn towanchor_explain(image: &[u8], group: u8) -> u32
     ensures { result ≡ explain_answer image.now group }

@@ -8,16 +8,17 @@ use super::{Core, Enables, PORT_A, PORT_B};
 use bus::Phase;
 use control::{Group, mode};
 
-/// The pin of port C that is STB of group A, where port A takes bytes in. Data sheet: Mode 1 (Strobed Input).
+/// The pin of port C that is STB of group A, where port A takes bytes in. Data sheet: Mode Definition Summary.
 pub const STB_A: u8 = 4;
 
-/// The pin that is ACK of group A, where port A gives bytes out. Data sheet: Mode 1 (Strobed Output).
+/// The pin of port C that is ACK of group A, where port A gives bytes out. Data sheet: Mode Definition Summary.
 pub const ACK_A: u8 = 6;
 
-/// The pin of group B's line: its STB where port B is an input, its ACK where it is an output.
+/// The pin of port C that is group B's line: its STB where port B is an input, its ACK where it is an output. Data sheet: Mode Definition
+/// Summary.
 pub const LINE_B: u8 = 2;
 
-// Those on which it shows whether a byte is there: IBF of group A, OBF of group A, and the pin of group B, which is its IBF or its OBF.
+// The pins of port C on which the chip shows whether a byte is there: IBF of group A, OBF of group A, and the pin of group B, which is its IBF or its OBF.
 pub(super) const IBF_A: u8 = 5;
 
 pub(super) const OBF_A: u8 = 7;

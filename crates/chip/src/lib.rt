@@ -98,7 +98,7 @@ pub const PORT_B: u8 = 1;
 /// The address of port C, and its number.
 pub const PORT_C: u8 = 2;
 
-/// The address of the control word. It is no port, and has no levels.
+/// The address of the control word. It is no port, and has no levels. Data sheet: Basic Operation.
 pub const CONTROL: u8 = 3;
 
 /// The mode word at power-up and after a reset: all ports are inputs in mode 0. Data sheet: RESET.

@@ -13,7 +13,7 @@ use control::Group;
 fn falls(before: u8, after: u8, pin: u8) -> bool
     ensures { result ≡ fallen before after pin }
 {
-    bits::bit(before, pin) & !bits::bit(after, pin)
+    bits::bit(before, pin) && !bits::bit(after, pin)
 }
 
 impl Port {
@@ -72,8 +72,9 @@ impl Core {
         self.strobes(group, Side::Input) && !stb
     }
 
-    /// The outside levels of a port become these: a STB that falls offers the byte of its port, an ACK that falls takes one. On a number that is
-    /// no port nothing happens. Data sheet: STB, ACK.
+    /// The outside levels of a port become these. On port C, where the mode word strobes a channel, an STB that falls offers the byte on the port's
+    /// lines, and an ACK that falls takes the byte that waits; on port A or B levels go through to the input latch while STB is low. On a number that
+    /// is no port nothing happens. Data sheet: Input Control Signal Definition (STB), Output Control Signal Definition (ACK).
     #[tactic(auto, unfolding(crate::specs::Levels::after_levels))]
     pub fn put_levels(&mut self, port: u8, levels: u8)
         ensures { self.new ≡ after_levels self.old port levels }

@@ -25,7 +25,8 @@ impl Port {
 }
 
 impl Core {
-    /// A read at the address begins: a strobed input that is read hands its byte over, and is fetching. Data sheet: Mode 1 (Strobed Input), INTR.
+    /// A read at the address begins: a strobed input hands over the byte that waits in it, and is fetching. Data sheet: Input Control Signal
+    /// Definition (INTR).
     #[tactic(auto, unfolding(crate::specs::Read::after_read_begins))]
     pub fn begin_read(&mut self, address: u8)
         ensures { self.new ≡ after_read_begins self.old address }
@@ -37,7 +38,8 @@ impl Core {
         }
     }
 
-    /// A read at the address ends: a strobed input that was read is empty. Data sheet: Mode 1 (Strobed Input), IBF.
+    /// A read at the address ends: a strobed input is empty, and a byte that still waits in it is swallowed. Data sheet: Input Control Signal
+    /// Definition (IBF).
     #[tactic(auto, unfolding(crate::specs::Read::after_read_ends))]
     pub fn end_read(&mut self, address: u8)
         ensures { self.new ≡ after_read_ends self.old address }

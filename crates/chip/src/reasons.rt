@@ -103,7 +103,7 @@ impl Chip {
         }
     }
 
-    /// Explains the INTR of a group. Data sheet: Interrupt Control Functions, INTR.
+    /// Explains the INTR of a group. Data sheet: Interrupt Control Functions, Input and Output Control Signal Definition (INTR).
     #[tactic(auto, unfolding(crate::specs::Reasons::explained_in))]
     pub fn explain(&self, group: Group) -> Explained
         ensures { result ≡ explained_in self.now group }

@@ -88,7 +88,8 @@ impl Core {
         }
     }
 
-    /// The end of a write to the control address: a mode word, or a pin of port C put to a value. Data sheet: Single Bit Set/Reset Feature.
+    /// The end of a write to the control address: a mode word, or a bit set/reset, which puts the latch of a free output, or the enable behind STB or
+    /// ACK, or forces a flag. Data sheet: Mode Selection, Single Bit Set/Reset Feature, Interrupt Control Functions.
     #[tactic(auto, unfolding(crate::specs::ControlWord::after_control_word))]
     pub fn command(&mut self, byte: u8)
         ensures { self.new ≡ after_control_word self.old byte }

@@ -37,7 +37,7 @@ pub(super) fn run<V: Debug, const N: usize>(
     filled(rt, text, &row.counts)?;
     if row.out_of_place != 0 {
         println!(rt;
-            "  counted at places that there are not: {}",
+            "  counted at places that do not exist: {}",
             row.out_of_place
         )?;
     }

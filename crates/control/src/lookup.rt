@@ -48,7 +48,7 @@ impl Role {
     }
 }
 
-/// The number of that role; 255 where there is none.
+/// The number of the role of a pin of port C under a mode word; 255 where there is none.
 pub fn role(word: u8, pin: u8) -> u8
     ensures { result ≡ lookup_of word pin }
 {

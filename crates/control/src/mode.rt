@@ -1,5 +1,5 @@
-//! The modes and directions that a mode word sets up. Bit 7 counts as set, and is not looked at. Tests of masks are joined by `|`: so each stays
-//! one number made of a word, which its proof computes at every word.
+//! The modes and directions that a mode word sets up. Bit 7 counts as set, and is not looked at. Tests of masks are joined by `|` and not by
+//! `||`: the whole stays one expression of the word, which its proof computes at every word.
 ghost use Rattle.std.specs.Prelude.{◌≡◌};
 ghost use Rattle.control.specs.Mode.{mode_of, mode_number, directions_of, strobed_input, strobed_output, output_of};
 
@@ -47,7 +47,7 @@ pub fn directions(word: u8) -> Directions
     }
 }
 
-/// Whether the group's port takes bytes in by STB. Data sheet: Mode 1 (Strobed Input), Mode 2 (Strobed Bidirectional Bus I/O).
+/// Whether the group's port takes bytes in by STB. Data sheet: Mode 1 (Strobed Input/Output), Mode 2 (Strobed Bidirectional Bus I/O).
 pub fn strobed_input(word: u8, group: Group) -> bool
     ensures { result ≡ strobed_input word group }
 {
@@ -57,7 +57,7 @@ pub fn strobed_input(word: u8, group: Group) -> bool
     }
 }
 
-/// Whether the group's port gives bytes out by ACK. Data sheet: Mode 1 (Strobed Output), Mode 2 (Strobed Bidirectional Bus I/O).
+/// Whether the group's port gives bytes out by ACK. Data sheet: Mode 1 (Strobed Input/Output), Mode 2 (Strobed Bidirectional Bus I/O).
 pub fn strobed_output(word: u8, group: Group) -> bool
     ensures { result ≡ strobed_output word group }
 {

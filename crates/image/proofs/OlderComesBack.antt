@@ -1,6 +1,8 @@
--- A state of the older edition in which nothing was planted or struck comes back from its older image.
+-- A state of the older edition in which nothing was planted or struck comes back from its older image; and an older image tells such a state.
 -- Rests on ComesBack.
 use mathlib.Core.Path.{◌≡◌, refl, sym}
+use mathlib.Core.List.{List}
+use Prim.Native.Nat.{ℕ}
 use Rattle.bus.specs.declared.Phase.{Phase}
 use Rattle.bus.specs.declared.Phase.TheVariants.{Idle, Reading, Writing}
 use Rattle.control.specs.declared.Group.TheVariants.{A, B}
@@ -12,7 +14,7 @@ use Rattle.image.specs.Loaded.{fill_as}
 use Rattle.image.proofs.ComesBack.{channel-back, enables-back}
 use Rattle.image.specs.OlderLayout.{bus_byte, address_byte, older_of}
 use Rattle.image.specs.OlderLoaded.{channel_tally, phase_as, older_state}
-use Rattle.image.specs.Before.{FromBefore}
+use Rattle.image.specs.Before.{NoneForced, FromBefore}
 
 phase-back : (ph : Phase) → phase_as (bus_byte ph) (address_byte ph) (written_byte ph) ≡ ph
 phase-back Idle = refl
@@ -48,3 +50,14 @@ comes_back c (older, none) = λ i. record {
     inte = enables-back c.core.inte i;
   };
 }
+
+-- A chip that an older image tells is of the older edition, and nothing was planted or struck in it.
+pub from-before : (o : List ℕ) → FromBefore (older_state o)
+unfolding older_state
+from-before o = (refl, none)
+  where
+    none : NoneForced (older_state o)
+    none A Input = (refl, refl)
+    none A Output = (refl, refl)
+    none B Input = (refl, refl)
+    none B Output = (refl, refl)

@@ -1,4 +1,4 @@
--- The older image of a chip: the bytes in which earlier versions saved it, part by part in the order of Places. The tallies of bytes
+-- The older image of a chip: the bytes in which earlier versions saved it, part by part in the order of OlderPlaces. The tallies of bytes
 -- that were planted and struck are in none of them, and neither is the edition.
 use Rattle.std.specs.Prelude.{List, ◌∷◌, ◌++◌, ℕ, ◌-◌, replicate}
 use Rattle.bus.specs.declared.Phase.{Phase}

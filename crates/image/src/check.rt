@@ -34,7 +34,7 @@ fn enables(byte: u8) -> bool
     save::enables(load::enables(byte)) == byte
 }
 
-// How many conditions the input and the output of a group can be in, of empty, waiting and fetching, by the way that bytes go.
+// Of the conditions empty, waiting and fetching, how many the input and the output of a group can be in, by the way that bytes go.
 const NO_HANDSHAKE: [u8; 2] = [1, 1];
 
 const OUTPUT: [u8; 2] = [1, 2];
@@ -79,7 +79,7 @@ fn eight(image: &[u8; LENGTH], at: usize) -> u64
 }
 
 // The edition, and what is not used behind it, which is 0. Of eight bytes as one number the edition is the lowest, and that number is below 2
-// where the edition is and the other seven are 0.
+// where the edition is and the other seven are 0. Joined by `&`, so that the three are compared without a branch.
 #[tactic(auto, using(crate::proofs::Zeros::all_fit))]
 fn behind(image: &[u8; LENGTH]) -> bool
     ensures { result ≡ (edition_fits (byte_at image.now places.edition) && unused_zero image.now) }

@@ -21,7 +21,7 @@ pub const LATCH_C: usize = 59;
 /// Where the latches of the four channels begin, a byte each.
 pub const LATCHES: usize = 60;
 
-/// Where their conditions begin, a byte each.
+/// Where the conditions of the four channels begin, a byte each.
 pub const CONDITIONS: usize = 64;
 
 /// The mode word.
@@ -45,17 +45,17 @@ pub const UNUSED: usize = 73;
 /// How many bytes an image has.
 pub const LENGTH: usize = 96;
 
-/// The byte of the bus is the address that is read where it is below this, and from here on the address that is written above it.
+/// Below this the byte of the bus is the address that is read; from here on it is this and the address that is written.
 pub const WRITES: u8 = 4;
 
 /// The byte of the bus where nothing runs.
 pub const IDLE: u8 = 8;
 
-/// As this a cycle is saved at an address that there is not; such bytes are no image.
+/// The byte of the bus where a cycle runs at an address that does not exist. Such bytes are no image.
 pub const NOWHERE: u8 = 255;
 
 /// The byte of the edition of an 8255A. Images that were made for it alone have this there.
 pub const OLDER: u8 = 0;
 
-/// That of an 82C55A.
+/// The byte of the edition of an 82C55A.
 pub const NEWER: u8 = 1;

@@ -20,7 +20,7 @@ use Rattle.image.specs.OlderLoaded.{older_state}
 use Rattle.image.specs.OlderGood.{is_older}
 use Rattle.image.specs.Before.{NoneForced, FromBefore}
 use Rattle.image.proofs.OlderSameBytes.{same-bytes}
-use Rattle.image.proofs.OlderComesBack.{comes_back}
+use Rattle.image.proofs.OlderComesBack.{comes_back, from-before}
 use Rattle.image.proofs.OlderOneImage.{older-where, tells-such}
 use Rattle.calls.proofs.Converted.{converts, convert-same}
 use Rattle.restored.specs.Having.{HasImage}
@@ -142,16 +142,6 @@ module _ (o : List ℕ) (bytes : Bytes o) (c : Chip) (t : OlderTells o c) where
           answer = λ room long. converts o room bytes is-older long;
           written = λ room long. convert-same o room bytes is-older long ∙ ap image_of same;
         }
-
-from-before : (o : List ℕ) → FromBefore (older_state o)
-unfolding older_state
-from-before o = (refl, none)
-  where
-    none : NoneForced (older_state o)
-    none A Input = (refl, refl)
-    none A Output = (refl, refl)
-    none B Input = (refl, refl)
-    none B Output = (refl, refl)
 
 -- Exactly such bytes are an older image.
 pub older-image-where : (o : List ℕ) → Bytes o → (is_older o ≡ true) ↔ ((c : Chip) × HasImage c × OlderTells o c)

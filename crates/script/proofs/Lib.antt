@@ -18,4 +18,3 @@ pub mod RackEnough
 pub mod RackShown
 pub mod RackWritten
 pub mod Determined
-pub mod RackDetermined

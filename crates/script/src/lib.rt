@@ -1,4 +1,5 @@
-//! The run of a script: a text of frames, one to a line, answered line by line by whoever answers scripts.
+//! The run of a script: a text of frames, one to a line, answered line by line by whoever answers scripts. A rack's script, whose first line
+//! names the rack, is run by `racks`.
 #![tactic(auto)]
 
 ghost use Rattle.std.specs.Prelude.{◌≡◌, ◌≤◌, length};

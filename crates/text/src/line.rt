@@ -28,7 +28,7 @@ impl<'a> Line<'a> {
     }
 
     /// The event that the line says; `None` where it is no frame. A rest says nothing, however well it is formed.
-    // By a match, here and in rackscript: a function that gives the bytes of an ended line would save no line.
+    // By a match, here and in `script::racks`: a function that gives the bytes of an ended line would save no line.
     #[tactic(auto, unfolding(crate::specs::Frames::frame_in))]
     pub fn event(self) -> Option<Event>
         ensures { frame_told result ≡ frame_in (line_of self.entry) }

@@ -21,10 +21,10 @@ pub const WRITES: u8 = 2;
 /// What runs on the bus.
 pub const BUS: usize = 54;
 
-/// The port or address that it names.
+/// The port or address that the running cycle names.
 pub const ADDRESS: usize = 55;
 
-/// The byte that it writes.
+/// The byte that the running write writes.
 pub const WRITTEN: usize = 56;
 
 /// Where what is not used begins, up to the end.
