@@ -20,18 +20,18 @@ use Rattle.chip.specs.Step.{stepped}
 use Rattle.fates.specs.Surroundings.{at_power_up, surroundings_next}
 use Rattle.fates.specs.Effects.{strobe_pin}
 use Rattle.fates.specs.Promise.{surroundings_of}
-use Rattle.fates.proofs.SurroundingsKept.{surroundings-next}
+use Rattle.fates.proofs.SurroundingsKept.{surroundings_next_lem}
 use Rattle.account.specs.Summary.{signal_at}
 use Rattle.account.specs.Account.{Account, strobed as Account·strobed, line, served, account_next, opened}
 use Rattle.account.specs.Promise.{with_bit7, surroundings_here, bit_here, flag_here, account_of}
-use Rattle.account.proofs.Words.{signal_alike, with-bit-7-alike}
-use Rattle.account.proofs.Columns.{takes_same, gives_same, takes-here, gives-here}
-use Rattle.account.proofs.Signals.{strobe-stands, acknowledge-stands}
-use Rattle.account.proofs.ByEvent.{seven, seven-next}
-use Rattle.account.proofs.Pins.{bit-next}
+use Rattle.account.proofs.Words.{signal_alike, with_bit_7_alike}
+use Rattle.account.proofs.Columns.{takes_same, gives_same, takes_here, gives_here}
+use Rattle.account.proofs.Signals.{strobe_stands, acknowledge_stands}
+use Rattle.account.proofs.ByEvent.{seven, seven_next}
+use Rattle.account.proofs.Pins.{bit_next}
 use Rattle.account.proofs.Moves.{full, vacant, given}
-use Rattle.account.proofs.Ports.{output-next, obf-next, input-next, ibf-next, given-next}
-use Rattle.account.proofs.Waves.{Even, even-next}
+use Rattle.account.proofs.Ports.{output_next, obf_next, input_next, ibf_next, given_next}
+use Rattle.account.proofs.Waves.{Even, even_next}
 
 -- The account has what the chip has.
 pub record Agrees (c : Chip) (a : Account) : Type 0 where
@@ -45,25 +45,25 @@ pub record Agrees (c : Chip) (a : Account) : Type 0 where
   pub even : Even a
 
 -- The surroundings, with bit 7 of the word counted as set.
-here-next : (c : Chip) (e : Event) → surroundings_here (stepped c e).chip ≡ surroundings_next (surroundings_here c) e
-here-next c e = ap seven (surroundings-next c e) ∙ seven-next (surroundings_of c) e
+here_next : (c : Chip) (e : Event) → surroundings_here (stepped c e).chip ≡ surroundings_next (surroundings_here c) e
+here_next c e = ap seven (surroundings_next_lem c e) ∙ seven_next (surroundings_of c) e
 
-pub agrees-next : (c : Chip) (a : Account) (e : Event) → Agrees c a → Agrees (stepped c e).chip (account_next a e)
-agrees-next c a e k = record {
-  surroundings = rw k.surroundings (sym (here-next c e));
-  bit = λ n hn. rw (k.surroundings, k.bit n hn) (bit-next c n hn e);
-  output = λ g. rw (k.surroundings, k.output g) (sym (output-next c g e));
-  input = λ g. rw (k.surroundings, k.input g) (sym (input-next c g e));
-  ibf = λ g. rw (k.surroundings, k.ibf g, k.given g) (sym (ibf-next c g e));
-  obf = λ g. rw (k.surroundings, k.obf g) (sym (obf-next c g e));
-  given = λ g. rw (k.surroundings, k.ibf g, k.given g) (sym (given-next c g e));
-  even = even-next a k.even e;
+pub agrees_next : (c : Chip) (a : Account) (e : Event) → Agrees c a → Agrees (stepped c e).chip (account_next a e)
+agrees_next c a e k = record {
+  surroundings = rw k.surroundings (sym (here_next c e));
+  bit = λ n hn. rw (k.surroundings, k.bit n hn) (bit_next c n hn e);
+  output = λ g. rw (k.surroundings, k.output g) (sym (output_next c g e));
+  input = λ g. rw (k.surroundings, k.input g) (sym (input_next c g e));
+  ibf = λ g. rw (k.surroundings, k.ibf g, k.given g) (sym (ibf_next c g e));
+  obf = λ g. rw (k.surroundings, k.obf g) (sym (obf_next c g e));
+  given = λ g. rw (k.surroundings, k.ibf g, k.given g) (sym (given_next c g e));
+  even = even_next a k.even e;
 }
 
 -- The bit at the line of a strobed channel is its enable.
-pub line-bit : (c : Core) (g : Group) (s : Side) → strobed c.word g s ≡ true → bit_here c (strobe_pin g s) (signal_at c.word (strobe_pin g s)) ≡ enable_of c.inte g s
-line-bit c g Input on = ap (bit_here c (strobe_pin g Input)) (strobe-stands c.word g (takes_same c.word g ∙ on))
-line-bit c g Output on = ap (bit_here c (strobe_pin g Output)) (acknowledge-stands c.word g (gives_same c.word g ∙ on))
+pub line_bit : (c : Core) (g : Group) (s : Side) → strobed c.word g s ≡ true → bit_here c (strobe_pin g s) (signal_at c.word (strobe_pin g s)) ≡ enable_of c.inte g s
+line_bit c g Input on = ap (bit_here c (strobe_pin g Input)) (strobe_stands c.word g (takes_same c.word g ∙ on))
+line_bit c g Output on = ap (bit_here c (strobe_pin g Output)) (acknowledge_stands c.word g (gives_same c.word g ∙ on))
 
 -- Two conjunctions that agree where the first part holds.
 within : (s p q r : Bool) → (s ≡ true → q ≡ p) → (s && (p && r)) ≡ (s && (q && r))
@@ -76,25 +76,25 @@ module _ (c : Chip) where
   w = c.core.word
 
   here : (n : ℕ) → signal_at (with_bit7 w) n ≡ signal_at w n
-  here n = signal_alike (with_bit7 w) w (with-bit-7-alike w) n
+  here n = signal_alike (with_bit7 w) w (with_bit_7_alike w) n
 
-  line-here : (g : Group) (s : Side) → strobed w g s ≡ true → (account_of c).bit (strobe_pin g s) ≡ enable_of c.core.inte g s
-  line-here g s on = ap (bit_here c.core (strobe_pin g s)) (here (strobe_pin g s)) ∙ line-bit c.core g s on
+  line_here : (g : Group) (s : Side) → strobed w g s ≡ true → (account_of c).bit (strobe_pin g s) ≡ enable_of c.core.inte g s
+  line_here g s on = ap (bit_here c.core (strobe_pin g s)) (here (strobe_pin g s)) ∙ line_bit c.core g s on
 
   -- What a half asks for beside its enable.
   abbrev others : Group → Side → Bool
   others g s = flag_here c.core g s && (line (surroundings_here c) g s && not (served (surroundings_here c) g s))
 
-  even-here : Even (account_of c)
-  even-here g Input =
+  even_here : Even (account_of c)
+  even_here g Input =
       within (Account·strobed (surroundings_here c) g Input) (enable_of c.core.inte g Input) ((account_of c).bit (strobe_pin g Input)) (others g Input)
-      (λ on. line-here g Input (sym (takes-here w g) ∙ on))
-  even-here g Output =
+      (λ on. line_here g Input (sym (takes_here w g) ∙ on))
+  even_here g Output =
       within (Account·strobed (surroundings_here c) g Output) (enable_of c.core.inte g Output) ((account_of c).bit (strobe_pin g Output)) (others g Output)
-      (λ on. line-here g Output (sym (gives-here w g) ∙ on))
+      (λ on. line_here g Output (sym (gives_here w g) ∙ on))
 
-  pub agrees-of : Agrees c (account_of c)
-  agrees-of = record {
+  pub agrees_of : Agrees c (account_of c)
+  agrees_of = record {
     surroundings = refl;
     bit = λ n hn. ap (bit_here c.core n) (here n);
     output = λ g. refl;
@@ -102,13 +102,13 @@ module _ (c : Chip) where
     ibf = λ g. refl;
     obf = λ g. refl;
     given = λ g. refl;
-    even = even-here;
+    even = even_here;
   }
 
 -- So does the account that is opened at power-up.
-pub agrees-opened : (ed : Edition) (l : Levels) → Agrees (power_up_as ed l) (opened ed l)
+pub agrees_opened : (ed : Edition) (l : Levels) → Agrees (power_up_as ed l) (opened ed l)
 unfolding bit_of
-agrees-opened ed l = record {
+agrees_opened ed l = record {
   surroundings = refl;
   bit = bits 8 (λ n. false) (λ n. bit_here (power_up_as ed l).core n (signal_at 0x9b n)) tt;
   output = zeros Output;

@@ -6,7 +6,7 @@ use Prim.Native.Nat.{ℕ, ◌<◌}
 use lib.Dec.{eqb}
 use borrow.Author.Tests.{eqb-true}
 use Rattle.bits.specs.Bit.{bit_of, with_bit}
-use Rattle.bits.proofs.BitLaws.{bit-of-with}
+use Rattle.bits.proofs.BitLaws.{bit_of_with}
 use Rattle.control.specs.declared.Group.{Group}
 use Rattle.control.specs.declared.Group.TheVariants.{A, B}
 use Rattle.control.specs.Role.{Role}
@@ -17,27 +17,27 @@ use Rattle.chip.specs.Moves.{after_force}
 use Rattle.chip.specs.declared.Enables.{Enables}
 use Rattle.chip.specs.declared.Core.{Core}
 use Rattle.chip.specs.Handshakes.{group_at, enable_of}
-use Rattle.chip.proofs.OneChannel.{channel-lines, channel-enables}
+use Rattle.chip.proofs.OneChannel.{channel_lines, channel_enables}
 use Rattle.chip.specs.ControlWord.{enabled, flag_put, set_as}
 use Rattle.fates.specs.Effects.{strobe_pin}
 use Rattle.account.specs.Summary.{Signal, io, INTR, IBF, OBF, STB, ACK, signal_at, is_in, free_out}
-use Rattle.account.proofs.Signals.{role_by, by-signal}
+use Rattle.account.proofs.Signals.{role_by, by_signal}
 
 -- What a role lets bit set/reset do to the latch.
-pub set-latch : (c : Core) (n : ℕ) (v : Bool) (s : Signal) (inward : Bool)
+pub set_latch : (c : Core) (n : ℕ) (v : Bool) (s : Signal) (inward : Bool)
     → (set_as c n v (role_by s inward)).c.latch ≡ cond (free_out s inward) (with_bit c.c.latch n v) c.c.latch
-set-latch c n v io true = refl
-set-latch c n v io false = refl
-set-latch c n v (INTR g) inward = refl
-set-latch c n v (IBF g) inward = ap (λ l. l.latch) (channel-lines c (λ s. after_force s v) (group_at n) Input)
-set-latch c n v (OBF g) inward = ap (λ l. l.latch) (channel-lines c (λ s. after_force s v) (group_at n) Output)
-set-latch c n v (STB g) inward = refl
-set-latch c n v (ACK g) inward = refl
+set_latch c n v io true = refl
+set_latch c n v io false = refl
+set_latch c n v (INTR g) inward = refl
+set_latch c n v (IBF g) inward = ap (λ l. l.latch) (channel_lines c (λ s. after_force s v) (group_at n) Input)
+set_latch c n v (OBF g) inward = ap (λ l. l.latch) (channel_lines c (λ s. after_force s v) (group_at n) Output)
+set_latch c n v (STB g) inward = refl
+set_latch c n v (ACK g) inward = refl
 
 -- The bit at pin m after bit set/reset of pin n.
-pub put-bit : (l n m : ℕ) (v out : Bool) → m < 8 → bit_of (cond out (with_bit l n v) l) m ≡ cond (eqb m n && out) v (bit_of l m)
-put-bit l n m v true hm = bit-of-with l n v m hm ∙ rw (and-true (eqb m n))
-put-bit l n m v false hm = rw (and-false (eqb m n))
+pub put_bit : (l n m : ℕ) (v out : Bool) → m < 8 → bit_of (cond out (with_bit l n v) l) m ≡ cond (eqb m n && out) v (bit_of l m)
+put_bit l n m v true hm = bit_of_with l n v m hm ∙ rw (and-true (eqb m n))
+put_bit l n m v false hm = rw (and-false (eqb m n))
 
 -- A test of one number beside a test that it is another.
 pub moved : (f : ℕ → Bool) (m n : ℕ) → (eqb m n && f n) ≡ (eqb m n && f m)
@@ -48,14 +48,14 @@ moved f m n = go (eqb m n) refl
     go false e = refl
 
 -- A write to port C finds the free outputs by their role.
-pub out-same : (s : Signal) (inward : Bool) → is_output (role_by s inward) ≡ free_out s inward
-out-same io true = refl
-out-same io false = refl
-out-same (INTR g) inward = refl
-out-same (IBF g) inward = refl
-out-same (OBF g) inward = refl
-out-same (STB g) inward = refl
-out-same (ACK g) inward = refl
+pub out_same : (s : Signal) (inward : Bool) → is_output (role_by s inward) ≡ free_out s inward
+out_same io true = refl
+out_same io false = refl
+out_same (INTR g) inward = refl
+out_same (IBF g) inward = refl
+out_same (OBF g) inward = refl
+out_same (STB g) inward = refl
+out_same (ACK g) inward = refl
 
 -- A pin that is STB or ACK.
 abbrev pub is_line : Signal → Bool
@@ -91,19 +91,19 @@ module _ (c : Core) (n : ℕ) (hn : n < 8) (v : Bool) (w : ℕ) (g : Group) (s :
   abbrev Put : Signal → Type 0
   Put r = enable_of (set_as c n v (role_by r (is_in w n))).inte g s ≡ cond (eqb (strobe_pin g s) n && is_line r) v (enable_of c.inte g s)
 
-  none-put : cond (eqb (strobe_pin g s) n && false) v (enable_of c.inte g s) ≡ enable_of c.inte g s
-  none-put = rw (and-false (eqb (strobe_pin g s) n))
+  none_put : cond (eqb (strobe_pin g s) n && false) v (enable_of c.inte g s) ≡ enable_of c.inte g s
+  none_put = rw (and-false (eqb (strobe_pin g s) n))
 
-  pub set-enable : Put (signal_at w n)
-  set-enable =
-      by-signal Put n (free (is_in w n)) (sym none-put) (forced Input) (forced Output)
+  pub set_enable : Put (signal_at w n)
+  set_enable =
+      by_signal Put n (free (is_in w n)) (sym none_put) (forced Input) (forced Output)
       (λ h at. rw (at) (put_one c.inte v h Input g s))
       (λ h at. rw (at) (put_one c.inte v h Output g s))
       w hn
     where
       forced : (t : Side) → enable_of (flag_put c (group_at n) t v).inte g s ≡ cond (eqb (strobe_pin g s) n && false) v (enable_of c.inte g s)
-      forced t = ap (λ e. enable_of e g s) (channel-enables c (λ s. after_force s v) (group_at n) t) ∙ sym none-put
+      forced t = ap (λ e. enable_of e g s) (channel_enables c (λ s. after_force s v) (group_at n) t) ∙ sym none_put
 
       free : (inward : Bool) → enable_of (set_as c n v (cond inward Role.input Role.output)).inte g s ≡ cond (eqb (strobe_pin g s) n && false) v (enable_of c.inte g s)
-      free true = sym none-put
-      free false = sym none-put
+      free true = sym none_put
+      free false = sym none_put

@@ -14,10 +14,10 @@ use Rattle.fates.specs.Surroundings.{Surroundings, of_mode_word, brought, surrou
 use Rattle.account.specs.Acts.{Act, nothing, anew, read_begins, read_ends, write_begins, written, levels, ending, act_of, act}
 use Rattle.account.specs.Promise.{with_bit7}
 
-is-idle : (ph : Phase) → free ph ≡ true → ph ≡ Idle
-is-idle Idle e = refl
-is-idle (Reading x) e = cc
-is-idle (Writing x d) e = cc
+is_idle : (ph : Phase) → free ph ≡ true → ph ≡ Idle
+is_idle Idle e = refl
+is_idle (Reading x) e = cc
+is_idle (Writing x d) e = cc
 
 -- The same edition and levels, in another phase and under another word.
 abbrev pub on_bus : Phase → ℕ → Surroundings → Surroundings
@@ -26,31 +26,31 @@ on_bus ph w a = record { phase = ph; edition = a.edition; word = w; levels_a = a
 module _ (P : Surroundings → Act → Type 0) (a : Surroundings)
     (still : P a nothing)
     (renewal : (w : ℕ) → P (on_bus Idle w a) anew)
-    (read-begins : (x : ℕ) → a.phase ≡ Idle → P (on_bus (Reading x) a.word a) (read_begins x))
-    (read-ends : (x : ℕ) → a.phase ≡ Reading x → P (on_bus Idle a.word a) (read_ends x))
-    (write-begins : (x d : ℕ) → a.phase ≡ Idle → P (on_bus (Writing x d) a.word a) (write_begins x))
-    (write-ends : (x d : ℕ) → a.phase ≡ Writing x d → P (on_bus Idle a.word a) (written x d))
-    (levels-come : (x d : ℕ) → P (surroundings_after a (new_levels x d)) (levels x d)) where
-  by-phase : (ph : Phase) → a.phase ≡ ph → accepts a.edition ph cycle_ended ≡ true → P (on_bus Idle (cond (of_mode_word ph) (brought ph) a.word) a) (ending ph)
-  by-phase Idle phase ok = absurd (contrary false refl ok)
-  by-phase (Reading x) phase ok = read-ends x phase
-  by-phase (Writing x d) phase ok = go (eqb x 3 && bit_of d 7)
+    (read_begins_lem : (x : ℕ) → a.phase ≡ Idle → P (on_bus (Reading x) a.word a) (read_begins x))
+    (read_ends_lem : (x : ℕ) → a.phase ≡ Reading x → P (on_bus Idle a.word a) (read_ends x))
+    (write_begins_lem : (x d : ℕ) → a.phase ≡ Idle → P (on_bus (Writing x d) a.word a) (write_begins x))
+    (write_ends : (x d : ℕ) → a.phase ≡ Writing x d → P (on_bus Idle a.word a) (written x d))
+    (levels_come : (x d : ℕ) → P (surroundings_after a (new_levels x d)) (levels x d)) where
+  by_phase : (ph : Phase) → a.phase ≡ ph → accepts a.edition ph cycle_ended ≡ true → P (on_bus Idle (cond (of_mode_word ph) (brought ph) a.word) a) (ending ph)
+  by_phase Idle phase ok = absurd (contrary false refl ok)
+  by_phase (Reading x) phase ok = read_ends_lem x phase
+  by_phase (Writing x d) phase ok = go (eqb x 3 && bit_of d 7)
     where
       go : (mode : Bool) → P (on_bus Idle (cond mode d a.word) a) (cond mode anew (written x d))
       go true = renewal d
-      go false = write-ends x d phase
+      go false = write_ends x d phase
 
   by_name : (ok : Bool) (v : Kind) → accepts a.edition a.phase v ≡ ok → P (cond ok (surroundings_after a v) a) (cond ok (act_of a.phase v) nothing)
   by_name false v e = still
   by_name true reset e = renewal 0x9b
-  by_name true (read_begun x) e = read-begins x (is-idle a.phase (both (readable_at a.edition x) (free a.phase) e).1)
-  by_name true cycle_ended e = by-phase a.phase refl e
-  by_name true (write_begun x d) e = write-begins x d (is-idle a.phase (both (ltb x 4) (free a.phase) e).1)
-  by_name true (new_levels x d) e = levels-come x d
+  by_name true (read_begun x) e = read_begins_lem x (is_idle a.phase (both (readable_at a.edition x) (free a.phase) e).1)
+  by_name true cycle_ended e = by_phase a.phase refl e
+  by_name true (write_begun x d) e = write_begins_lem x d (is_idle a.phase (both (ltb x 4) (free a.phase) e).1)
+  by_name true (new_levels x d) e = levels_come x d
   by_name true unknown e = absurd (contrary false refl e)
 
-  pub by-event : (e : Event) → P (surroundings_next a e) (act a e)
-  by-event e = by_name (accepts a.edition a.phase (kind_of e)) (kind_of e) refl
+  pub by_event : (e : Event) → P (surroundings_next a e) (act a e)
+  by_event e = by_name (accepts a.edition a.phase (kind_of e)) (kind_of e) refl
 
 -- The surroundings with bit 7 of the word counted as set.
 abbrev pub seven : Surroundings → Surroundings
@@ -61,27 +61,27 @@ counted_is : (w : ℕ) → bit_of w 7 ≡ true → with_bit7 w ≡ w
 counted_is w set = rw (set)
 
 module _ (a : Surroundings) where
-  seven-ended : (ph : Phase) → seven (on_bus Idle (cond (of_mode_word ph) (brought ph) a.word) a) ≡ on_bus Idle (cond (of_mode_word ph) (brought ph) (with_bit7 a.word)) a
-  seven-ended Idle = refl
-  seven-ended (Reading x) = refl
-  seven-ended (Writing x d) = go (eqb x 3 && bit_of d 7) refl
+  seven_ended : (ph : Phase) → seven (on_bus Idle (cond (of_mode_word ph) (brought ph) a.word) a) ≡ on_bus Idle (cond (of_mode_word ph) (brought ph) (with_bit7 a.word)) a
+  seven_ended Idle = refl
+  seven_ended (Reading x) = refl
+  seven_ended (Writing x d) = go (eqb x 3 && bit_of d 7) refl
     where
       go : (mode : Bool) → (eqb x 3 && bit_of d 7) ≡ mode → seven (on_bus Idle (cond mode d a.word) a) ≡ on_bus Idle (cond mode d (with_bit7 a.word)) a
       go true e = rw (counted_is d (both (eqb x 3) (bit_of d 7) e).1)
       go false e = refl
 
-  seven-after : (v : Kind) → seven (surroundings_after a v) ≡ surroundings_after (seven a) v
+  seven_after : (v : Kind) → seven (surroundings_after a v) ≡ surroundings_after (seven a) v
   unfolding bit_of
-  seven-after reset = refl
-  seven-after (read_begun x) = refl
-  seven-after cycle_ended = seven-ended a.phase
-  seven-after (write_begun x d) = refl
-  seven-after (new_levels x d) = refl
-  seven-after unknown = refl
+  seven_after reset = refl
+  seven_after (read_begun x) = refl
+  seven_after cycle_ended = seven_ended a.phase
+  seven_after (write_begun x d) = refl
+  seven_after (new_levels x d) = refl
+  seven_after unknown = refl
 
-  pub seven-next : (e : Event) → seven (surroundings_next a e) ≡ surroundings_next (seven a) e
-  seven-next e = go (accepts a.edition a.phase (kind_of e))
+  pub seven_next : (e : Event) → seven (surroundings_next a e) ≡ surroundings_next (seven a) e
+  seven_next e = go (accepts a.edition a.phase (kind_of e))
     where
       go : (ok : Bool) → seven (cond ok (surroundings_after a (kind_of e)) a) ≡ cond ok (surroundings_after (seven a) (kind_of e)) (seven a)
-      go true = seven-after (kind_of e)
+      go true = seven_after (kind_of e)
       go false = refl

@@ -5,5 +5,5 @@ use Rattle.bits.proofs.Determined.{Determines}
 use Rattle.account.specs.contracts as account_says
 use Rattle.account.proofs as account
 
-pub fates-come-of-their-events-determined : Determines account_says.fates_come_of_their_events.ended account.fates_come_of_their_events.Reads.Learnt
-fates-come-of-their-events-determined c x y p q = refl
+pub fates_come_of_their_events_determined : Determines account_says.fates_come_of_their_events.ended account.fates_come_of_their_events.Reads.Learnt
+fates_come_of_their_events_determined c x y p q = refl

@@ -16,37 +16,37 @@ use Rattle.fates.specs.Effects.{levels_on, strobe_pin}
 use Rattle.account.specs.Summary.{column_of, signal_at, is_in}
 use Rattle.account.specs.Account.{Account}
 use Rattle.account.specs.Promise.{with_bit7}
-use Rattle.account.proofs.Words.{column-alike, signal_alike, in-alike, with-bit-7-alike}
-use Rattle.account.proofs.Ports.{outside-here}
-use Rattle.account.proofs.Agrees.{Agrees, line-bit}
+use Rattle.account.proofs.Words.{column_alike, signal_alike, in_alike, with_bit_7_alike}
+use Rattle.account.proofs.Ports.{outside_here}
+use Rattle.account.proofs.Agrees.{Agrees, line_bit}
 
 -- The pins of the lines.
-pin-below : (g : Group) (s : Side) → strobe_pin g s < 8
-pin-below A Input = lit< tt
-pin-below A Output = lit< tt
-pin-below B Input = lit< tt
-pin-below B Output = lit< tt
+pin_below : (g : Group) (s : Side) → strobe_pin g s < 8
+pin_below A Input = lit< tt
+pin_below A Output = lit< tt
+pin_below B Input = lit< tt
+pin_below B Output = lit< tt
 
 module _ (c : Chip) (a : Account) (k : Agrees c a) where
   abbrev w : ℕ
   w = c.core.word
 
   -- The account's table is that of the chip's own word.
-  pub column-here : (g : Group) → column_of a.surroundings.word g ≡ column_of w g
-  column-here g = ap (λ r. column_of r.word g) k.surroundings ∙ column-alike (with_bit7 w) w (with-bit-7-alike w) g
+  pub column_here : (g : Group) → column_of a.surroundings.word g ≡ column_of w g
+  column_here g = ap (λ r. column_of r.word g) k.surroundings ∙ column_alike (with_bit7 w) w (with_bit_7_alike w) g
 
-  pub signal-here : (n : ℕ) → signal_at a.surroundings.word n ≡ signal_at w n
-  signal-here n = ap (λ r. signal_at r.word n) k.surroundings ∙ signal_alike (with_bit7 w) w (with-bit-7-alike w) n
+  pub signal_here : (n : ℕ) → signal_at a.surroundings.word n ≡ signal_at w n
+  signal_here n = ap (λ r. signal_at r.word n) k.surroundings ∙ signal_alike (with_bit7 w) w (with_bit_7_alike w) n
 
-  pub in-here : (n : ℕ) → is_in a.surroundings.word n ≡ is_in w n
-  in-here n = ap (λ r. is_in r.word n) k.surroundings ∙ in-alike (with_bit7 w) w (with-bit-7-alike w) n
+  pub in_here : (n : ℕ) → is_in a.surroundings.word n ≡ is_in w n
+  in_here n = ap (λ r. is_in r.word n) k.surroundings ∙ in_alike (with_bit7 w) w (with_bit_7_alike w) n
 
-  pub lines-here : (n : ℕ) → bit_of a.surroundings.levels_c n ≡ bit_of c.core.c.outside n
-  lines-here n = ap (λ r. bit_of r.levels_c n) k.surroundings
+  pub lines_here : (n : ℕ) → bit_of a.surroundings.levels_c n ≡ bit_of c.core.c.outside n
+  lines_here n = ap (λ r. bit_of r.levels_c n) k.surroundings
 
-  pub levels-here : (g : Group) → levels_on g a.surroundings ≡ (port_of c.core g).outside
-  levels-here g = ap (levels_on g) k.surroundings ∙ outside-here c g
+  pub levels_here : (g : Group) → levels_on g a.surroundings ≡ (port_of c.core g).outside
+  levels_here g = ap (levels_on g) k.surroundings ∙ outside_here c g
 
   -- The bit at the line of a strobed channel is its enable.
   pub line_same : (g : Group) (s : Side) → strobed w g s ≡ true → a.bit (strobe_pin g s) ≡ enable_of c.core.inte g s
-  line_same g s on = k.bit (strobe_pin g s) (pin-below g s) ∙ line-bit c.core g s on
+  line_same g s on = k.bit (strobe_pin g s) (pin_below g s) ∙ line_bit c.core g s on

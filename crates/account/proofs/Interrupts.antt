@@ -16,25 +16,25 @@ use Rattle.chip.specs.State.{channel_of}
 use Rattle.chip.specs.Handshakes.{enable_of, reading, writing}
 use Rattle.chip.specs.Status.{request_of, intr_of}
 use Rattle.fates.specs.Effects.{strobe_pin, read_runs, write_runs}
-use Rattle.fates.proofs.Tables.{own_same, line_same as pin-same}
+use Rattle.fates.proofs.Tables.{own_same, line_same as pin_same}
 use Rattle.account.specs.Account.{Account}
 use Rattle.account.specs.Views.{intr}
-use Rattle.account.proofs.Columns.{takes-here, gives-here}
+use Rattle.account.proofs.Columns.{takes_here, gives_here}
 use Rattle.account.proofs.Truth.{truth}
 use Rattle.account.proofs.Moves.{full, vacant}
 use Rattle.account.proofs.Agrees.{Agrees}
 use Rattle.account.proofs.Here.{line_same}
 
 -- The cycle that serves a channel is its own.
-pub read-runs : (ph : Phase) (g : Group) → reading ph g ≡ read_runs g ph
-read-runs Idle g = refl
-read-runs (Reading x) g = sym (own_same x g)
-read-runs (Writing x d) g = refl
+pub read_runs_lem : (ph : Phase) (g : Group) → reading ph g ≡ read_runs g ph
+read_runs_lem Idle g = refl
+read_runs_lem (Reading x) g = sym (own_same x g)
+read_runs_lem (Writing x d) g = refl
 
-pub write-runs : (ph : Phase) (g : Group) → writing ph g ≡ write_runs g ph
-write-runs Idle g = refl
-write-runs (Reading x) g = refl
-write-runs (Writing x d) g = sym (own_same x g)
+pub write_runs_lem : (ph : Phase) (g : Group) → writing ph g ≡ write_runs g ph
+write_runs_lem Idle g = refl
+write_runs_lem (Reading x) g = refl
+write_runs_lem (Writing x d) g = sym (own_same x g)
 
 -- A request as the chip has it, s strobed, e enabled, f flag, l line, v served, and as the account has it.
 request : (s e b f l v : Bool) → (s ≡ true → b ≡ e) → (s && e && f && l && not v) ≡ (s && (b && (f && (l && not v))))
@@ -46,17 +46,17 @@ module _ (c : Chip) (a : Account) (k : Agrees c a) where
   abbrev w : ℕ
   w = c.core.word
 
-  request-same : (g : Group) (s : Side) → request_of c g s ≡ a.asks g s
+  request_same : (g : Group) (s : Side) → request_of c g s ≡ a.asks g s
   unfolding request_of flag_of
-  request-same g Input =
-      rw (k.even g Input, k.surroundings, takes-here w g, ← pin-same g Input, k.ibf g, read-runs c.phase g)
+  request_same g Input =
+      rw (k.even g Input, k.surroundings, takes_here w g, ← pin_same g Input, k.ibf g, read_runs_lem c.phase g)
       (request (strobed_input w g) (enable_of c.core.inte g Input) (a.bit (strobe_pin g Input)) (full (channel_of c.core g Input))
       (bit_of c.core.c.outside (strobe_pin g Input)) (read_runs g c.phase) (line_same c a k g Input))
-  request-same g Output =
-      rw (k.even g Output, k.surroundings, gives-here w g, ← pin-same g Output, k.obf g, write-runs c.phase g)
+  request_same g Output =
+      rw (k.even g Output, k.surroundings, gives_here w g, ← pin_same g Output, k.obf g, write_runs_lem c.phase g)
       (request (strobed_output w g) (enable_of c.core.inte g Output) (a.bit (strobe_pin g Output)) (vacant (channel_of c.core g Output))
       (bit_of c.core.c.outside (strobe_pin g Output)) (write_runs g c.phase) (line_same c a k g Output))
 
-  pub intr-same : (g : Group) → intr_of c g ≡ intr a g
+  pub intr_same : (g : Group) → intr_of c g ≡ intr a g
   unfolding intr_of
-  intr-same g = rw (request-same g Input, request-same g Output)
+  intr_same g = rw (request_same g Input, request_same g Output)

@@ -9,7 +9,7 @@ use Rattle.control.specs.Mode.{strobed_input}
 use Rattle.chip.specs.declared.Port.{Port}
 use Rattle.chip.specs.declared.Core.{Core}
 use Rattle.chip.specs.State.{on_port}
-use Rattle.chip.proofs.OnPort.{word_on, lines-on, enables-on}
+use Rattle.chip.proofs.OnPort.{word_on, lines_on, enables_on}
 use Rattle.chip.specs.Read.{fetched_from, done_with, after_read_begins, after_read_ends}
 use Rattle.chip.specs.Write.{stored_by}
 use Rattle.chip.specs.Levels.{lets_through, port_after_levels, after_levels_on_c, after_levels}
@@ -22,24 +22,24 @@ pub record Kept (c' c : Core) : Type 0 where
   pub enables : c'.inte ≡ c.inte
 
 -- So it is with whatever is done at the address of a port.
-on-port : (c : Core) (x : ℕ) (f : Group → Port → Port) → Kept (on_port c x f) c
-on-port c x f = record { word = word_on c x f; latch = ap (λ l. l.latch) (lines-on c x f); enables = enables-on c x f }
+on_port_lem : (c : Core) (x : ℕ) (f : Group → Port → Port) → Kept (on_port c x f) c
+on_port_lem c x f = record { word = word_on c x f; latch = ap (λ l. l.latch) (lines_on c x f); enables = enables_on c x f }
 
-pub kept-begun : (c : Core) (x : ℕ) → Kept (after_read_begins c x) c
+pub kept_begun : (c : Core) (x : ℕ) → Kept (after_read_begins c x) c
 unfolding after_read_begins
-kept-begun c x = on-port c x (λ g p. fetched_from p (strobed_input c.word g))
+kept_begun c x = on_port_lem c x (λ g p. fetched_from p (strobed_input c.word g))
 
-pub kept-ended : (c : Core) (x : ℕ) → Kept (after_read_ends c x) c
+pub kept_ended : (c : Core) (x : ℕ) → Kept (after_read_ends c x) c
 unfolding after_read_ends
-kept-ended c x = on-port c x (λ g p. done_with p (strobed_input c.word g))
+kept_ended c x = on_port_lem c x (λ g p. done_with p (strobed_input c.word g))
 
-pub kept-stored : (c : Core) (x d : ℕ) → Kept (stored c x d) c
-kept-stored c x d = on-port c x (λ g p. stored_by p c.word g d)
+pub kept_stored : (c : Core) (x d : ℕ) → Kept (stored c x d) c
+kept_stored c x d = on_port_lem c x (λ g p. stored_by p c.word g d)
 
-pub kept-levelled : (c : Core) (x d : ℕ) → Kept (after_levels c x d) c
+pub kept_levelled : (c : Core) (x d : ℕ) → Kept (after_levels c x d) c
 unfolding after_levels after_levels_on_c
-kept-levelled c x d = go (eqb x 2)
+kept_levelled c x d = go (eqb x 2)
   where
     go : (two : Bool) → Kept (cond two (after_levels_on_c c d) (on_port c x (λ g p. port_after_levels p (lets_through c g) d))) c
     go true = record { word = refl; latch = refl; enables = refl }
-    go false = on-port c x (λ g p. port_after_levels p (lets_through c g) d)
+    go false = on_port_lem c x (λ g p. port_after_levels p (lets_through c g) d)

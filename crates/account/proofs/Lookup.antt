@@ -21,9 +21,9 @@ number_same (OBF g) inward = refl
 number_same (STB g) inward = refl
 number_same (ACK g) inward = refl
 
-pub looks-up : (w n : ℕ) → LooksUp w n
+pub looks_up : (w n : ℕ) → LooksUp w n
 unfolding lookup_of
-looks-up w n = record {
+looks_up w n = record {
   cell = λ word pin.
       rw (le-ltb w 128 word, le-ltb 7 n (omega (arith, pin)), role_same w n pin) (number_same (signal_at w n) (is_in w n));
   no_word = λ below. rw (lt-ltb w 128 below);

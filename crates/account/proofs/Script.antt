@@ -13,23 +13,23 @@ use Rattle.text.specs.History.{history_of}
 use Rattle.bus.specs.Begun.{given_in}
 use Rattle.script.specs.Answers.{by_device, levels_from, line_after}
 use Rattle.script.specs.History.{answers_to}
-use Rattle.fates.proofs.ScriptRun.{run-kept}
+use Rattle.fates.proofs.ScriptRun.{run_kept}
 use Rattle.account.specs.Account.{Account, account_next, opened}
 use Rattle.account.specs.Script.{line_by, lines_by, AnsweredBy}
-use Rattle.account.proofs.Agrees.{Agrees, agrees-opened, agrees-next}
-use Rattle.account.proofs.Views.{levels-shown}
-use Rattle.account.proofs.Account.{number-told, byte-told}
+use Rattle.account.proofs.Agrees.{Agrees, agrees_opened, agrees_next}
+use Rattle.account.proofs.Views.{levels_shown_lem}
+use Rattle.account.proofs.Account.{number_told_lem, byte_told_lem}
 
-line-is : (c : Chip) (a : Account) (e : Event) → Agrees c a → line_after (by_device device pins_of) (given_in device c e) ≡ line_by a e
+line_is : (c : Chip) (a : Account) (e : Event) → Agrees c a → line_after (by_device device pins_of) (given_in device c e) ≡ line_by a e
 unfolding step_of levels_from
-line-is c a e k =
-    let levels = levels-shown (stepped c e).chip (account_next a e) (agrees-next c a e k) in
-    cc (number-told c a k e, byte-told c a k e, levels 0, levels 1, levels 2)
+line_is c a e k =
+    let levels = levels_shown_lem (stepped c e).chip (account_next a e) (agrees_next c a e k) in
+    cc (number_told_lem c a k e, byte_told_lem c a k e, levels 0, levels 1, levels 2)
 
 lines_are : (es : List Event) (c : Chip) (a : Account) → Agrees c a → answers_to device pins_of c es ≡ lines_by a es
 unfolding step_of
 lines_are [] c a k = refl
-lines_are (e ∷ es) c a k = cc (line-is c a e k, lines_are es (stepped c e).chip (account_next a e) (agrees-next c a e k))
+lines_are (e ∷ es) c a k = cc (line_is c a e k, lines_are es (stepped c e).chip (account_next a e) (agrees_next c a e k))
 
-pub answered-by : (ed : Edition) (text : List ℕ) → AnsweredBy ed text
-answered-by ed text = (run-kept ed text).answers ∙ lines_are (history_of text) (power_up_as ed all_high) (opened ed all_high) (agrees-opened ed all_high)
+pub answered_by : (ed : Edition) (text : List ℕ) → AnsweredBy ed text
+answered_by ed text = (run_kept ed text).answers ∙ lines_are (history_of text) (power_up_as ed all_high) (opened ed all_high) (agrees_opened ed all_high)

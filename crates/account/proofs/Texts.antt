@@ -14,18 +14,18 @@ use Rattle.text.specs.Lines.{lines_of}
 use Rattle.text.specs.Frames.{leading_byte, is_frame, frame_of, frame_in}
 use Rattle.text.specs.History.{history_of}
 use Rattle.text.specs.Quoted.{answered, listed}
-use Rattle.text.proofs.Quoted.{answered-alike}
+use Rattle.text.proofs.Quoted.{answered_alike}
 use Rattle.script.specs.Answers.{by_device, line_text, answers_of}
 use Rattle.account.specs.Account.{opened}
 use Rattle.account.specs.Script.{lines_by}
 use Rattle.account.specs.Texts.{texts}
-use Rattle.account.proofs.Script.{answered-by}
+use Rattle.account.proofs.Script.{answered_by}
 
-as-listed : (ed : Edition) → answered (λ text. lines_by (opened ed all_high) (history_of text)) (texts ed) ≡ listed (texts ed)
+as_listed : (ed : Edition) → answered (λ text. lines_by (opened ed all_high) (history_of text)) (texts ed) ≡ listed (texts ed)
 unfolding bit_of digit_value digit_code pair_value is_kind operands_of leading_byte is_frame frame_of lines_of frame_in line_text
-as-listed Older = refl
-as-listed Newer = refl
+as_listed Older = refl
+as_listed Newer = refl
 
-pub texts-answered : (ed : Edition) → answered (answers_of (by_device device pins_of) (power_up_as ed all_high)) (texts ed) ≡ listed (texts ed)
-texts-answered ed =
-    answered-alike (answers_of (by_device device pins_of) (power_up_as ed all_high)) (λ text. lines_by (opened ed all_high) (history_of text)) (answered-by ed) (texts ed) ∙ as-listed ed
+pub texts_answered : (ed : Edition) → answered (answers_of (by_device device pins_of) (power_up_as ed all_high)) (texts ed) ≡ listed (texts ed)
+texts_answered ed =
+    answered_alike (answers_of (by_device device pins_of) (power_up_as ed all_high)) (λ text. lines_by (opened ed all_high) (history_of text)) (answered_by ed) (texts ed) ∙ as_listed ed

@@ -4,7 +4,7 @@ use mathlib.Core.Path.{◌≡◌}
 use mathlib.Core.Bool.{Bool, true, false, ◌&&◌}
 use Prim.Native.Nat.{ℕ, zero, suc}
 use lib.Dec.{T}
-use Rattle.bits.proofs.Tested.{left, right, same, same-is}
+use Rattle.bits.proofs.Tested.{left, right, same, same_is}
 
 -- A function of n truth values.
 abbrev pub Function : ℕ → Type 0
@@ -22,7 +22,7 @@ Everywhere zero f h = f ≡ h
 Everywhere (suc n) f h = (b : Bool) → Everywhere n (f b) (h b)
 
 pub truth : (n : ℕ) (f h : Function n) → T (rows n f h) → Everywhere n f h
-truth zero f h t = same-is f h t
+truth zero f h t = same_is f h t
 truth (suc n) f h t =
     elim [
       | true ↦ truth n (f true) (h true) (left (rows n (f true) (h true)) (rows n (f false) (h false)) t)

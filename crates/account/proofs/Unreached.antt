@@ -15,15 +15,15 @@ use Rattle.account.specs.Summary.{signal_at}
 use Rattle.account.specs.Account.{Account}
 use Rattle.account.specs.Promise.{with_bit7, surroundings_here, bit_here, account_of, Accounted}
 use Rattle.account.specs.Unreached.{with_condition, with_word, SameSight}
-use Rattle.account.proofs.Words.{signal_alike, with-bit-7-alike, with-bit-7-set}
+use Rattle.account.proofs.Words.{signal_alike, with_bit_7_alike, with_bit_7_set}
 use Rattle.account.proofs.Moves.{full, vacant, given}
 use Rattle.account.proofs.Pins.{same_bit}
-use Rattle.account.proofs.Agrees.{Agrees, agrees-of}
-use Rattle.account.proofs.Account.{accounted, account-from}
+use Rattle.account.proofs.Agrees.{Agrees, agrees_of}
+use Rattle.account.proofs.Account.{accounted, account_from}
 
 -- Two chips that keep to one account.
-same-sight : (c c' : Chip) (a : Account) (es : List Event) → Accounted c a es → Accounted c' a es → SameSight c c' es
-same-sight c c' a es k k' = record {
+same_sight : (c c' : Chip) (a : Account) (es : List Event) → Accounted c a es → Accounted c' a es → SameSight c c' es
+same_sight c c' a es k k' = record {
   number = λ e. k.number e ∙ sym (k'.number e);
   byte = λ e. k.byte e ∙ sym (k'.byte e);
   levels = λ p. k.levels p ∙ sym (k'.levels p);
@@ -34,8 +34,8 @@ same-sight c c' a es k k' = record {
 }
 
 -- So it is with a chip that agrees with another's account.
-same-account : (c c' : Chip) → Agrees c' (account_of c) → (es : List Event) → SameSight c c' es
-same-account c c' k es = same-sight c c' (account_of c) es (account-from c es) (accounted c' (account_of c) es k)
+same_account : (c c' : Chip) → Agrees c' (account_of c) → (es : List Event) → SameSight c c' es
+same_account c c' k es = same_sight c c' (account_of c) es (account_from c es) (accounted c' (account_of c) es k)
 
 -- What the account has of a group's channels is the same.
 record SameChannels (c c' : Chip) (h : Group) : Type 0 where
@@ -56,31 +56,31 @@ agrees_like c c' surroundings signals latch enables same = record {
   ibf = λ h. (same h).ibf;
   obf = λ h. (same h).obf;
   given = λ h. (same h).given;
-  even = (agrees-of c).even;
+  even = (agrees_of c).even;
 }
 
-signals-here : (c : Chip) (n : ℕ) → signal_at (with_bit7 c.core.word) n ≡ signal_at c.core.word n
-signals-here c = signal_alike (with_bit7 c.core.word) c.core.word (with-bit-7-alike c.core.word)
+signals_here : (c : Chip) (n : ℕ) → signal_at (with_bit7 c.core.word) n ≡ signal_at c.core.word n
+signals_here c = signal_alike (with_bit7 c.core.word) c.core.word (with_bit_7_alike c.core.word)
 
 -- An output marked fetching, and the same output empty.
-same-channels : (c : Chip) (g h : Group) → SameChannels (with_condition c g Fetching) (with_condition c g Empty) h
-same-channels c A A = record { output = refl; input = refl; ibf = refl; obf = refl; given = refl }
-same-channels c A B = record { output = refl; input = refl; ibf = refl; obf = refl; given = refl }
-same-channels c B A = record { output = refl; input = refl; ibf = refl; obf = refl; given = refl }
-same-channels c B B = record { output = refl; input = refl; ibf = refl; obf = refl; given = refl }
+same_channels : (c : Chip) (g h : Group) → SameChannels (with_condition c g Fetching) (with_condition c g Empty) h
+same_channels c A A = record { output = refl; input = refl; ibf = refl; obf = refl; given = refl }
+same_channels c A B = record { output = refl; input = refl; ibf = refl; obf = refl; given = refl }
+same_channels c B A = record { output = refl; input = refl; ibf = refl; obf = refl; given = refl }
+same_channels c B B = record { output = refl; input = refl; ibf = refl; obf = refl; given = refl }
 
-agrees-empty : (c : Chip) (g : Group) → Agrees (with_condition c g Empty) (account_of (with_condition c g Fetching))
-agrees-empty c A = agrees_like (with_condition c A Fetching) (with_condition c A Empty) refl (signals-here c) refl refl (same-channels c A)
-agrees-empty c B = agrees_like (with_condition c B Fetching) (with_condition c B Empty) refl (signals-here c) refl refl (same-channels c B)
+agrees_empty : (c : Chip) (g : Group) → Agrees (with_condition c g Empty) (account_of (with_condition c g Fetching))
+agrees_empty c A = agrees_like (with_condition c A Fetching) (with_condition c A Empty) refl (signals_here c) refl refl (same_channels c A)
+agrees_empty c B = agrees_like (with_condition c B Fetching) (with_condition c B Empty) refl (signals_here c) refl refl (same_channels c B)
 
-pub mark-unseen : (c : Chip) (g : Group) (es : List Event) → SameSight (with_condition c g Fetching) (with_condition c g Empty) es
-mark-unseen c g = same-account (with_condition c g Fetching) (with_condition c g Empty) (agrees-empty c g)
+pub mark_unseen : (c : Chip) (g : Group) (es : List Event) → SameSight (with_condition c g Fetching) (with_condition c g Empty) es
+mark_unseen c g = same_account (with_condition c g Fetching) (with_condition c g Empty) (agrees_empty c g)
 
 -- A word with bit 7 counted as set.
-pub bit-7-unseen : (c : Chip) (w : ℕ) (es : List Event) → SameSight (with_word c w) (with_word c (with_bit7 w)) es
-bit-7-unseen c w =
-    same-account (with_word c w) (with_word c (with_bit7 w))
-    (agrees_like (with_word c w) (with_word c (with_bit7 w)) (rw (with-bit-7-set w)) (λ n. refl) refl refl same)
+pub bit_7_unseen : (c : Chip) (w : ℕ) (es : List Event) → SameSight (with_word c w) (with_word c (with_bit7 w)) es
+bit_7_unseen c w =
+    same_account (with_word c w) (with_word c (with_bit7 w))
+    (agrees_like (with_word c w) (with_word c (with_bit7 w)) (rw (with_bit_7_set w)) (λ n. refl) refl refl same)
   where
     same : (h : Group) → SameChannels (with_word c w) (with_word c (with_bit7 w)) h
     same A = record { output = refl; input = refl; ibf = refl; obf = refl; given = refl }

@@ -12,7 +12,7 @@ use Rattle.control.specs.declared.Group.{Group}
 use Rattle.control.specs.declared.Group.TheVariants.{A, B}
 use Rattle.chip.specs.declared.channel.Side.{Side}
 use Rattle.chip.specs.declared.channel.Side.TheVariants.{Input, Output}
-use Rattle.chip.proofs.OnPort.{control-not-own}
+use Rattle.chip.proofs.OnPort.{control_not_own}
 use Rattle.fates.specs.Kinds.{new_levels}
 use Rattle.fates.specs.Surroundings.{Surroundings, surroundings_after}
 use Rattle.fates.specs.Effects.{port_number, strobe_pin, full_pin, pin_named}
@@ -20,9 +20,9 @@ use Rattle.fates.proofs.Tables.{own_same}
 use Rattle.account.specs.Summary.{signal_at, is_in, settable, reached}
 use Rattle.account.specs.Acts.{Act, anew, read_begins, read_ends, write_begins, written, levels}
 use Rattle.account.specs.Account.{Account, strobed, line, names, flag, served, asks_after, account_after, account_next}
-use Rattle.account.proofs.Signals.{strobe-stands, acknowledge-stands}
+use Rattle.account.proofs.Signals.{strobe_stands, acknowledge_stands}
 use Rattle.account.proofs.Truth.{truth}
-use Rattle.account.proofs.ByEvent.{on_bus, by-event}
+use Rattle.account.proofs.ByEvent.{on_bus, by_event}
 
 -- The sheet's equation.
 abbrev pub equation : Account → Group → Side → Bool
@@ -33,14 +33,14 @@ abbrev pub Even : Account → Type 0
 Even a = (g : Group) (s : Side) → a.asks g s ≡ equation a g s
 
 -- The line of a strobed channel can be put by a control word, and by no write to port C.
-line-settable : (a : Surroundings) (g : Group) (s : Side) → strobed a g s ≡ true
+line_settable : (a : Surroundings) (g : Group) (s : Side) → strobed a g s ≡ true
     → settable (signal_at a.word (strobe_pin g s)) (is_in a.word (strobe_pin g s)) ≡ true
-line-settable a g Input on = rw (strobe-stands a.word g on)
-line-settable a g Output on = rw (acknowledge-stands a.word g on)
+line_settable a g Input on = rw (strobe_stands a.word g on)
+line_settable a g Output on = rw (acknowledge_stands a.word g on)
 
-line-unreached : (a : Surroundings) (g : Group) (s : Side) → strobed a g s ≡ true → reached a.word (strobe_pin g s) ≡ false
-line-unreached a g Input on = rw (strobe-stands a.word g on)
-line-unreached a g Output on = rw (acknowledge-stands a.word g on)
+line_unreached : (a : Surroundings) (g : Group) (s : Side) → strobed a g s ≡ true → reached a.word (strobe_pin g s) ≡ false
+line_unreached a g Input on = rw (strobe_stands a.word g on)
+line_unreached a g Output on = rw (acknowledge_stands a.word g on)
 
 chosen : (two : Bool) (d l n : ℕ) → bit_of (cond two d l) n ≡ cond two (bit_of d n) (bit_of l n)
 chosen true d l n = refl
@@ -61,15 +61,15 @@ put true n p false t q e r u b f l can none apart =
     (λ n p e u b f l. true && (cond (n && true) p (cond (e && false) u b) && (f && (l && true)))) tt n p e u b f l)
 put false n p m t q e r u b f l can none apart = truth 2 (λ n p. cond n (p && false) false) (λ n p. false) tt n p
 
-put-own : (s n p m t q e r u b f l o : Bool) → (s ≡ true → q ≡ true) → (s ≡ true → r ≡ false) → (n && m) ≡ false → (n && o) ≡ false → (m && o) ≡ false
+put_own : (s n p m t q e r u b f l o : Bool) → (s ≡ true → q ≡ true) → (s ≡ true → r ≡ false) → (n && m) ≡ false → (n && o) ≡ false → (m && o) ≡ false
     → cond n (p && (s && (f && l))) (cond (s && m) (t && (s && (b && l))) (s && (b && (f && (l && not o)))))
     ≡ s && (cond (n && q) p (cond (e && r) u b) && (cond (s && m) t (f && not (o && s)) && (l && true)))
-put-own true n p m t q e r u b f l true can none apart own owned =
+put_own true n p m t q e r u b f l true can none apart own owned =
     rw (sym (and-true n) ∙ own, sym (and-true m) ∙ owned, and-false f)
     (truth 4 (λ b f l c. b && (f && (l && false))) (λ b f l c. c && false) tt b f l (cond (e && r) u b))
-put-own true n p m t q e r u b f l false can none apart own owned =
+put_own true n p m t q e r u b f l false can none apart own owned =
     rw (and-true f) (put true n p m t q e r u b f l can none apart)
-put-own false n p m t q e r u b f l o can none apart own owned = truth 2 (λ n p. cond n (p && false) false) (λ n p. false) tt n p
+put_own false n p m t q e r u b f l o can none apart own owned = truth 2 (λ n p. cond n (p && false) false) (λ n p. false) tt n p
 
 lined : (two s b f l h v : Bool)
     → cond two (h && cond l (s && (b && (f && (l && not v)))) (s && (b && (f && not v)))) (s && (b && (f && (l && not v))))
@@ -79,79 +79,79 @@ lined =
     (λ two s b f l h v. s && (b && ((f || (s && (two && (l && not h)))) && (cond two h l && not v)))) tt
 
 -- A write to control is no port's own.
-control-elsewhere : (x d n : ℕ) (g : Group) → (names x d n && eqb x (port_number g)) ≡ false
-control-elsewhere x d n g = go (eqb x 3) refl
+control_elsewhere : (x d n : ℕ) (g : Group) → (names x d n && eqb x (port_number g)) ≡ false
+control_elsewhere x d n g = go (eqb x 3) refl
   where
     go : (three : Bool) → eqb x 3 ≡ three → ((three && eqb n (pin_named d)) && eqb x (port_number g)) ≡ false
-    go true e = rw (own_same x g, control-not-own x e g) (and-false (eqb n (pin_named d)))
+    go true e = rw (own_same x g, control_not_own x e g) (and-false (eqb n (pin_named d)))
     go false e = refl
 
 -- A control word names one pin: not both the line and the flag of a channel.
-one-pin : (x d i j : ℕ) → eqb i j ≡ false → (names x d i && names x d j) ≡ false
-one-pin x d i j apart = go (eqb x 3) (eqb i (pin_named d)) refl
+one_pin : (x d i j : ℕ) → eqb i j ≡ false → (names x d i && names x d j) ≡ false
+one_pin x d i j apart = go (eqb x 3) (eqb i (pin_named d)) refl
   where
     go : (three first : Bool) → eqb i (pin_named d) ≡ first → ((three && first) && (three && eqb j (pin_named d))) ≡ false
     go true true is = rw (← eqb-true i (pin_named d) is) (ne_eqb j i (λ e. eqb-false i j apart (sym e)))
     go true false is = refl
     go false first is = refl
 
-line-or-flag : (x d : ℕ) (g : Group) (s : Side) → (names x d (strobe_pin g s) && names x d (full_pin g s)) ≡ false
-line-or-flag x d A Input = one-pin x d 4 5 refl
-line-or-flag x d A Output = one-pin x d 6 7 refl
-line-or-flag x d B Input = one-pin x d 2 1 refl
-line-or-flag x d B Output = one-pin x d 2 1 refl
+line_or_flag : (x d : ℕ) (g : Group) (s : Side) → (names x d (strobe_pin g s) && names x d (full_pin g s)) ≡ false
+line_or_flag x d A Input = one_pin x d 4 5 refl
+line_or_flag x d A Output = one_pin x d 6 7 refl
+line_or_flag x d B Input = one_pin x d 2 1 refl
+line_or_flag x d B Output = one_pin x d 2 1 refl
 
 module _ (a : Account) (even : Even a) where
   abbrev Goes : Surroundings → Act → Type 0
   Goes later t = (g : Group) (s : Side) → asks_after a g s t ≡ equation (account_after a later t) g s
 
-  even-renewed : (w : ℕ) → Goes (on_bus Idle w a.surroundings) anew
-  even-renewed w g Input = sym (and-false (strobed (on_bus Idle w a.surroundings) g Input))
-  even-renewed w g Output = sym (and-false (strobed (on_bus Idle w a.surroundings) g Output))
+  even_renewed : (w : ℕ) → Goes (on_bus Idle w a.surroundings) anew
+  even_renewed w g Input = sym (and-false (strobed (on_bus Idle w a.surroundings) g Input))
+  even_renewed w g Output = sym (and-false (strobed (on_bus Idle w a.surroundings) g Output))
 
-  even-read : (x : ℕ) → a.surroundings.phase ≡ Idle → Goes (on_bus (Reading x) a.surroundings.word a.surroundings) (read_begins x)
-  even-read x phase g Input =
+  even_read : (x : ℕ) → a.surroundings.phase ≡ Idle → Goes (on_bus (Reading x) a.surroundings.word a.surroundings) (read_begins x)
+  even_read x phase g Input =
       rw (even g Input, phase)
       (truth 5 (λ s b f l o. (s && (b && (f && (l && true)))) && not o) (λ s b f l o. s && (b && (f && (l && not o)))) tt
       (strobed a.surroundings g Input) (a.bit (strobe_pin g Input)) (a.ibf g) (line a.surroundings g Input) (eqb x (port_number g)))
-  even-read x phase g Output = rw (even g Output, phase)
+  even_read x phase g Output = rw (even g Output, phase)
 
-  even-read-end : (x : ℕ) → a.surroundings.phase ≡ Reading x → Goes (on_bus Idle a.surroundings.word a.surroundings) (read_ends x)
-  even-read-end x phase g Input =
+  even_read_end : (x : ℕ) → a.surroundings.phase ≡ Reading x → Goes (on_bus Idle a.surroundings.word a.surroundings) (read_ends x)
+  even_read_end x phase g Input =
       rw (even g Input, phase)
       (truth 5 (λ s b f l o. s && (b && (f && (l && not o)))) (λ s b f l o. s && (b && ((f && not (o && s)) && (l && true)))) tt
       (strobed a.surroundings g Input) (a.bit (strobe_pin g Input)) (a.ibf g) (line a.surroundings g Input) (eqb x (port_number g)))
-  even-read-end x phase g Output = rw (even g Output, phase)
+  even_read_end x phase g Output = rw (even g Output, phase)
 
-  even-write : (x d : ℕ) → a.surroundings.phase ≡ Idle → Goes (on_bus (Writing x d) a.surroundings.word a.surroundings) (write_begins x)
-  even-write x d phase g Input = rw (even g Input, phase)
-  even-write x d phase g Output =
+  even_write : (x d : ℕ) → a.surroundings.phase ≡ Idle → Goes (on_bus (Writing x d) a.surroundings.word a.surroundings) (write_begins x)
+  even_write x d phase g Input = rw (even g Input, phase)
+  even_write x d phase g Output =
       rw (even g Output, phase)
       (truth 5 (λ s b f l o. (s && (b && (f && (l && true)))) && not o) (λ s b f l o. s && (b && (f && (l && not o)))) tt
       (strobed a.surroundings g Output) (a.bit (strobe_pin g Output)) (a.obf g) (line a.surroundings g Output) (eqb x (port_number g)))
 
-  even-written : (x d : ℕ) → a.surroundings.phase ≡ Writing x d → Goes (on_bus Idle a.surroundings.word a.surroundings) (written x d)
-  even-written x d phase g Input =
+  even_written : (x d : ℕ) → a.surroundings.phase ≡ Writing x d → Goes (on_bus Idle a.surroundings.word a.surroundings) (written x d)
+  even_written x d phase g Input =
       rw (even g Input, phase)
       (put (strobed a.surroundings g Input) (names x d (strobe_pin g Input)) (bit_of d 0) (names x d (full_pin g Input)) (bit_of d 0 || a.given g) _ (eqb x 2) _
       (bit_of d (strobe_pin g Input)) (a.bit (strobe_pin g Input)) (a.ibf g) (line a.surroundings g Input)
-      (line-settable a.surroundings g Input) (line-unreached a.surroundings g Input) (line-or-flag x d g Input))
-  even-written x d phase g Output =
+      (line_settable a.surroundings g Input) (line_unreached a.surroundings g Input) (line_or_flag x d g Input))
+  even_written x d phase g Output =
       rw (even g Output, phase)
-      (put-own (strobed a.surroundings g Output) (names x d (strobe_pin g Output)) (bit_of d 0) (names x d (full_pin g Output)) (bit_of d 0) _ (eqb x 2) _
+      (put_own (strobed a.surroundings g Output) (names x d (strobe_pin g Output)) (bit_of d 0) (names x d (full_pin g Output)) (bit_of d 0) _ (eqb x 2) _
       (bit_of d (strobe_pin g Output)) (a.bit (strobe_pin g Output)) (a.obf g) (line a.surroundings g Output) (eqb x (port_number g))
-      (line-settable a.surroundings g Output) (line-unreached a.surroundings g Output) (line-or-flag x d g Output)
-      (control-elsewhere x d (strobe_pin g Output) g) (control-elsewhere x d (full_pin g Output) g))
+      (line_settable a.surroundings g Output) (line_unreached a.surroundings g Output) (line_or_flag x d g Output)
+      (control_elsewhere x d (strobe_pin g Output) g) (control_elsewhere x d (full_pin g Output) g))
 
-  even-levels : (x d : ℕ) → Goes (surroundings_after a.surroundings (new_levels x d)) (levels x d)
-  even-levels x d g Input =
+  even_levels : (x d : ℕ) → Goes (surroundings_after a.surroundings (new_levels x d)) (levels x d)
+  even_levels x d g Input =
       rw (even g Input, chosen (eqb x 2) d a.surroundings.levels_c (strobe_pin g Input))
       (lined (eqb x 2) (strobed a.surroundings g Input) (a.bit (strobe_pin g Input)) (a.ibf g) (line a.surroundings g Input)
       (bit_of d (strobe_pin g Input)) (served a.surroundings g Input))
-  even-levels x d g Output =
+  even_levels x d g Output =
       rw (even g Output, chosen (eqb x 2) d a.surroundings.levels_c (strobe_pin g Output))
       (lined (eqb x 2) (strobed a.surroundings g Output) (a.bit (strobe_pin g Output)) (a.obf g) (line a.surroundings g Output)
       (bit_of d (strobe_pin g Output)) (served a.surroundings g Output))
 
-  pub even-next : (e : Event) → Even (account_next a e)
-  even-next e = by-event Goes a.surroundings even even-renewed even-read even-read-end even-write even-written even-levels e
+  pub even_next : (e : Event) → Even (account_next a e)
+  even_next e = by_event Goes a.surroundings even even_renewed even_read even_read_end even_write even_written even_levels e

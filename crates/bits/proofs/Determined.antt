@@ -28,10 +28,10 @@ module _ (function : Ended) where
     Determines = (c : Call) (x y : Outcome c) → Allows c x → Allows c y → x ≡ y
 
 -- So it is where a contract says what the result is, and nothing is lent to be written.
-pub equation-determines : {R L : Type 0} {r s answer : R} {rest : L} → r ≡ answer → s ≡ answer → ◌≡◌ {A = R × L} (r, rest) (s, rest)
-equation-determines {rest} p q = ap (λ r. (r, rest)) (p ∙ sym q)
+pub equation_determines : {R L : Type 0} {r s answer : R} {rest : L} → r ≡ answer → s ≡ answer → ◌≡◌ {A = R × L} (r, rest) (s, rest)
+equation_determines {rest} p q = ap (λ r. (r, rest)) (p ∙ sym q)
 
 -- And where it says what the result is, and what the first parameter holds at exit.
-pub equations-determine : {R F L : Type 0} {r s answer : R} {f g left : F} {rest : L}
+pub equations_determine : {R F L : Type 0} {r s answer : R} {f g left : F} {rest : L}
     → (r ≡ answer) × (f ≡ left) → (s ≡ answer) × (g ≡ left) → ◌≡◌ {A = R × (F × L)} (r, (f, rest)) (s, (g, rest))
-equations-determine {rest} p q = ap₂ (λ r f. (r, (f, rest))) (p.0 ∙ sym q.0) (p.1 ∙ sym q.1)
+equations_determine {rest} p q = ap₂ (λ r f. (r, (f, rest))) (p.0 ∙ sym q.0) (p.1 ∙ sym q.1)

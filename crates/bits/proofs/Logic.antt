@@ -26,9 +26,9 @@ neither true b e = absurd (contrary true e refl)
 neither false b e = (refl, e)
 
 -- What is so of both outcomes of a test is so of its outcome.
-pub by-test : {X : Type 0} (P : X → Type 0) (b : Bool) (y n : X) → (b ≡ true → P y) → (b ≡ false → P n) → P (cond b y n)
-by-test P true y n hy hn = hy refl
-by-test P false y n hy hn = hn refl
+pub by_test : {X : Type 0} (P : X → Type 0) (b : Bool) (y n : X) → (b ≡ true → P y) → (b ≡ false → P n) → P (cond b y n)
+by_test P true y n hy hn = hy refl
+by_test P false y n hy hn = hn refl
 
 -- What holds either way.
 pub either_way : {X Y : Type 0} (P : X → Y) (v : Y) (b : Bool) (y n : X) → P y ≡ v → P n ≡ v → P (cond b y n) ≡ v

@@ -8,40 +8,40 @@ use native.Mathlib.Omega.{arith}
 use lib.Dec.{T, eqb, lit<}
 use lib.Bits.{bit_and, bit_or, and_shr, or_shr, and_mod, or_mod, and_lt, or_lt}
 use Rattle.bits.specs.Bit.{bit_of, assembled, with_bit, blend_of}
-use Rattle.bits.proofs.Tested.{all, same, bits, bits-of-two}
-use Rattle.bits.proofs.BitLaws.{bit-of-assembled, assembled-same, byte-by-bits}
+use Rattle.bits.proofs.Tested.{all, same, bits, bits_of_two}
+use Rattle.bits.proofs.BitLaws.{bit_of_assembled, assembled_same, byte_by_bits}
 
 -- An operation of masks works bit by bit: it commutes with shifts and remainders, and a test covers the two bits at one place.
 module _ (op : ℕ → ℕ → ℕ) (on : Bool → Bool → Bool)
     (shifts : (x y n : ℕ) → op x y / 2 ^ n ≡ op (x / 2 ^ n) (y / 2 ^ n))
     (remains : (x y n : ℕ) → op x y % 2 ^ n ≡ op (x % 2 ^ n) (y % 2 ^ n))
     (tested : T (all 2 (λ u. all 2 (λ v. same (eqb (op u v) 1) (on (eqb u 1) (eqb v 1)))))) where
-  bit-by-bit : (x y n : ℕ) → bit_of (op x y) n ≡ on (bit_of x n) (bit_of y n)
+  bit_by_bit : (x y n : ℕ) → bit_of (op x y) n ≡ on (bit_of x n) (bit_of y n)
   unfolding bit_of
-  bit-by-bit x y n =
+  bit_by_bit x y n =
       ap (λ (k : ℕ). eqb k 1) (ap (λ (k : ℕ). k % 2) (shifts x y n) ∙ remains (x / 2 ^ n) (y / 2 ^ n) 1)
-      ∙ bits-of-two 2 2 (λ u v. eqb (op u v) 1) (λ u v. on (eqb u 1) (eqb v 1)) tested (x / 2 ^ n % 2) (y / 2 ^ n % 2)
+      ∙ bits_of_two 2 2 (λ u v. eqb (op u v) 1) (λ u v. on (eqb u 1) (eqb v 1)) tested (x / 2 ^ n % 2) (y / 2 ^ n % 2)
       (mod-lt (x / 2 ^ n) (lit< tt)) (mod-lt (y / 2 ^ n) (lit< tt))
 
-pub bit-and : (x y n : ℕ) → bit_of (bit_and x y) n ≡ (bit_of x n && bit_of y n)
-bit-and = bit-by-bit bit_and ◌&&◌ and_shr and_mod tt
+pub bit_and_lem : (x y n : ℕ) → bit_of (bit_and x y) n ≡ (bit_of x n && bit_of y n)
+bit_and_lem = bit_by_bit bit_and ◌&&◌ and_shr and_mod tt
 
-pub bit-or : (x y n : ℕ) → bit_of (bit_or x y) n ≡ (bit_of x n || bit_of y n)
-bit-or = bit-by-bit bit_or ◌||◌ or_shr or_mod tt
+pub bit_or_lem : (x y n : ℕ) → bit_of (bit_or x y) n ≡ (bit_of x n || bit_of y n)
+bit_or_lem = bit_by_bit bit_or ◌||◌ or_shr or_mod tt
 
 pub bit_not : (x n : ℕ) → x < 256 → n < 8 → bit_of (255 - x) n ≡ not (bit_of x n)
 unfolding bit_of
-bit_not = bits-of-two 256 8 (λ x n. bit_of (255 - x) n) (λ x n. not (bit_of x n)) tt
+bit_not = bits_of_two 256 8 (λ x n. bit_of (255 - x) n) (λ x n. not (bit_of x n)) tt
 
 -- A blend is assembled of its bits.
-pub blend-assembled : (m x y : ℕ) → blend_of m x y ≡ assembled (λ k. cond (bit_of m k) (bit_of x k) (bit_of y k))
+pub blend_assembled : (m x y : ℕ) → blend_of m x y ≡ assembled (λ k. cond (bit_of m k) (bit_of x k) (bit_of y k))
 unfolding blend_of
-blend-assembled m x y = refl
+blend_assembled m x y = refl
 
 -- What the contract of blend says of each bit.
-pub bit-of-blend : (m x y k : ℕ) → k < 8 → bit_of (blend_of m x y) k ≡ cond (bit_of m k) (bit_of x k) (bit_of y k)
+pub bit_of_blend : (m x y k : ℕ) → k < 8 → bit_of (blend_of m x y) k ≡ cond (bit_of m k) (bit_of x k) (bit_of y k)
 unfolding blend_of
-bit-of-blend m x y = bit-of-assembled (λ k. cond (bit_of m k) (bit_of x k) (bit_of y k))
+bit_of_blend m x y = bit_of_assembled (λ k. cond (bit_of m k) (bit_of x k) (bit_of y k))
 
 -- What a mask and its complement leave of two bits is one of them, and so of two bytes.
 either : (m a b : Bool) → (a && m || b && not m) ≡ cond m a b
@@ -53,28 +53,28 @@ either false true false = refl
 either false false true = refl
 either false false false = refl
 
-pub masks-blend : (m x y : ℕ) → m < 256 → x < 256 → y < 256 → bit_or (bit_and x m) (bit_and y (255 - m)) ≡ blend_of m x y
+pub masks_blend : (m x y : ℕ) → m < 256 → x < 256 → y < 256 → bit_or (bit_and x m) (bit_and y (255 - m)) ≡ blend_of m x y
 unfolding blend_of
-masks-blend m x y hm hx hy =
-    byte-by-bits (bit_or (bit_and x m) (bit_and y (255 - m))) (λ k. cond (bit_of m k) (bit_of x k) (bit_of y k))
+masks_blend m x y hm hx hy =
+    byte_by_bits (bit_or (bit_and x m) (bit_and y (255 - m))) (λ k. cond (bit_of m k) (bit_of x k) (bit_of y k))
     (or_lt 8 (bit_and x m) (bit_and y (255 - m)) (and_lt 8 x m hx hm) (and_lt 8 y (255 - m) hy (omega arith)))
-    (λ k hk. rw (bit-or, bit-and x m k, bit-and y (255 - m) k, bit_not m k hm hk) (either (bit_of m k) (bit_of x k) (bit_of y k)))
+    (λ k hk. rw (bit_or_lem, bit_and_lem x m k, bit_and_lem y (255 - m) k, bit_not m k hm hk) (either (bit_of m k) (bit_of x k) (bit_of y k)))
 
 -- A mask of one bit, and a byte that is all ones or all zeros: a blend of the two puts that bit.
 one_bit : (n k : ℕ) → n < 8 → k < 8 → bit_of (1 * 2 ^ n % 256) k ≡ eqb k n
 unfolding bit_of
-one_bit n k hn hk = bits-of-two 8 8 (λ n k. bit_of (1 * 2 ^ n % 256) k) (λ n k. eqb k n) tt n k hn hk
+one_bit n k hn hk = bits_of_two 8 8 (λ n k. bit_of (1 * 2 ^ n % 256) k) (λ n k. eqb k n) tt n k hn hk
 
 full : (on : Bool) (k : ℕ) → k < 8 → bit_of (cond on 255 0) k ≡ on
 unfolding bit_of
 full true k h = bits 8 (λ k. bit_of 255 k) (λ k. true) tt k h
 full false k h = bits 8 (λ k. bit_of 0 k) (λ k. false) tt k h
 
-pub blend-puts : (x n : ℕ) (on : Bool) → n < 8 → blend_of (1 * 2 ^ n % 256) (cond on 255 0) x ≡ with_bit x n on
+pub blend_puts : (x n : ℕ) (on : Bool) → n < 8 → blend_of (1 * 2 ^ n % 256) (cond on 255 0) x ≡ with_bit x n on
 unfolding with_bit
-blend-puts x n on hn =
-    blend-assembled (1 * 2 ^ n % 256) (cond on 255 0) x
-    ∙ assembled-same
+blend_puts x n on hn =
+    blend_assembled (1 * 2 ^ n % 256) (cond on 255 0) x
+    ∙ assembled_same
     (λ k. cond (bit_of (1 * 2 ^ n % 256) k) (bit_of (cond on 255 0) k) (bit_of x k))
     (λ k. cond (eqb k n) on (bit_of x k))
     (λ k hk. rw (one_bit n k hn hk, full on k hk))

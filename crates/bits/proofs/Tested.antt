@@ -36,36 +36,36 @@ pub numbers : (n : ℕ) (f g : ℕ → ℕ) → T (alike n f g) → (k : ℕ) �
 numbers n f g t k h = eqb→eq (f k) (g k) (each n (λ k. eqb (f k) (g k)) t k h)
 
 -- The same of two numbers, below m and below n.
-pub numbers-of-two : (m n : ℕ) (f g : ℕ → ℕ → ℕ) → T (all m (λ i. alike n (f i) (g i)))
+pub numbers_of_two : (m n : ℕ) (f g : ℕ → ℕ → ℕ) → T (all m (λ i. alike n (f i) (g i)))
     → (i k : ℕ) → i < m → k < n → f i k ≡ g i k
-numbers-of-two m n f g t i k hi hk = numbers n (f i) (g i) (each m (λ i. alike n (f i) (g i)) t i hi) k hk
+numbers_of_two m n f g t i k hi hk = numbers n (f i) (g i) (each m (λ i. alike n (f i) (g i)) t i hi) k hk
 
 -- Two functions of a number below n give the same bits.
 abbrev pub same : Bool → Bool → Bool
 same true b = b
 same false b = not b
 
-pub same-is : (a b : Bool) → T (same a b) → a ≡ b
-same-is true true t = refl
-same-is true false t = absurd t
-same-is false true t = absurd t
-same-is false false t = refl
+pub same_is : (a b : Bool) → T (same a b) → a ≡ b
+same_is true true t = refl
+same_is true false t = absurd t
+same_is false true t = absurd t
+same_is false false t = refl
 
 pub bits : (n : ℕ) (f g : ℕ → Bool) → T (all n (λ k. same (f k) (g k))) → (k : ℕ) → k < n → f k ≡ g k
-bits n f g t k h = same-is (f k) (g k) (each n (λ k. same (f k) (g k)) t k h)
+bits n f g t k h = same_is (f k) (g k) (each n (λ k. same (f k) (g k)) t k h)
 
-pub bits-of-two : (m n : ℕ) (f g : ℕ → ℕ → Bool) → T (all m (λ i. all n (λ k. same (f i k) (g i k))))
+pub bits_of_two : (m n : ℕ) (f g : ℕ → ℕ → Bool) → T (all m (λ i. all n (λ k. same (f i k) (g i k))))
     → (i k : ℕ) → i < m → k < n → f i k ≡ g i k
-bits-of-two m n f g t i k hi hk = bits n (f i) (g i) (each m (λ i. all n (λ k. same (f i k) (g i k))) t i hi) k hk
+bits_of_two m n f g t i k hi hk = bits n (f i) (g i) (each m (λ i. all n (λ k. same (f i k) (g i k))) t i hi) k hk
 
 -- The test passes at every list of n bits.
 abbrev pub every : ℕ → (List Bool → Bool) → Bool
 every zero f = f []
 every (suc n) f = every n (λ bs. f (true ∷ bs)) && every n (λ bs. f (false ∷ bs))
 
-pub each-list : (f : List Bool → Bool) (bs : List Bool) → T (every (length bs) f) → T (f bs)
-each-list f [] t = t
-each-list f (true ∷ bs) t =
-    each-list (λ bs. f (true ∷ bs)) bs (left (every (length bs) (λ bs. f (true ∷ bs))) (every (length bs) (λ bs. f (false ∷ bs))) t)
-each-list f (false ∷ bs) t =
-    each-list (λ bs. f (false ∷ bs)) bs (right (every (length bs) (λ bs. f (true ∷ bs))) (every (length bs) (λ bs. f (false ∷ bs))) t)
+pub each_list : (f : List Bool → Bool) (bs : List Bool) → T (every (length bs) f) → T (f bs)
+each_list f [] t = t
+each_list f (true ∷ bs) t =
+    each_list (λ bs. f (true ∷ bs)) bs (left (every (length bs) (λ bs. f (true ∷ bs))) (every (length bs) (λ bs. f (false ∷ bs))) t)
+each_list f (false ∷ bs) t =
+    each_list (λ bs. f (false ∷ bs)) bs (right (every (length bs) (λ bs. f (true ∷ bs))) (every (length bs) (λ bs. f (false ∷ bs))) t)

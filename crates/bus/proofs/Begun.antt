@@ -30,11 +30,11 @@ module _ {S R : Type 0} (dev : Device S R) where
           → Leaves s (cond b (Reading x) (cond w (Writing x d) Idle))
           (gives (cond r (reset_in dev s) (cond b (read_begun_in dev s x) (cond n (cycle_ended_in dev s) (cond w (write_begun_in dev s x d) (levels_put_in dev s x d)))))
           0 (byte_in dev s e.kind x))
-      go x d true b n w = inr (inl (dev.phase-on Idle _))
-      go x d false true n w = inl (refl, dev.phase-on (Reading x) _)
-      go x d false false true w = inr (inl (dev.phase-on Idle _))
-      go x d false false false true = inl (refl, dev.phase-on (Writing x d) _)
-      go x d false false false false = inr (inr (dev.phase-on (dev.phase s) _, λ ok. refl))
+      go x d true b n w = inr (inl (dev.phase_on Idle _))
+      go x d false true n w = inl (refl, dev.phase_on (Reading x) _)
+      go x d false false true w = inr (inl (dev.phase_on Idle _))
+      go x d false false false true = inl (refl, dev.phase_on (Writing x d) _)
+      go x d false false false false = inr (inr (dev.phase_on (dev.phase s) _, λ ok. refl))
 
   -- What was begun among the later events was begun among all.
   earlier : (s : S) (e : Event) (es : List Event) (ph : Phase) → BegunBy dev (given_in dev s e).state es ph → BegunBy dev s (e ∷ es) ph

@@ -47,8 +47,8 @@ by_known_kind P reset begin end write levels =
     (λ k none is. absurd (contrary (no_kind k) (rw (is)) none))
 
 -- What is no kind is none of them.
-pub no-kind-differs : (k j : ℕ) → no_kind k ≡ true → is_kind j ≡ true → eqb k j ≡ false
-no-kind-differs k j none kind = ne_eqb k j (λ e. contrary (no_kind j) (rw (kind)) (subst (λ (n : ℕ). no_kind n ≡ true) e none))
+pub no_kind_differs : (k j : ℕ) → no_kind k ≡ true → is_kind j ≡ true → eqb k j ≡ false
+no_kind_differs k j none kind = ne_eqb k j (λ e. contrary (no_kind j) (rw (kind)) (subst (λ (n : ℕ). no_kind n ≡ true) e none))
 
 -- In a table with a row for each number from 00 to 05, what is no kind has the row of 04, which is none.
 pub no_row : {A : Type 0} (reset begin end write none levels : A) (k : ℕ) → no_kind k ≡ true
@@ -63,37 +63,37 @@ no_row reset begin end write none levels (suc (suc (suc (suc (suc zero))))) othe
 no_row reset begin end write none levels (suc (suc (suc (suc (suc (suc k)))))) other = refl
 
 -- Every kind is below 06.
-pub kind-small : (k : ℕ) → is_kind k ≡ true → k < 6
-kind-small = by_known_kind (λ k. k < 6) (omega arith) (omega arith) (omega arith) (omega arith) (omega arith)
+pub kind_small : (k : ℕ) → is_kind k ≡ true → k < 6
+kind_small = by_known_kind (λ k. k < 6) (omega arith) (omega arith) (omega arith) (omega arith) (omega arith)
 
 -- What is chosen by the five kinds in turn is for what is no kind the last choice.
-pub last-choice : {A : Type 0} (r b e w l last : A) (k : ℕ) → no_kind k ≡ true
+pub last_choice : {A : Type 0} (r b e w l last : A) (k : ℕ) → no_kind k ≡ true
     → cond (eqb k reset) r (cond (eqb k begin_read) b (cond (eqb k end_cycle) e (cond (eqb k begin_write) w (cond (eqb k outside_levels) l last)))) ≡ last
 unfolding is_kind
-last-choice r b e w l last k none =
+last_choice r b e w l last k none =
     rw (
-      no-kind-differs k reset none refl,
-      no-kind-differs k begin_read none refl,
-      no-kind-differs k end_cycle none refl,
-      no-kind-differs k begin_write none refl,
-      no-kind-differs k outside_levels none refl,
+      no_kind_differs k reset none refl,
+      no_kind_differs k begin_read none refl,
+      no_kind_differs k end_cycle none refl,
+      no_kind_differs k begin_write none refl,
+      no_kind_differs k outside_levels none refl,
     )
 
 -- A number that has a kind is that kind's, and is a kind; one that has none is no kind.
-pub kind-back : (n : ℕ) (k : Kind) → Some k ≡ kind_numbered n → (kind_number k ≡ n) × (is_kind n ≡ true)
+pub kind_back : (n : ℕ) (k : Kind) → Some k ≡ kind_numbered n → (kind_number k ≡ n) × (is_kind n ≡ true)
 unfolding is_kind
-kind-back =
+kind_back =
     by_kind (λ n. (k : Kind) → Some k ≡ kind_numbered n → (kind_number k ≡ n) × (is_kind n ≡ true))
     (λ k e. (ap (λ o. kind_number (unwrap_or o Reset)) e, refl))
     (λ k e. (ap (λ o. kind_number (unwrap_or o BeginRead)) e, refl))
     (λ k e. (ap (λ o. kind_number (unwrap_or o EndCycle)) e, refl))
     (λ k e. (ap (λ o. kind_number (unwrap_or o BeginWrite)) e, refl))
     (λ k e. (ap (λ o. kind_number (unwrap_or o OutsideLevels)) e, refl))
-    (λ n none k e. absurd (none-some k (sym (e ∙ last-choice _ _ _ _ _ None n none))))
+    (λ n none k e. absurd (none-some k (sym (e ∙ last_choice _ _ _ _ _ None n none))))
 
-pub none-back : (n : ℕ) → None ≡ kind_numbered n → is_kind n ≡ false
+pub none_back : (n : ℕ) → None ≡ kind_numbered n → is_kind n ≡ false
 unfolding is_kind
-none-back =
+none_back =
     by_kind (λ n. None ≡ kind_numbered n → is_kind n ≡ false)
     (λ e. absurd (none-some Reset e)) (λ e. absurd (none-some BeginRead e)) (λ e. absurd (none-some EndCycle e))
     (λ e. absurd (none-some BeginWrite e)) (λ e. absurd (none-some OutsideLevels e))

@@ -20,28 +20,28 @@ module _ {S R : Type 0} (dev : Device S R) (s : S) (x d : ℕ) where
       cond (eqb number 0) (gives (dev.on Idle (dev.after_end (dev.rest s) ph)) 0 0) (refused_in s number)
 
   -- While a cycle runs it is accepted, and does what that cycle asks.
-  pub read-ends : (p : ℕ) → dev.phase s ≡ Reading p → step_in dev s kinds.end_cycle x d ≡ gives (dev.on Idle (dev.after_end (dev.rest s) (Reading p))) 0 0
+  pub read_ends_lem : (p : ℕ) → dev.phase s ≡ Reading p → step_in dev s kinds.end_cycle x d ≡ gives (dev.on Idle (dev.after_end (dev.rest s) (Reading p))) 0 0
   unfolding step_in number_of is_kind
-  read-ends p phase = ap end_in phase
+  read_ends_lem p phase = ap end_in phase
 
-  pub write-ends : (a b : ℕ) → dev.phase s ≡ Writing a b
+  pub write_ends : (a b : ℕ) → dev.phase s ≡ Writing a b
       → step_in dev s kinds.end_cycle x d ≡ gives (dev.on Idle (dev.after_end (dev.rest s) (Writing a b))) 0 0
   unfolding step_in number_of is_kind
-  write-ends a b phase = ap end_in phase
+  write_ends a b phase = ap end_in phase
 
   -- On an idle bus it is refused with 5.
-  pub idle-ends-nothing : dev.phase s ≡ Idle → step_in dev s kinds.end_cycle x d ≡ refused_in s 5
+  pub idle_ends_nothing : dev.phase s ≡ Idle → step_in dev s kinds.end_cycle x d ≡ refused_in s 5
   unfolding step_in number_of is_kind
-  idle-ends-nothing phase = ap end_in phase
+  idle_ends_nothing phase = ap end_in phase
 
   -- What holds of the state itself where the bus is idle, and of what is left of it where a read or a write ends, holds after the event.
-  pub by-phase : (P : S → Type 0) → (dev.phase s ≡ Idle → P s)
+  pub by_phase : (P : S → Type 0) → (dev.phase s ≡ Idle → P s)
       → ((p : ℕ) → dev.phase s ≡ Reading p → P (dev.on Idle (dev.after_end (dev.rest s) (Reading p))))
       → ((a b : ℕ) → dev.phase s ≡ Writing a b → P (dev.on Idle (dev.after_end (dev.rest s) (Writing a b))))
       → P (step_in dev s kinds.end_cycle x d).state
-  by-phase P idle read write = go (dev.phase s) refl
+  by_phase P idle read write = go (dev.phase s) refl
     where
       go : (ph : Phase) → dev.phase s ≡ ph → P (step_in dev s kinds.end_cycle x d).state
-      go Idle phase = rw (idle-ends-nothing phase) (idle phase)
-      go (Reading p) phase = rw (read-ends p phase) (read p phase)
-      go (Writing a b) phase = rw (write-ends a b phase) (write a b phase)
+      go Idle phase = rw (idle_ends_nothing phase) (idle phase)
+      go (Reading p) phase = rw (read_ends_lem p phase) (read p phase)
+      go (Writing a b) phase = rw (write_ends a b phase) (write a b phase)

@@ -2,7 +2,7 @@
 -- tells, and no two answers tell the same. Rests on bits' Determined.
 use mathlib.Core.Path.{◌≡◌, ◌∙◌, refl, ap, ap₂}
 use Rattle.std.specs.Prelude.{cond, ℕ, eqb, Result, Ok, Err}
-use Rattle.bits.proofs.Determined.{Determines, equation-determines, equations-determine}
+use Rattle.bits.proofs.Determined.{Determines, equation_determines, equations_determine}
 use Rattle.bus.specs.Answers.{refusal_number, frame_number, number_told, byte_told}
 use Rattle.bus.specs.declared.refusals.Refusal.{Refusal}
 use Rattle.bus.specs.declared.refusals.Refusal.TheVariants.{OutOfRange, NotReadable, CycleRuns, NoCycleRuns}
@@ -21,76 +21,76 @@ frame_of n = cond (eqb n 1) NoSuchKind (Event (refusal_of n))
 abbrev pub answer_of : {A E : Type 0} → (ℕ → E) → ℕ → A → Result A E
 answer_of refusal n a = cond (eqb n 0) (Ok a) (Err (refusal n))
 
-judged-so : (r : Result (Unit {0}) Refusal) → r ≡ answer_of refusal_of (number_told refusal_number r) tt
-judged-so (Ok tt) = refl
-judged-so (Err OutOfRange) = refl
-judged-so (Err NotReadable) = refl
-judged-so (Err CycleRuns) = refl
-judged-so (Err NoCycleRuns) = refl
+judged_so : (r : Result (Unit {0}) Refusal) → r ≡ answer_of refusal_of (number_told refusal_number r) tt
+judged_so (Ok tt) = refl
+judged_so (Err OutOfRange) = refl
+judged_so (Err NotReadable) = refl
+judged_so (Err CycleRuns) = refl
+judged_so (Err NoCycleRuns) = refl
 
-told-so : (r : Result ℕ Refusal) → r ≡ answer_of refusal_of (number_told refusal_number r) (byte_told r)
-told-so (Ok b) = refl
-told-so (Err OutOfRange) = refl
-told-so (Err NotReadable) = refl
-told-so (Err CycleRuns) = refl
-told-so (Err NoCycleRuns) = refl
+told_so : (r : Result ℕ Refusal) → r ≡ answer_of refusal_of (number_told refusal_number r) (byte_told r)
+told_so (Ok b) = refl
+told_so (Err OutOfRange) = refl
+told_so (Err NotReadable) = refl
+told_so (Err CycleRuns) = refl
+told_so (Err NoCycleRuns) = refl
 
-pub frame-told-so : (r : Result ℕ (FrameRefusal Refusal)) → r ≡ answer_of frame_of (number_told (frame_number refusal_number) r) (byte_told r)
-frame-told-so (Ok b) = refl
-frame-told-so (Err NoSuchKind) = refl
-frame-told-so (Err (Event OutOfRange)) = refl
-frame-told-so (Err (Event NotReadable)) = refl
-frame-told-so (Err (Event CycleRuns)) = refl
-frame-told-so (Err (Event NoCycleRuns)) = refl
+pub frame_told_so : (r : Result ℕ (FrameRefusal Refusal)) → r ≡ answer_of frame_of (number_told (frame_number refusal_number) r) (byte_told r)
+frame_told_so (Ok b) = refl
+frame_told_so (Err NoSuchKind) = refl
+frame_told_so (Err (Event OutOfRange)) = refl
+frame_told_so (Err (Event NotReadable)) = refl
+frame_told_so (Err (Event CycleRuns)) = refl
+frame_told_so (Err (Event NoCycleRuns)) = refl
 
-pub kind-numbered-determined : Determines bus_says.kinds.Kind.numbered.ended bus.kinds.Kind.numbered.Reads.Learnt
-kind-numbered-determined c x y = equation-determines
+pub kind_numbered_determined : Determines bus_says.kinds.Kind.numbered.ended bus.kinds.Kind.numbered.Reads.Learnt
+kind_numbered_determined c x y = equation_determines
 
-pub kind-number-determined : Determines bus_says.kinds.Kind.number.ended bus.kinds.Kind.number.Reads.Learnt
-kind-number-determined c x y = equation-determines
+pub kind_number_determined : Determines bus_says.kinds.Kind.number.ended bus.kinds.Kind.number.Reads.Learnt
+kind_number_determined c x y = equation_determines
 
-pub kind-operands-determined : Determines bus_says.kinds.Kind.operands.ended bus.kinds.Kind.operands.Reads.Learnt
-kind-operands-determined c x y = equation-determines
+pub kind_operands_determined : Determines bus_says.kinds.Kind.operands.ended bus.kinds.Kind.operands.Reads.Learnt
+kind_operands_determined c x y = equation_determines
 
-pub numbered-determined : Determines bus_says.events.Event.numbered.ended bus.events.Event.numbered.Reads.Learnt
-numbered-determined c x y = equation-determines
+pub numbered_determined : Determines bus_says.events.Event.numbered.ended bus.events.Event.numbered.Reads.Learnt
+numbered_determined c x y = equation_determines
 
-pub refusal-number-determined : Determines bus_says.refusals.RefusalNumbered.number.ended bus.refusals.RefusalNumbered.number.Reads.Learnt
-refusal-number-determined c x y = equation-determines
+pub refusal_number_determined : Determines bus_says.refusals.RefusalNumbered.number.ended bus.refusals.RefusalNumbered.number.Reads.Learnt
+refusal_number_determined c x y = equation_determines
 
-pub number-determined
+pub number_determined
     : (T : _) (lT : _) (R : _) (lR : _) (copy : _) (G : _) (t : _) (H : _) (u : _)
     → Determines (bus_says.refusals.number.ended T R G t H u) (bus.refusals.number.Reads.Learnt T R lT lR copy G t H u)
-number-determined T lT R lR copy G t H u c x y = equation-determines
+number_determined T lT R lR copy G t H u c x y = equation_determines
 
-pub frame-number-determined
+pub frame_number_determined
     : (R : _) (lR : _) (copy : _) (G : _) (t : _) (H : _) (u : _)
     → Determines (bus_says.refusals.FrameRefusalNumbered.number.ended R G t H u) (bus.refusals.FrameRefusalNumbered.number.Reads.Learnt R lR copy G t H u)
-frame-number-determined R lR copy G t H u c x y = equation-determines
+frame_number_determined R lR copy G t H u c x y = equation_determines
 
-pub frame-refusal-from-determined
+pub frame_refusal_from_determined
     : (R : _) (lR : _) → Determines (bus_says.refusals.FrameRefusalFrom.from.ended R) (bus.refusals.FrameRefusalFrom.from.Reads.Learnt R lR)
-frame-refusal-from-determined R lR c x y = equation-determines
+frame_refusal_from_determined R lR c x y = equation_determines
 
-pub judge-determined : Determines bus_says.refusals.judge.ended bus.refusals.judge.Reads.Learnt
-judge-determined c x y p q =
-    equation-determines
-    (judged-so x.0 ∙ ap (λ n. answer_of refusal_of n tt) p)
-    (judged-so y.0 ∙ ap (λ n. answer_of refusal_of n tt) q)
+pub judge_determined : Determines bus_says.refusals.judge.ended bus.refusals.judge.Reads.Learnt
+judge_determined c x y p q =
+    equation_determines
+    (judged_so x.0 ∙ ap (λ n. answer_of refusal_of n tt) p)
+    (judged_so y.0 ∙ ap (λ n. answer_of refusal_of n tt) q)
 
-pub step-determined : (D : _) (lD : _) (G : _) (t : _) → Determines (bus_says.devices.step.ended D G t) (bus.devices.step.Reads.Learnt D lD G t)
-step-determined D lD G t c x y p q =
-    equations-determine
-    (told-so x.0 ∙ ap₂ (answer_of refusal_of) p.1.0 p.1.1, p.0)
-    (told-so y.0 ∙ ap₂ (answer_of refusal_of) q.1.0 q.1.1, q.0)
+pub step_determined : (D : _) (lD : _) (G : _) (t : _) → Determines (bus_says.devices.step.ended D G t) (bus.devices.step.Reads.Learnt D lD G t)
+step_determined D lD G t c x y p q =
+    equations_determine
+    (told_so x.0 ∙ ap₂ (answer_of refusal_of) p.1.0 p.1.1, p.0)
+    (told_so y.0 ∙ ap₂ (answer_of refusal_of) q.1.0 q.1.1, q.0)
 
-pub step-numbers-determined
+pub step_numbers_determined
     : (D : _) (lD : _) (G : _) (t : _) → Determines (bus_says.devices.step_numbers.ended D G t) (bus.devices.step_numbers.Reads.Learnt D lD G t)
-step-numbers-determined D lD G t c x y p q =
-    equations-determine
-    (frame-told-so x.0 ∙ ap₂ (answer_of frame_of) p.1.0 p.1.1, p.0)
-    (frame-told-so y.0 ∙ ap₂ (answer_of frame_of) q.1.0 q.1.1, q.0)
+step_numbers_determined D lD G t c x y p q =
+    equations_determine
+    (frame_told_so x.0 ∙ ap₂ (answer_of frame_of) p.1.0 p.1.1, p.0)
+    (frame_told_so y.0 ∙ ap₂ (answer_of frame_of) q.1.0 q.1.1, q.0)
 
-pub facts-determined
+pub facts_determined
     : (D : _) (lD : _) (G : _) (t : _) → Determines (bus_says.devices.facts_about_cycles.ended D G t) (bus.devices.facts_about_cycles.Reads.Learnt D lD G t)
-facts-determined D lD G t c x y p q = refl
+facts_determined D lD G t c x y p q = refl

@@ -13,28 +13,28 @@ use Rattle.bus.specs.Refusals.{number_of}
 use Rattle.bus.specs.Device.{Device, step_in}
 use Rattle.bus.specs.Cycles.{Ends, InAnyPhase}
 use Rattle.bus.proofs.Outcomes.{either}
-use Rattle.bus.proofs.ByPhase.{read-ends, write-ends, idle-ends-nothing, by-phase}
+use Rattle.bus.proofs.ByPhase.{read_ends_lem, write_ends, idle_ends_nothing, by_phase}
 
 module _ {S R : Type 0} (dev : Device S R) (s : S) (x d : ℕ) where
-  accepted-in : (ph : Phase) → dev.phase s ≡ ph → ¬ (ph ≡ Idle) → (step_in dev s kinds.end_cycle x d).number ≡ 0
-  accepted-in Idle phase runs = absurd (runs refl)
-  accepted-in (Reading p) phase runs = rw (read-ends dev s x d p phase)
-  accepted-in (Writing a b) phase runs = rw (write-ends dev s x d a b phase)
+  accepted_in : (ph : Phase) → dev.phase s ≡ ph → ¬ (ph ≡ Idle) → (step_in dev s kinds.end_cycle x d).number ≡ 0
+  accepted_in Idle phase runs = absurd (runs refl)
+  accepted_in (Reading p) phase runs = rw (read_ends_lem dev s x d p phase)
+  accepted_in (Writing a b) phase runs = rw (write_ends dev s x d a b phase)
 
-  pub cycle-ends : Ends dev s x d
-  cycle-ends = record {
-    while_one_runs = accepted-in (dev.phase s) refl;
-    only_then = λ ok phase. absurd (omega (arith, rw (idle-ends-nothing dev s x d phase) at ok));
-    idle = idle-ends-nothing dev s x d;
+  pub cycle_ends_lem : Ends dev s x d
+  cycle_ends_lem = record {
+    while_one_runs = accepted_in (dev.phase s) refl;
+    only_then = λ ok phase. absurd (omega (arith, rw (idle_ends_nothing dev s x d phase) at ok));
+    idle = idle_ends_nothing dev s x d;
     over =
-        by-phase dev s x d (λ (s' : S). dev.phase s' ≡ Idle) (λ idle. idle) (λ p phase. dev.phase-on Idle _) (λ a b phase. dev.phase-on Idle _);
+        by_phase dev s x d (λ (s' : S). dev.phase s' ≡ Idle) (λ idle. idle) (λ p phase. dev.phase_on Idle _) (λ a b phase. dev.phase_on Idle _);
   }
 
-  pub in-any-phase : InAnyPhase dev (dev.limits (dev.rest s)) s x d
+  pub in_any_phase_lem : InAnyPhase dev (dev.limits (dev.rest s)) s x d
   unfolding step_in number_of is_kind
-  in-any-phase = record {
+  in_any_phase_lem = record {
     reset = refl;
-    reset_drops = dev.phase-on Idle (dev.after_reset (dev.rest s));
+    reset_drops = dev.phase_on Idle (dev.after_reset (dev.rest s));
     levels = λ there. rw (lt-ltb x _ there);
-    levels_hold = either dev s kinds.outside_levels x d (λ (s' : S). dev.phase s' ≡ dev.phase s) refl (λ ok. dev.phase-on (dev.phase s) _);
+    levels_hold = either dev s kinds.outside_levels x d (λ (s' : S). dev.phase s' ≡ dev.phase s) refl (λ ok. dev.phase_on (dev.phase s) _);
   }

@@ -26,9 +26,9 @@ found : (n : ℕ) (rs : List Row) → First n rs → first_of rs ≡ n
 found n [] f = absurd f
 found n (r ∷ rs) f = ⊎_elim (λ here. rw here.0 here.1) (λ there. rw there.0 (found n rs there.1)) f
 
-is-first : (n : ℕ) (rs : List Row) → ¬ (n ≡ 0) → first_of rs ≡ n → First n rs
-is-first n [] some e = absurd (some (sym e))
-is-first n (r ∷ rs) some e = go r.applies refl (is-first n rs some) e
+is_first_lem : (n : ℕ) (rs : List Row) → ¬ (n ≡ 0) → first_of rs ≡ n → First n rs
+is_first_lem n [] some e = absurd (some (sym e))
+is_first_lem n (r ∷ rs) some e = go r.applies refl (is_first_lem n rs some) e
   where
     go : (b : Bool) → r.applies ≡ b → (first_of rs ≡ n → First n rs) → cond b r.number (first_of rs) ≡ n → First n (r ∷ rs)
     go true on behind e = inl (on, e)
@@ -55,21 +55,21 @@ pub numbered : (l : Limits) (ph : Phase) (k x : ℕ) → Numbered l ph k x
 unfolding number_of
 numbered l ph k x = record {
   given = λ n. found n (rows l ph k x);
-  only_then = λ n. is-first n (rows l ph k x);
+  only_then = λ n. is_first_lem n (rows l ph k x);
   accepted = none (rows l ph k x);
   only_accepted = is_none (rows l ph k x) (positive l ph k x);
 }
 
-none-at : (rs : List Row) → NoneOf rs → (j : ℕ) → (get_or rs j (row 0 false)).applies ≡ false
-none-at [] u j = refl
-none-at (r ∷ rs) u zero = u.0
-none-at (r ∷ rs) u (suc j) = none-at rs u.1 j
+none_at : (rs : List Row) → NoneOf rs → (j : ℕ) → (get_or rs j (row 0 false)).applies ≡ false
+none_at [] u j = refl
+none_at (r ∷ rs) u zero = u.0
+none_at (r ∷ rs) u (suc j) = none_at rs u.1 j
 
 -- An event that any row speaks of is refused.
-pub row-refuses : (l : Limits) (ph : Phase) (k x j : ℕ) → (get_or (rows l ph k x) j (row 0 false)).applies ≡ true → ¬ (number_of l ph k x ≡ 0)
-row-refuses l ph k x j applies e = contrary _ (none-at (rows l ph k x) ((numbered l ph k x).only_accepted e) j) applies
+pub row_refuses : (l : Limits) (ph : Phase) (k x j : ℕ) → (get_or (rows l ph k x) j (row 0 false)).applies ≡ true → ¬ (number_of l ph k x ≡ 0)
+row_refuses l ph k x j applies e = contrary _ (none_at (rows l ph k x) ((numbered l ph k x).only_accepted e) j) applies
 
 -- What is no kind is refused with 1, whatever its operands.
-pub no-kind-refused : {S R : Type 0} (dev : Device S R) (s : S) (k x d : ℕ) → no_kind k ≡ true → step_in dev s k x d ≡ refused_in s 1
+pub no_kind_refused : {S R : Type 0} (dev : Device S R) (s : S) (k x d : ℕ) → no_kind k ≡ true → step_in dev s k x d ≡ refused_in s 1
 unfolding step_in number_of
-no-kind-refused dev s k x d none = rw (none)
+no_kind_refused dev s k x d none = rw (none)

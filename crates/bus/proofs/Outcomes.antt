@@ -27,13 +27,13 @@ module _ {S R : Type 0} (dev : Device S R) (s : S) (k x d : ℕ) where
       go false e = let h = eqb-false _ _ e in subst P (sym (refuses h)) (refused h)
 
   -- The number that the step gives is the table's.
-  pub number-given : (step_in dev s k x d).number ≡ number_in dev s k x
-  number-given = outcomes (λ (o : Given S). o.number ≡ number_in dev s k x) (λ h. refl) (λ z. sym z)
+  pub number_given : (step_in dev s k x d).number ≡ number_in dev s k x
+  number_given = outcomes (λ (o : Given S). o.number ≡ number_in dev s k x) (λ h. refl) (λ z. sym z)
 
   -- What holds of the state before, and of the state after where the event is accepted, holds after the step.
   pub either : (P : S → Type 0) → P s → (number_in dev s k x ≡ 0 → P (after_in dev s k x d)) → P (step_in dev s k x d).state
   either P before after = outcomes (λ (o : Given S). P o.state) (λ h. before) after
 
   -- A refusal leaves the state as it was, and its byte is 00.
-  pub refusal-changes-nothing : ¬ ((step_in dev s k x d).number ≡ 0) → step_in dev s k x d ≡ refused_in s (number_in dev s k x)
-  refusal-changes-nothing h = refuses (λ e. h (number-given ∙ e))
+  pub refusal_changes_nothing : ¬ ((step_in dev s k x d).number ≡ 0) → step_in dev s k x d ≡ refused_in s (number_in dev s k x)
+  refusal_changes_nothing h = refuses (λ e. h (number_given ∙ e))

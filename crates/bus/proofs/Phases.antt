@@ -8,7 +8,7 @@ use lib.Dec.{eqb, ltb}
 use borrow.Author.Tests.{ne_eqb}
 use Rattle.bus.specs.Kinds.{is_kind}
 use Rattle.bus.specs.Event.{Event}
-use Rattle.bus.proofs.ByKind.{by_kind, no-kind-differs}
+use Rattle.bus.proofs.ByKind.{by_kind, no_kind_differs}
 use Rattle.bus.specs.declared.Phase.{Phase}
 use Rattle.bus.specs.declared.Phase.TheVariants.{Idle, Reading, Writing}
 use Rattle.bus.specs.declared.Limits.{Limits}
@@ -18,89 +18,89 @@ use Rattle.bus.specs.Cycles.{is_accepted, phase_after, phase_over}
 use Rattle.bus.proofs.Outcomes.{outcomes, either}
 
 -- What is accepted in those words has the number 0 by the table, and nothing else has.
-pub reads-accept : (there readable busy : Bool) → (there && (readable && not busy)) ≡ eqb (cond (not there || false) 2 (cond (not readable) 3 (cond busy 4 0))) 0
-reads-accept false readable busy = refl
-reads-accept true false busy = refl
-reads-accept true true false = refl
-reads-accept true true true = refl
+pub reads_accept : (there readable busy : Bool) → (there && (readable && not busy)) ≡ eqb (cond (not there || false) 2 (cond (not readable) 3 (cond busy 4 0))) 0
+reads_accept false readable busy = refl
+reads_accept true false busy = refl
+reads_accept true true false = refl
+reads_accept true true true = refl
 
-pub writes-accept : (there busy : Bool) → (there && not busy) ≡ eqb (cond (not there || false) 2 (cond busy 4 0)) 0
-writes-accept false busy = refl
-writes-accept true false = refl
-writes-accept true true = refl
+pub writes_accept : (there busy : Bool) → (there && not busy) ≡ eqb (cond (not there || false) 2 (cond busy 4 0)) 0
+writes_accept false busy = refl
+writes_accept true false = refl
+writes_accept true true = refl
 
-pub levels-accept : (there : Bool) → there ≡ eqb (cond (not there) 2 0) 0
-levels-accept false = refl
-levels-accept true = refl
+pub levels_accept : (there : Bool) → there ≡ eqb (cond (not there) 2 0) 0
+levels_accept false = refl
+levels_accept true = refl
 
-ends-accept : (busy : Bool) → (busy || false) ≡ eqb (cond (not busy) 5 0) 0
-ends-accept false = refl
-ends-accept true = refl
+ends_accept : (busy : Bool) → (busy || false) ≡ eqb (cond (not busy) 5 0) 0
+ends_accept false = refl
+ends_accept true = refl
 
-accepted-so : (l : Limits) (ph : Phase) (k x : ℕ) → is_accepted l ph k x ≡ eqb (number_of l ph k x) 0
+accepted_so : (l : Limits) (ph : Phase) (k x : ℕ) → is_accepted l ph k x ≡ eqb (number_of l ph k x) 0
 unfolding number_of is_kind
-accepted-so l ph k x =
+accepted_so l ph k x =
     by_kind (λ k. is_accepted l ph k x ≡ eqb (number_of l ph k x) 0)
     refl
-    (rw (or-false _) (reads-accept (ltb x l.addresses) (ltb x l.readable) (is_busy ph)))
-    (ends-accept (is_busy ph))
-    (rw (or-false _) (writes-accept (ltb x l.addresses) (is_busy ph)))
-    (levels-accept (ltb x l.ports))
+    (rw (or-false _) (reads_accept (ltb x l.addresses) (ltb x l.readable) (is_busy ph)))
+    (ends_accept (is_busy ph))
+    (rw (or-false _) (writes_accept (ltb x l.addresses) (is_busy ph)))
+    (levels_accept (ltb x l.ports))
     (λ k none. rw (
-      no-kind-differs k 0 none refl,
-      no-kind-differs k 1 none refl,
-      no-kind-differs k 2 none refl,
-      no-kind-differs k 3 none refl,
-      no-kind-differs k 5 none refl,
+      no_kind_differs k 0 none refl,
+      no_kind_differs k 1 none refl,
+      no_kind_differs k 2 none refl,
+      no_kind_differs k 3 none refl,
+      no_kind_differs k 5 none refl,
     ))
     k
 
 module _ {S R : Type 0} (dev : Device S R) where
   -- After an accepted event.
-  pub phase-goes : (s : S) (k x d : ℕ) → dev.phase (after_in dev s k x d) ≡ phase_after (dev.phase s) k x d
-  phase-goes s k x d = go (eqb k 0) (eqb k 1) (eqb k 2) (eqb k 3)
+  pub phase_goes : (s : S) (k x d : ℕ) → dev.phase (after_in dev s k x d) ≡ phase_after (dev.phase s) k x d
+  phase_goes s k x d = go (eqb k 0) (eqb k 1) (eqb k 2) (eqb k 3)
     where
       go : (r b e w : Bool)
           → dev.phase (cond r (reset_in dev s) (cond b (read_begun_in dev s x) (cond e (cycle_ended_in dev s) (cond w (write_begun_in dev s x d) (levels_put_in dev s x d)))))
           ≡ cond r Idle (cond b (Reading x) (cond e Idle (cond w (Writing x d) (dev.phase s))))
-      go true b e w = dev.phase-on Idle (dev.after_reset (dev.rest s))
-      go false true e w = dev.phase-on (Reading x) (dev.after_begin (dev.rest s) x)
-      go false false true w = dev.phase-on Idle (dev.after_end (dev.rest s) (dev.phase s))
-      go false false false true = dev.phase-on (Writing x d) (dev.rest s)
-      go false false false false = dev.phase-on (dev.phase s) (dev.after_levels (dev.rest s) x d)
+      go true b e w = dev.phase_on Idle (dev.after_reset (dev.rest s))
+      go false true e w = dev.phase_on (Reading x) (dev.after_begin (dev.rest s) x)
+      go false false true w = dev.phase_on Idle (dev.after_end (dev.rest s) (dev.phase s))
+      go false false false true = dev.phase_on (Writing x d) (dev.rest s)
+      go false false false false = dev.phase_on (dev.phase s) (dev.after_levels (dev.rest s) x d)
 
   -- An accepted event leaves the limits, and so does every event.
-  limits-after : (s : S) (k x d : ℕ) → dev.limits (dev.rest (after_in dev s k x d)) ≡ dev.limits (dev.rest s)
-  limits-after s k x d = go (eqb k 0) (eqb k 1) (eqb k 2) (eqb k 3)
+  limits_after : (s : S) (k x d : ℕ) → dev.limits (dev.rest (after_in dev s k x d)) ≡ dev.limits (dev.rest s)
+  limits_after s k x d = go (eqb k 0) (eqb k 1) (eqb k 2) (eqb k 3)
     where
       on : (ph : Phase) (r : R) → dev.limits r ≡ dev.limits (dev.rest s) → dev.limits (dev.rest (dev.on ph r)) ≡ dev.limits (dev.rest s)
-      on ph r same = ap dev.limits (dev.rest-on ph r) ∙ same
+      on ph r same = ap dev.limits (dev.rest_on ph r) ∙ same
 
       go : (r b e w : Bool)
           → dev.limits (dev.rest (cond r (reset_in dev s) (cond b (read_begun_in dev s x) (cond e (cycle_ended_in dev s) (cond w (write_begun_in dev s x d) (levels_put_in dev s x d))))))
           ≡ dev.limits (dev.rest s)
-      go true b e w = on Idle _ (dev.reset-limits (dev.rest s))
-      go false true e w = on (Reading x) _ (dev.begin-limits (dev.rest s) x)
-      go false false true w = on Idle _ (dev.end-limits (dev.rest s) (dev.phase s))
+      go true b e w = on Idle _ (dev.reset_limits (dev.rest s))
+      go false true e w = on (Reading x) _ (dev.begin_limits (dev.rest s) x)
+      go false false true w = on Idle _ (dev.end_limits (dev.rest s) (dev.phase s))
       go false false false true = on (Writing x d) _ refl
-      go false false false false = on (dev.phase s) _ (dev.levels-limits (dev.rest s) x d)
+      go false false false false = on (dev.phase s) _ (dev.levels_limits (dev.rest s) x d)
 
-  pub limits-stay : (s : S) (k x d : ℕ) → dev.limits (dev.rest (step_in dev s k x d).state) ≡ dev.limits (dev.rest s)
-  limits-stay s k x d = either dev s k x d (λ (s' : S). dev.limits (dev.rest s') ≡ dev.limits (dev.rest s)) refl (λ ok. limits-after s k x d)
+  pub limits_stay : (s : S) (k x d : ℕ) → dev.limits (dev.rest (step_in dev s k x d).state) ≡ dev.limits (dev.rest s)
+  limits_stay s k x d = either dev s k x d (λ (s' : S). dev.limits (dev.rest s') ≡ dev.limits (dev.rest s)) refl (λ ok. limits_after s k x d)
 
   -- After any event.
-  pub phase-next : (l : Limits) (s : S) (k x d : ℕ) → dev.limits (dev.rest s) ≡ l
+  pub phase_next : (l : Limits) (s : S) (k x d : ℕ) → dev.limits (dev.rest s) ≡ l
       → dev.phase (step_in dev s k x d).state ≡ cond (is_accepted l (dev.phase s) k x) (phase_after (dev.phase s) k x d) (dev.phase s)
-  phase-next l s k x d same =
-      rw (accepted-so l (dev.phase s) k x, ← same)
+  phase_next l s k x d same =
+      rw (accepted_so l (dev.phase s) k x, ← same)
       (outcomes dev s k x d (λ (o : Given S). dev.phase o.state ≡ cond (eqb (number_in dev s k x) 0) (phase_after (dev.phase s) k x d) (dev.phase s))
       (λ no. rw (ne_eqb _ _ no))
-      (λ ok. rw (ok) (phase-goes s k x d)))
+      (λ ok. rw (ok) (phase_goes s k x d)))
 
   -- After any history, from any state.
-  pub phase-by-events : (l : Limits) (s : S) (es : List Event) → dev.limits (dev.rest s) ≡ l → dev.phase (run_in dev s es) ≡ phase_over l (dev.phase s) es
-  phase-by-events l s [] same = refl
-  phase-by-events l s (e ∷ es) same =
+  pub phase_by_events_lem : (l : Limits) (s : S) (es : List Event) → dev.limits (dev.rest s) ≡ l → dev.phase (run_in dev s es) ≡ phase_over l (dev.phase s) es
+  phase_by_events_lem l s [] same = refl
+  phase_by_events_lem l s (e ∷ es) same =
       let next = (step_in dev s e.kind e.first e.second).state in
-      phase-by-events l next es (limits-stay s e.kind e.first e.second ∙ same)
-      ∙ ap (λ (ph : Phase). phase_over l ph es) (phase-next l s e.kind e.first e.second same)
+      phase_by_events_lem l next es (limits_stay s e.kind e.first e.second ∙ same)
+      ∙ ap (λ (ph : Phase). phase_over l ph es) (phase_next l s e.kind e.first e.second same)

@@ -17,9 +17,9 @@ busy Idle runs = absurd (runs refl)
 busy (Reading p) runs = refl
 busy (Writing a d) runs = refl
 
-pub at-place : {S R : Type 0} (dev : Device S R) (s : S) (x d : ℕ) → AtPlace dev (dev.limits (dev.rest s)) s x d
+pub at_place_lem : {S R : Type 0} (dev : Device S R) (s : S) (x d : ℕ) → AtPlace dev (dev.limits (dev.rest s)) s x d
 unfolding step_in number_of is_kind
-at-place dev s x d = record {
+at_place_lem dev s x d = record {
   read_nowhere = λ above. rw (le-ltb x _ above);
   write_nowhere = λ above. rw (le-ltb x _ above);
   levels_nowhere = λ above. rw (le-ltb x _ above);

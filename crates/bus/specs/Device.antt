@@ -20,12 +20,12 @@ pub record Device (S R : Type 0) : Type 0 where
   pub after_end : R → Phase → R
   pub after_levels : R → ℕ → ℕ → R
   pub answer : S → ℕ → ℕ
-  pub phase-on : (ph : Phase) (r : R) → phase (on ph r) ≡ ph
-  pub rest-on : (ph : Phase) (r : R) → rest (on ph r) ≡ r
-  pub reset-limits : (r : R) → limits (after_reset r) ≡ limits r
-  pub begin-limits : (r : R) (x : ℕ) → limits (after_begin r x) ≡ limits r
-  pub end-limits : (r : R) (ph : Phase) → limits (after_end r ph) ≡ limits r
-  pub levels-limits : (r : R) (x d : ℕ) → limits (after_levels r x d) ≡ limits r
+  pub phase_on : (ph : Phase) (r : R) → phase (on ph r) ≡ ph
+  pub rest_on : (ph : Phase) (r : R) → rest (on ph r) ≡ r
+  pub reset_limits : (r : R) → limits (after_reset r) ≡ limits r
+  pub begin_limits : (r : R) (x : ℕ) → limits (after_begin r x) ≡ limits r
+  pub end_limits : (r : R) (ph : Phase) → limits (after_end r ph) ≡ limits r
+  pub levels_limits : (r : R) (x d : ℕ) → limits (after_levels r x d) ≡ limits r
 
 -- What an event gives: the new state, the number, and the byte.
 pub record Given (S : Type 0) : Type 0 where

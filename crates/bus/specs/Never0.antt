@@ -9,12 +9,12 @@ use Rattle.bus.specs.declared.refusals.FrameRefusal.{FrameRefusal}
 abbrev pub Never0 : {R : Type 0} → (R → ℕ) → Type 0
 Never0 n = (r : _) → eqb (n r) 0 ≡ false
 
-pub refusal-never-0 : Never0 refusal_number
-refusal-never-0 OutOfRange = refl
-refusal-never-0 NotReadable = refl
-refusal-never-0 CycleRuns = refl
-refusal-never-0 NoCycleRuns = refl
+pub refusal_never_0 : Never0 refusal_number
+refusal_never_0 OutOfRange = refl
+refusal_never_0 NotReadable = refl
+refusal_never_0 CycleRuns = refl
+refusal_never_0 NoCycleRuns = refl
 
-pub frame-never-0 : {R : Type 0} (n : R → ℕ) → Never0 n → Never0 (frame_number n)
-frame-never-0 n never frame.TheVariants.NoSuchKind = refl
-frame-never-0 n never (frame.TheVariants.Event r) = never r
+pub frame_never_0 : {R : Type 0} (n : R → ℕ) → Never0 n → Never0 (frame_number n)
+frame_never_0 n never frame.TheVariants.NoSuchKind = refl
+frame_never_0 n never (frame.TheVariants.Event r) = never r

@@ -2,7 +2,7 @@
 ghost use Rattle.std.specs.Prelude.{◌≡◌, ℕ};
 ghost use Rattle.bus.specs.Refusals.{is_busy, number_of};
 ghost use Rattle.bus.specs.Answers.{raw, refusal_number, frame_number, number_told};
-ghost use Rattle.bus.specs.Never0.{Never0, refusal-never-0, frame-never-0};
+ghost use Rattle.bus.specs.Never0.{Never0, refusal_never_0, frame_never_0};
 ghost use Rattle.bus.specs.declared.refusals.FrameRefusal.TheVariants as frames;
 
 use crate::events::Event;
@@ -47,7 +47,7 @@ pub enum Refusal {
 impl Numbered for Refusal {
     ghost number_of = { refusal_number };
 
-    ghost never_0 = { refusal-never-0 };
+    ghost never_0 = { refusal_never_0 };
 
     fn number(&self) -> u8 {
         *self as u8
@@ -66,7 +66,7 @@ pub enum FrameRefusal<R> {
 impl<R: Numbered> Numbered for FrameRefusal<R> {
     ghost number_of = { frame_number R.number_of };
 
-    ghost never_0 = { frame-never-0 R.number_of R.never_0 };
+    ghost never_0 = { frame_never_0 R.number_of R.never_0 };
 
     fn number(&self) -> u8 {
         match self {

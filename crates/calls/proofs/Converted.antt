@@ -15,7 +15,7 @@ use Rattle.image.specs.Loaded.{state_of}
 use Rattle.image.specs.Good.{has_image, is_image, Bytes}
 use Rattle.image.specs.Slices.{saved_in}
 use Rattle.image.proofs.ComesBack.{comes_back}
-use Rattle.image.proofs.OneImage.{has-image}
+use Rattle.image.proofs.OneImage.{has_image_lem}
 use Rattle.image.proofs.Long.{written_over}
 use Rattle.image.specs.OlderLayout.{older_of}
 use Rattle.image.specs.OlderLoaded.{older_state}
@@ -23,19 +23,19 @@ use Rattle.image.specs.OlderGood.{is_older}
 use Rattle.image.specs.Before.{FromBefore}
 use Rattle.image.proofs.OlderComesBack as older
 use Rattle.image.proofs.OlderLong.{is_long}
-use Rattle.image.proofs.OlderOneImage.{older-where, tells-such}
+use Rattle.image.proofs.OlderOneImage.{older_where, tells_such}
 use Rattle.calls.specs.Calls.{last_channel, counter_numbered, tally_answer, convert_answer, convert_image}
 
 module _ (o l : List ℕ) where
   -- Bytes that are no older image: number 8, and nothing is written.
-  pub convert-bad : is_older o ≡ false → (convert_answer o l ≡ 8) × (convert_image o l ≡ l)
+  pub convert_bad : is_older o ≡ false → (convert_answer o l ≡ 8) × (convert_image o l ≡ l)
   unfolding convert_answer convert_image
-  convert-bad bad = (rw (bad), rw (bad))
+  convert_bad bad = (rw (bad), rw (bad))
 
   -- So it is where there is no room for an image, or too much.
-  pub convert-other : is_older o ≡ true → ¬ (length l ≡ places.length) → (convert_answer o l ≡ 8) × (convert_image o l ≡ l)
+  pub convert_other : is_older o ≡ true → ¬ (length l ≡ places.length) → (convert_answer o l ≡ 8) × (convert_image o l ≡ l)
   unfolding convert_answer convert_image saved_in
-  convert-other good other = let no = ne_eqb (length l) places.length other in (rw (good, no), rw (good, no))
+  convert_other good other = let no = ne_eqb (length l) places.length other in (rw (good, no), rw (good, no))
 
   module _ (bytes : Bytes o) (good : is_older o ≡ true) (long : length l ≡ places.length) where
     -- Accepted, and the bytes are the image of the state that the older image tells.
@@ -43,36 +43,36 @@ module _ (o l : List ℕ) where
     unfolding convert_answer
     converts = rw (good, eq-eqb (length l) places.length long)
 
-    pub convert-same : convert_image o l ≡ image_of (older_state o)
+    pub convert_same : convert_image o l ≡ image_of (older_state o)
     unfolding convert_image
-    convert-same = rw (good) (written_over l (older_state o) long)
+    convert_same = rw (good) (written_over l (older_state o) long)
 
     -- So they are an image, and tell that state.
-    pub convert-good : is_image (convert_image o l) ≡ true
-    convert-good = ap is_image convert-same ∙ has-image (older_state o) (tells-such o bytes good)
+    pub convert_good : is_image (convert_image o l) ≡ true
+    convert_good = ap is_image convert_same ∙ has_image_lem (older_state o) (tells_such o bytes good)
 
-    pub convert-tells : state_of (convert_image o l) ≡ older_state o
-    convert-tells = ap state_of convert-same ∙ comes_back (older_state o) (tells-such o bytes good)
+    pub convert_tells : state_of (convert_image o l) ≡ older_state o
+    convert_tells = ap state_of convert_same ∙ comes_back (older_state o) (tells_such o bytes good)
 
 -- Both new tallies read 0 in every channel.
 module _ (o l : List ℕ) (bytes : Bytes o) (good : is_older o ≡ true) (long : length l ≡ places.length) (k : ℕ) (channel : k < 4) where
-  pub none-planted : tally_answer (convert_image o l) k 5 ≡ 0
+  pub none_planted_lem : tally_answer (convert_image o l) k 5 ≡ 0
   unfolding tally_answer counter_numbered
-  none-planted =
-      rw (convert-good o l bytes good long, convert-tells o l bytes good long, le-ltb last_channel k (omega (arith, channel)), ((older.from-before o).1 _ _).0)
+  none_planted_lem =
+      rw (convert_good o l bytes good long, convert_tells o l bytes good long, le-ltb last_channel k (omega (arith, channel)), ((older.from_before o).1 _ _).0)
 
-  pub none-struck : tally_answer (convert_image o l) k 6 ≡ 0
+  pub none_struck_lem : tally_answer (convert_image o l) k 6 ≡ 0
   unfolding tally_answer counter_numbered
-  none-struck =
-      rw (convert-good o l bytes good long, convert-tells o l bytes good long, le-ltb last_channel k (omega (arith, channel)), ((older.from-before o).1 _ _).1)
+  none_struck_lem =
+      rw (convert_good o l bytes good long, convert_tells o l bytes good long, le-ltb last_channel k (omega (arith, channel)), ((older.from_before o).1 _ _).1)
 
 -- Of every state of the older edition with an image, in which nothing was planted or struck, the older image becomes the image.
-pub brought-over : (c : Chip) (l : List ℕ) → has_image c ≡ true → FromBefore c → length l ≡ places.length → convert_image (older_of c) l ≡ image_of c
+pub brought_over : (c : Chip) (l : List ℕ) → has_image c ≡ true → FromBefore c → length l ≡ places.length → convert_image (older_of c) l ≡ image_of c
 unfolding convert_image
-brought-over c l has before long =
-    rw (older-where c before.0, has, written_over l (older_state (older_of c)) long) (ap image_of (older.comes_back c before))
+brought_over c l has before long =
+    rw (older_where c before.0, has, written_over l (older_state (older_of c)) long) (ap image_of (older.comes_back c before))
 
 -- An older image is no image, for its length: every call that asks for an image answers it with 8.
-pub no-image : (o : List ℕ) → is_older o ≡ true → is_image o ≡ false
+pub no_image : (o : List ℕ) → is_older o ≡ true → is_image o ≡ false
 unfolding is_image
-no-image o good = rw (ne_eqb (length o) places.length (λ e. omega (arith, e, is_long o good)))
+no_image o good = rw (ne_eqb (length o) places.length (λ e. omega (arith, e, is_long o good)))

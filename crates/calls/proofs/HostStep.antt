@@ -9,21 +9,21 @@ use borrow.Author.Tests.{eqb-false}
 use Rattle.chip.specs.declared.Chip.{Chip}
 use Rattle.chip.specs.Step.{Stepped}
 use Rattle.chip.specs.Step.{step_of}
-use Rattle.chip.proofs.Outcome.{step-refuses, step-number}
+use Rattle.chip.proofs.Outcome.{step_refuses, step_number}
 use Rattle.image.specs.Layout.{image_of}
 use Rattle.image.specs.Loaded.{state_of}
 use Rattle.image.specs.Good.{is_image, Bytes}
-use Rattle.image.proofs.SameBytes.{same-bytes}
+use Rattle.image.proofs.SameBytes.{same_bytes_lem}
 use Rattle.calls.specs.Calls.{packed, step_answer, step_image}
 
 module _ (l : List ℕ) (k x d : ℕ) where
   -- The same number and the same byte.
-  pub host-answer : is_image l ≡ true → step_answer l k x d ≡ packed (step_of (state_of l) k x d).number (step_of (state_of l) k x d).byte 0
+  pub host_answer : is_image l ≡ true → step_answer l k x d ≡ packed (step_of (state_of l) k x d).number (step_of (state_of l) k x d).byte 0
   unfolding step_answer
-  host-answer good = rw (good)
+  host_answer good = rw (good)
 
   stays : ¬ ((step_of (state_of l) k x d).number ≡ 0) → (step_of (state_of l) k x d).chip ≡ state_of l
-  stays h = ap (λ (r : Stepped). r.chip) (step-refuses (state_of l) k x d (λ e. h (step-number (state_of l) k x d ∙ e)))
+  stays h = ap (λ (r : Stepped). r.chip) (step_refuses (state_of l) k x d (λ e. h (step_number (state_of l) k x d ∙ e)))
 
   -- What is so of the image of the state after an accepted event, and of the bytes and their own state where the event is refused, is so of
   -- what the call leaves and the state after.
@@ -39,8 +39,8 @@ module _ (l : List ℕ) (k x d : ℕ) where
       go false refused = subst (P l) (sym (stays (eqb-false _ _ refused))) before
 
   -- Decode, step, encode: a refusal, which writes nothing, leaves the same bytes.
-  pub host-step : Bytes l → is_image l ≡ true → step_image l k x d ≡ image_of (step_of (state_of l) k x d).chip
-  host-step bytes good = by_number (λ m c. m ≡ image_of c) good refl (sym (same-bytes l bytes good))
+  pub host_step : Bytes l → is_image l ≡ true → step_image l k x d ≡ image_of (step_of (state_of l) k x d).chip
+  host_step bytes good = by_number (λ m c. m ≡ image_of c) good refl (sym (same_bytes_lem l bytes good))
 
   -- Bad bytes: number 8, whatever the event, and nothing is written.
   pub bad_answer : is_image l ≡ false → step_answer l k x d ≡ 8

@@ -1,7 +1,7 @@
 -- Why a call gives nothing, and what it answers.
 use Rattle.std.specs.Prelude.{refl, ℕ, ◌*◌, Result, Ok, Err}
 use Rattle.bus.specs.Answers.{refusal_number}
-use Rattle.bus.specs.Never0.{Never0, refusal-never-0}
+use Rattle.bus.specs.Never0.{Never0, refusal_never_0}
 use Rattle.calls.specs.Calls.{no_state, out_of_range}
 use Rattle.calls.specs.declared.refusals.CallRefusal.{CallRefusal}
 use Rattle.calls.specs.declared.refusals.CallRefusal.TheVariants.{NoState, NoEdition, NoSuchKind, Event, OutOfRange}
@@ -14,12 +14,12 @@ call_number NoSuchKind = 1
 call_number (Event r) = refusal_number r
 call_number OutOfRange = out_of_range
 
-pub call-never-0 : Never0 call_number
-call-never-0 NoState = refl
-call-never-0 NoEdition = refl
-call-never-0 NoSuchKind = refl
-call-never-0 (Event r) = refusal-never-0 r
-call-never-0 OutOfRange = refl
+pub call_never_0 : Never0 call_number
+call_never_0 NoState = refl
+call_never_0 NoEdition = refl
+call_never_0 NoSuchKind = refl
+call_never_0 (Event r) = refusal_never_0 r
+call_never_0 OutOfRange = refl
 
 -- What is given stands above the lowest byte, which is then 0; otherwise that byte has the refusal.
 abbrev pub answered : Result ℕ CallRefusal → ℕ

@@ -1,6 +1,6 @@
 //! Why a call gives nothing, and its answer as the one number that C takes.
 ghost use Rattle.std.specs.Prelude.{◌≡◌};
-ghost use Rattle.calls.specs.Answers.{call_number, call-never-0, answered};
+ghost use Rattle.calls.specs.Answers.{call_number, call_never_0, answered};
 ghost use Rattle.calls.specs.declared.refusals.CallRefusal.TheVariants as refusals;
 
 use bus::refusals::{Numbered, Refusal};
@@ -23,7 +23,7 @@ pub(super) enum CallRefusal {
 impl Numbered for CallRefusal {
     ghost number_of = { call_number };
 
-    ghost never_0 = { call-never-0 };
+    ghost never_0 = { call_never_0 };
 
     fn number(&self) -> u8 {
         match self {

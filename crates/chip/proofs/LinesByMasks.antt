@@ -9,13 +9,13 @@ use Rattle.bits.specs.Table.{table}
 use Rattle.bits.specs.Bit.{bit_of, blend_of}
 use Rattle.bits.proofs.Tabled.{table_at}
 use Rattle.bits.proofs.Tested.{bits}
-use Rattle.bits.proofs.BitLaws.{bit-of-value, assembled-same}
-use Rattle.bits.proofs.MaskLaws.{blend-assembled, bit-of-blend}
+use Rattle.bits.proofs.BitLaws.{bit_of_value, assembled_same}
+use Rattle.bits.proofs.MaskLaws.{blend_assembled, bit_of_blend}
 use Rattle.control.specs.declared.Group.TheVariants.{A, B}
 use Rattle.control.specs.Mode.{strobed_input}
 use Rattle.control.specs.Role.{role_of}
 use Rattle.control.specs.Pins.{handshake_pins, output_pins, handshake_role}
-use Rattle.control.proofs.PinByMasks.{sorted, role-by-masks}
+use Rattle.control.proofs.PinByMasks.{sorted, role_by_masks}
 use Rattle.chip.specs.declared.channel.Side.TheVariants.{Input, Output}
 use Rattle.chip.specs.declared.Chip.{Chip}
 use Rattle.chip.specs.Status.{flag_at, intr_of, status_of}
@@ -30,35 +30,35 @@ told : (c : Chip) (taking : Bool)
 told c true = refl
 told c false = refl
 
-bit-of-status : (c : Chip) (n : ℕ) → n < 8 → bit_of (status_of c) n ≡ read_as c n (handshake_role (strobed_input c.core.word B) n)
+bit_of_status : (c : Chip) (n : ℕ) → n < 8 → bit_of (status_of c) n ≡ read_as c n (handshake_role (strobed_input c.core.word B) n)
 unfolding status_of
-bit-of-status c n h =
+bit_of_status c n h =
     let taking = strobed_input c.core.word B in
-    bit-of-value _ n ∙ ap (λ (bs : List Bool). get_or bs n false) (told c taking)
+    bit_of_value _ n ∙ ap (λ (bs : List Bool). get_or bs n false) (told c taking)
     ∙ table_at (λ n. read_as c n (handshake_role taking n)) false 8 n h
 
 -- A pin of either kind, in what it reads and in whether it is driven.
-read-sorted : (c : Chip) (n : ℕ) (used out taking : Bool)
+read_sorted : (c : Chip) (n : ℕ) (used out taking : Bool)
     → read_as c n (sorted used out taking n)
     ≡ cond used (read_as c n (handshake_role taking n)) (cond out (bit_of c.core.c.latch n) (bit_of c.core.c.outside n))
-read-sorted c n true out taking = refl
-read-sorted c n false true taking = refl
-read-sorted c n false false taking = refl
+read_sorted c n true out taking = refl
+read_sorted c n false true taking = refl
+read_sorted c n false false taking = refl
 
-driven-sorted : (used out taking : Bool) (n : ℕ)
+driven_sorted : (used out taking : Bool) (n : ℕ)
     → is_driven (sorted used out taking n) ≡ cond used (is_driven (handshake_role taking n)) out
-driven-sorted true out taking n = refl
-driven-sorted false true taking n = refl
-driven-sorted false false taking n = refl
+driven_sorted true out taking n = refl
+driven_sorted false true taking n = refl
+driven_sorted false false taking n = refl
 
 -- Of the handshakes' pins all but 2, 4 and 6 are driven.
 abbrev pub driven_pins : ℕ
 driven_pins = 0xab
 
-driven-in-handshake : (taking : Bool) (n : ℕ) → n < 8 → is_driven (handshake_role taking n) ≡ bit_of driven_pins n
+driven_in_handshake : (taking : Bool) (n : ℕ) → n < 8 → is_driven (handshake_role taking n) ≡ bit_of driven_pins n
 unfolding bit_of
-driven-in-handshake true = bits 8 (λ n. is_driven (handshake_role true n)) (λ n. bit_of driven_pins n) tt
-driven-in-handshake false = bits 8 (λ n. is_driven (handshake_role false n)) (λ n. bit_of driven_pins n) tt
+driven_in_handshake true = bits 8 (λ n. is_driven (handshake_role true n)) (λ n. bit_of driven_pins n) tt
+driven_in_handshake false = bits 8 (λ n. is_driven (handshake_role false n)) (λ n. bit_of driven_pins n) tt
 
 module _ (c : Chip) (hw : c.core.word < 256) where
   abbrev used : ℕ → Bool
@@ -79,13 +79,13 @@ module _ (c : Chip) (hw : c.core.word < 256) where
   reads_at : (n : ℕ) → n < 8
       → read_as c n (role_of c.core.word n) ≡ cond (used n) (bit_of (status_of c) n) (cond (out n) (latched n) (outside n))
   reads_at n hn =
-      ap (read_as c n) (role-by-masks c.core.word n hw hn) ∙ read-sorted c n (used n) (out n) taking
-      ∙ ap (λ (s : Bool). cond (used n) s (cond (out n) (latched n) (outside n))) (sym (bit-of-status c n hn))
+      ap (read_as c n) (role_by_masks c.core.word n hw hn) ∙ read_sorted c n (used n) (out n) taking
+      ∙ ap (λ (s : Bool). cond (used n) s (cond (out n) (latched n) (outside n))) (sym (bit_of_status c n hn))
 
-  drives-at : (n : ℕ) → n < 8 → is_driven (role_of c.core.word n) ≡ cond (used n) (bit_of driven_pins n) (out n)
-  drives-at n hn =
-      ap is_driven (role-by-masks c.core.word n hw hn) ∙ driven-sorted (used n) (out n) taking n
-      ∙ ap (λ (d : Bool). cond (used n) d (out n)) (driven-in-handshake taking n hn)
+  drives_at : (n : ℕ) → n < 8 → is_driven (role_of c.core.word n) ≡ cond (used n) (bit_of driven_pins n) (out n)
+  drives_at n hn =
+      ap is_driven (role_by_masks c.core.word n hw hn) ∙ driven_sorted (used n) (out n) taking n
+      ∙ ap (λ (d : Bool). cond (used n) d (out n)) (driven_in_handshake taking n hn)
 
   -- A driven pin shows what is inside, and another what is outside.
   shown : (u d o s l x : Bool) → cond (cond u d o) (cond u s l) x ≡ cond (cond u d o) (cond u s (cond o l x)) x
@@ -94,41 +94,41 @@ module _ (c : Chip) (hw : c.core.word < 256) where
   shown false d false s l x = refl
 
   -- The three bytes of masks.
-  pub lines-by-masks : blend_of (handshake_pins c.core.word) (status_of c)
+  pub lines_by_masks : blend_of (handshake_pins c.core.word) (status_of c)
       (blend_of (output_pins c.core.word) c.core.c.latch c.core.c.outside) ≡ read_lines c
   unfolding read_lines
-  lines-by-masks =
-      blend-assembled (handshake_pins c.core.word) (status_of c) (blend_of (output_pins c.core.word) c.core.c.latch c.core.c.outside)
-      ∙ assembled-same
+  lines_by_masks =
+      blend_assembled (handshake_pins c.core.word) (status_of c) (blend_of (output_pins c.core.word) c.core.c.latch c.core.c.outside)
+      ∙ assembled_same
       (λ n. cond (used n) (bit_of (status_of c) n) (bit_of (blend_of (output_pins c.core.word) c.core.c.latch c.core.c.outside) n))
       (λ n. read_as c n (role_of c.core.word n))
-      (λ n hn. rw (bit-of-blend (output_pins c.core.word) c.core.c.latch c.core.c.outside n hn) (sym (reads_at n hn)))
+      (λ n hn. rw (bit_of_blend (output_pins c.core.word) c.core.c.latch c.core.c.outside n hn) (sym (reads_at n hn)))
 
-  driven-by-masks : blend_of (handshake_pins c.core.word) driven_pins (output_pins c.core.word) ≡ (pins_of_lines c).driven
+  driven_by_masks : blend_of (handshake_pins c.core.word) driven_pins (output_pins c.core.word) ≡ (pins_of_lines c).driven
   unfolding pins_of_lines
-  driven-by-masks =
-      blend-assembled (handshake_pins c.core.word) driven_pins (output_pins c.core.word)
-      ∙ assembled-same (λ n. cond (used n) (bit_of driven_pins n) (out n)) (λ n. is_driven (role_of c.core.word n)) (λ n hn. sym (drives-at n hn))
+  driven_by_masks =
+      blend_assembled (handshake_pins c.core.word) driven_pins (output_pins c.core.word)
+      ∙ assembled_same (λ n. cond (used n) (bit_of driven_pins n) (out n)) (λ n. is_driven (role_of c.core.word n)) (λ n hn. sym (drives_at n hn))
 
-  levels-by-masks : blend_of (blend_of (handshake_pins c.core.word) driven_pins (output_pins c.core.word))
+  levels_by_masks : blend_of (blend_of (handshake_pins c.core.word) driven_pins (output_pins c.core.word))
       (blend_of (handshake_pins c.core.word) (status_of c) c.core.c.latch) c.core.c.outside ≡ (pins_of_lines c).levels
   unfolding pins_of_lines
-  levels-by-masks =
+  levels_by_masks =
       let driven = blend_of (handshake_pins c.core.word) driven_pins (output_pins c.core.word) in
       let inside = blend_of (handshake_pins c.core.word) (status_of c) c.core.c.latch in
-      blend-assembled driven inside c.core.c.outside
-      ∙ assembled-same (λ n. cond (bit_of driven n) (bit_of inside n) (outside n)) (λ n. level_as c n (role_of c.core.word n))
+      blend_assembled driven inside c.core.c.outside
+      ∙ assembled_same (λ n. cond (bit_of driven n) (bit_of inside n) (outside n)) (λ n. level_as c n (role_of c.core.word n))
       (λ n hn. rw (
-        bit-of-blend (handshake_pins c.core.word) driven_pins (output_pins c.core.word) n hn,
-        bit-of-blend (handshake_pins c.core.word) (status_of c) c.core.c.latch n hn,
-        drives-at n hn,
+        bit_of_blend (handshake_pins c.core.word) driven_pins (output_pins c.core.word) n hn,
+        bit_of_blend (handshake_pins c.core.word) (status_of c) c.core.c.latch n hn,
+        drives_at n hn,
         reads_at n hn,
       )
       (shown (used n) (bit_of driven_pins n) (out n) (bit_of (status_of c) n) (latched n) (outside n)))
 
-  pub pins-by-masks : record {
+  pub pins_by_masks : record {
     levels = blend_of (blend_of (handshake_pins c.core.word) driven_pins (output_pins c.core.word))
         (blend_of (handshake_pins c.core.word) (status_of c) c.core.c.latch) c.core.c.outside;
     driven = blend_of (handshake_pins c.core.word) driven_pins (output_pins c.core.word);
   } ≡ pins_of_lines c
-  pins-by-masks = ap₂ (λ (l d : ℕ). record { levels = l; driven = d }) levels-by-masks driven-by-masks
+  pins_by_masks = ap₂ (λ (l d : ℕ). record { levels = l; driven = d }) levels_by_masks driven_by_masks

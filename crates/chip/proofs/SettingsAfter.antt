@@ -13,49 +13,49 @@ use Rattle.chip.specs.Moves.{after_clear, after_force}
 use Rattle.chip.specs.declared.Core.{Core}
 use Rattle.chip.specs.State.{port_of, channel_of}
 use Rattle.chip.specs.Handshakes.{enable_of, group_at}
-use Rattle.chip.proofs.Surrounded.{Surrounded, spares-itself, latch-spares, enables-spare, spared-channel, spared-surrounded}
-use Rattle.chip.proofs.OneChannel.{same_group, one-channel, channel-surrounded}
+use Rattle.chip.proofs.Surrounded.{Surrounded, spares_itself, latch_spares, enables_spare, spared_channel, spared_surrounded}
+use Rattle.chip.proofs.OneChannel.{same_group, one_channel, channel_surrounded}
 use Rattle.chip.specs.ModeWord.{cleared_port, after_mode_word}
 use Rattle.chip.specs.ControlWord.{enabled, set_as, pin_set, after_control_word}
-use Rattle.chip.proofs.Flags.{is_flag_of, flag_at_pin, flag-by-role}
+use Rattle.chip.proofs.Flags.{is_flag_of, flag_at_pin, flag_by_role}
 
 module _ (c : Core) (w : ℕ) where
-  pub mode-word-channel : (g : Group) (s : Side) → channel_of (after_mode_word c w) g s ≡ after_clear (channel_of c g s)
+  pub mode_word_channel : (g : Group) (s : Side) → channel_of (after_mode_word c w) g s ≡ after_clear (channel_of c g s)
   unfolding after_mode_word cleared_port
-  mode-word-channel A Input = refl
-  mode-word-channel A Output = refl
-  mode-word-channel B Input = refl
-  mode-word-channel B Output = refl
+  mode_word_channel A Input = refl
+  mode_word_channel A Output = refl
+  mode_word_channel B Input = refl
+  mode_word_channel B Output = refl
 
-  pub mode-word-word : (after_mode_word c w).word ≡ w
+  pub mode_word_word : (after_mode_word c w).word ≡ w
   unfolding after_mode_word
-  mode-word-word = refl
+  mode_word_word = refl
 
-  pub mode-word-ports : (g : Group) → (port_of (after_mode_word c w) g).outside ≡ (port_of c g).outside
+  pub mode_word_ports : (g : Group) → (port_of (after_mode_word c w) g).outside ≡ (port_of c g).outside
   unfolding after_mode_word cleared_port
-  mode-word-ports A = refl
-  mode-word-ports B = refl
+  mode_word_ports A = refl
+  mode_word_ports B = refl
 
-  pub mode-word-lines : (after_mode_word c w).c.outside ≡ c.c.outside
+  pub mode_word_lines : (after_mode_word c w).c.outside ≡ c.c.outside
   unfolding after_mode_word
-  mode-word-lines = refl
+  mode_word_lines = refl
 
   -- Port C's latch is wiped too.
-  pub mode-word-latch : (after_mode_word c w).c.latch ≡ 0
+  pub mode_word_latch : (after_mode_word c w).c.latch ≡ 0
   unfolding after_mode_word
-  mode-word-latch = refl
+  mode_word_latch = refl
 
   -- And so are the enables.
-  pub mode-word-enable : (g : Group) (s : Side) → enable_of (after_mode_word c w).inte g s ≡ false
+  pub mode_word_enable : (g : Group) (s : Side) → enable_of (after_mode_word c w).inte g s ≡ false
   unfolding after_mode_word
-  mode-word-enable A Input = refl
-  mode-word-enable A Output = refl
-  mode-word-enable B s = refl
+  mode_word_enable A Input = refl
+  mode_word_enable A Output = refl
+  mode_word_enable B s = refl
 
 -- A word with bit 7 set makes the chip anew.
-pub mode-word : (c : Core) (d : ℕ) → bit_of d 7 ≡ true → after_control_word c d ≡ after_mode_word c d
+pub mode_word_lem : (c : Core) (d : ℕ) → bit_of d 7 ≡ true → after_control_word c d ≡ after_mode_word c d
 unfolding after_control_word control_of
-mode-word c d seven = rw (seven)
+mode_word_lem c d seven = rw (seven)
 
 -- What bit set/reset of pin n to v leaves: only a channel whose flag that pin is can have changed, and it is forced; mode word and levels
 -- outside stay. Here alone it reaches the channels.
@@ -70,42 +70,42 @@ module _ (c : Core) (n : ℕ) (v : Bool) where
   abbrev Forced : Role → Group → Side → Type 0
   Forced r g s = channel_of (set_as c n v r) g s ≡ cond (is_flag_of g s n r) (after_force s v (channel_of c g s)) (channel_of c g s)
 
-  set-channel : (r : Role) (g : Group) (s : Side) → Forced r g s
-  set-channel input g Input = refl
-  set-channel input g Output = refl
-  set-channel output g Input = spared-channel (latch-spares c (with_bit c.c.latch n v)) g Input
-  set-channel output g Output = spared-channel (latch-spares c (with_bit c.c.latch n v)) g Output
-  set-channel INTR g Input = refl
-  set-channel INTR g Output = refl
-  set-channel IBF g Input = rw (one-channel c (λ s. after_force s v) (group_at n) g Input Input, and-true (same_group (group_at n) g))
-  set-channel IBF g Output = rw (one-channel c (λ s. after_force s v) (group_at n) g Input Output, and-false (same_group (group_at n) g))
-  set-channel OBF g Input = rw (one-channel c (λ s. after_force s v) (group_at n) g Output Input, and-false (same_group (group_at n) g))
-  set-channel OBF g Output = rw (one-channel c (λ s. after_force s v) (group_at n) g Output Output, and-true (same_group (group_at n) g))
-  set-channel STB g Input = spared-channel (enables-spare c (enabled c.inte (group_at n) Input v)) g Input
-  set-channel STB g Output = spared-channel (enables-spare c (enabled c.inte (group_at n) Input v)) g Output
-  set-channel ACK g Input = spared-channel (enables-spare c (enabled c.inte (group_at n) Output v)) g Input
-  set-channel ACK g Output = spared-channel (enables-spare c (enabled c.inte (group_at n) Output v)) g Output
+  set_channel : (r : Role) (g : Group) (s : Side) → Forced r g s
+  set_channel input g Input = refl
+  set_channel input g Output = refl
+  set_channel output g Input = spared_channel (latch_spares c (with_bit c.c.latch n v)) g Input
+  set_channel output g Output = spared_channel (latch_spares c (with_bit c.c.latch n v)) g Output
+  set_channel INTR g Input = refl
+  set_channel INTR g Output = refl
+  set_channel IBF g Input = rw (one_channel c (λ s. after_force s v) (group_at n) g Input Input, and-true (same_group (group_at n) g))
+  set_channel IBF g Output = rw (one_channel c (λ s. after_force s v) (group_at n) g Input Output, and-false (same_group (group_at n) g))
+  set_channel OBF g Input = rw (one_channel c (λ s. after_force s v) (group_at n) g Output Input, and-false (same_group (group_at n) g))
+  set_channel OBF g Output = rw (one_channel c (λ s. after_force s v) (group_at n) g Output Output, and-true (same_group (group_at n) g))
+  set_channel STB g Input = spared_channel (enables_spare c (enabled c.inte (group_at n) Input v)) g Input
+  set_channel STB g Output = spared_channel (enables_spare c (enabled c.inte (group_at n) Input v)) g Output
+  set_channel ACK g Input = spared_channel (enables_spare c (enabled c.inte (group_at n) Output v)) g Input
+  set_channel ACK g Output = spared_channel (enables_spare c (enabled c.inte (group_at n) Output v)) g Output
 
-  set-surrounded : (r : Role) → Surrounded (set_as c n v r) c
-  set-surrounded input = spared-surrounded (spares-itself c)
-  set-surrounded output = spared-surrounded (latch-spares c _)
-  set-surrounded INTR = spared-surrounded (spares-itself c)
-  set-surrounded IBF = channel-surrounded c (λ s. after_force s v) (group_at n) Input
-  set-surrounded OBF = channel-surrounded c (λ s. after_force s v) (group_at n) Output
-  set-surrounded STB = spared-surrounded (enables-spare c _)
-  set-surrounded ACK = spared-surrounded (enables-spare c _)
+  set_surrounded : (r : Role) → Surrounded (set_as c n v r) c
+  set_surrounded input = spared_surrounded (spares_itself c)
+  set_surrounded output = spared_surrounded (latch_spares c _)
+  set_surrounded INTR = spared_surrounded (spares_itself c)
+  set_surrounded IBF = channel_surrounded c (λ s. after_force s v) (group_at n) Input
+  set_surrounded OBF = channel_surrounded c (λ s. after_force s v) (group_at n) Output
+  set_surrounded STB = spared_surrounded (enables_spare c _)
+  set_surrounded ACK = spared_surrounded (enables_spare c _)
 
-  pub pin-put : n < 8 → PinPut (pin_set c n v) c n v
+  pub pin_put : n < 8 → PinPut (pin_set c n v) c n v
   unfolding pin_set
-  pin-put below = record {
-    surroundings = set-surrounded (role_of c.word n);
-    channel = λ g s. set-channel (role_of c.word n) g s
-        ∙ ap (λ (on : Bool). cond on (after_force s v (channel_of c g s)) (channel_of c g s)) (flag-by-role c.word n below g s);
+  pin_put below = record {
+    surroundings = set_surrounded (role_of c.word n);
+    channel = λ g s. set_channel (role_of c.word n) g s
+        ∙ ap (λ (on : Bool). cond on (after_force s v (channel_of c g s)) (channel_of c g s)) (flag_by_role c.word n below g s);
   }
 
-pub bit-word : (c : Core) (d : ℕ) → bit_of d 7 ≡ false → after_control_word c d ≡ pin_set c (d / 2 % 8) (bit_of d 0)
+pub bit_word_lem : (c : Core) (d : ℕ) → bit_of d 7 ≡ false → after_control_word c d ≡ pin_set c (d / 2 % 8) (bit_of d 0)
 unfolding after_control_word control_of
-bit-word c d seven = rw (seven)
+bit_word_lem c d seven = rw (seven)
 
-pub bit-put : (c : Core) (d : ℕ) → bit_of d 7 ≡ false → PinPut (after_control_word c d) c (d / 2 % 8) (bit_of d 0)
-bit-put c d seven = rw (bit-word c d seven) (pin-put c (d / 2 % 8) (bit_of d 0) (omega arith))
+pub bit_put : (c : Core) (d : ℕ) → bit_of d 7 ≡ false → PinPut (after_control_word c d) c (d / 2 % 8) (bit_of d 0)
+bit_put c d seven = rw (bit_word_lem c d seven) (pin_put c (d / 2 % 8) (bit_of d 0) (omega arith))

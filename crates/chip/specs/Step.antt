@@ -60,12 +60,12 @@ device = record {
   after_end = λ r ph. with_core r (after_end r.core ph);
   after_levels = λ r x d. with_core r (after_levels r.core x d);
   answer = read_of;
-  phase-on = λ ph r. refl;
-  rest-on = λ ph r. refl;
-  reset-limits = λ r. refl;
-  begin-limits = λ r x. refl;
-  end-limits = λ r ph. refl;
-  levels-limits = λ r x d. refl;
+  phase_on = λ ph r. refl;
+  rest_on = λ ph r. refl;
+  reset_limits = λ r. refl;
+  begin_limits = λ r x. refl;
+  end_limits = λ r ph. refl;
+  levels_limits = λ r x d. refl;
 }
 
 -- What an event gives: the chip, the number and the byte.

@@ -12,38 +12,38 @@ use Rattle.control.specs.declared.Group.TheVariants.{A, B}
 use Rattle.control.specs.Mode.{mode_of, input_of, strobed_input, strobed_output}
 
 -- Group A's mode by two bits, and what is strobed in it where the direction is d.
-by-two-bits : (w low high : ℕ) → w / 32 % 4 ≡ low + 2 * high → low < 2 → high < 2 → (d : Bool)
+by_two_bits : (w low high : ℕ) → w / 32 % 4 ≡ low + 2 * high → low < 2 → high < 2 → (d : Bool)
     → (eqb (mode_of w A) 2 || (eqb (mode_of w A) 1 && d)) ≡ (eqb high 1 || (eqb low 1 && d))
 unfolding mode_of
-by-two-bits w zero zero e l h d = rw (e)
-by-two-bits w (suc zero) zero e l h d = rw (e)
-by-two-bits w zero (suc zero) e l h d = rw (e)
-by-two-bits w (suc zero) (suc zero) e l h d = rw (e)
-by-two-bits w zero (suc (suc high)) e l h d = absurd (omega (arith, h))
-by-two-bits w (suc zero) (suc (suc high)) e l h d = absurd (omega (arith, h))
-by-two-bits w (suc (suc low)) high e l h d = absurd (omega (arith, l))
+by_two_bits w zero zero e l h d = rw (e)
+by_two_bits w (suc zero) zero e l h d = rw (e)
+by_two_bits w zero (suc zero) e l h d = rw (e)
+by_two_bits w (suc zero) (suc zero) e l h d = rw (e)
+by_two_bits w zero (suc (suc high)) e l h d = absurd (omega (arith, h))
+by_two_bits w (suc zero) (suc (suc high)) e l h d = absurd (omega (arith, h))
+by_two_bits w (suc (suc low)) high e l h d = absurd (omega (arith, l))
 
-of-a : (w : ℕ) (d : Bool) → (eqb (mode_of w A) 2 || (eqb (mode_of w A) 1 && d)) ≡ (bit_of w 6 || (bit_of w 5 && d))
+of_a : (w : ℕ) (d : Bool) → (eqb (mode_of w A) 2 || (eqb (mode_of w A) 1 && d)) ≡ (bit_of w 6 || (bit_of w 5 && d))
 unfolding bit_of
-of-a w d = by-two-bits w (w / 32 % 2) (w / 64 % 2) (omega arith) (omega arith) (omega arith) d
+of_a w d = by_two_bits w (w / 32 % 2) (w / 64 % 2) (omega arith) (omega arith) (omega arith) d
 
 -- Group B's mode is one bit, and so never 2.
-of-b : (w : ℕ) (d : Bool) → (eqb (mode_of w B) 2 || (eqb (mode_of w B) 1 && d)) ≡ (bit_of w 2 && d)
+of_b : (w : ℕ) (d : Bool) → (eqb (mode_of w B) 2 || (eqb (mode_of w B) 1 && d)) ≡ (bit_of w 2 && d)
 unfolding mode_of bit_of
-of-b w d = rw (ne_eqb (w / 4 % 2) 2 (λ e. omega (arith, e)))
+of_b w d = rw (ne_eqb (w / 4 % 2) 2 (λ e. omega (arith, e)))
 
-pub a-takes : (w : ℕ) → strobed_input w A ≡ (bit_of w 6 || (bit_of w 5 && bit_of w 4))
+pub a_takes : (w : ℕ) → strobed_input w A ≡ (bit_of w 6 || (bit_of w 5 && bit_of w 4))
 unfolding strobed_input input_of
-a-takes w = of-a w (bit_of w 4)
+a_takes w = of_a w (bit_of w 4)
 
-pub a-gives : (w : ℕ) → strobed_output w A ≡ (bit_of w 6 || (bit_of w 5 && not (bit_of w 4)))
+pub a_gives : (w : ℕ) → strobed_output w A ≡ (bit_of w 6 || (bit_of w 5 && not (bit_of w 4)))
 unfolding strobed_output input_of
-a-gives w = of-a w (not (bit_of w 4))
+a_gives w = of_a w (not (bit_of w 4))
 
-pub b-takes : (w : ℕ) → strobed_input w B ≡ (bit_of w 2 && bit_of w 1)
+pub b_takes : (w : ℕ) → strobed_input w B ≡ (bit_of w 2 && bit_of w 1)
 unfolding strobed_input input_of
-b-takes w = of-b w (bit_of w 1)
+b_takes w = of_b w (bit_of w 1)
 
-pub b-gives : (w : ℕ) → strobed_output w B ≡ (bit_of w 2 && not (bit_of w 1))
+pub b_gives : (w : ℕ) → strobed_output w B ≡ (bit_of w 2 && not (bit_of w 1))
 unfolding strobed_output input_of
-b-gives w = of-b w (not (bit_of w 1))
+b_gives w = of_b w (not (bit_of w 1))

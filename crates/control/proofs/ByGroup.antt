@@ -17,9 +17,9 @@ abbrev pub two_or_under : ℕ → ℕ → ℕ → Bool
 two_or_under mask value w = under 0x40 0x40 w || under mask value w
 
 module _ (d : ℕ → Group → Bool) (mask value : ℕ) where
-  pub asked-of-a : T (all 256 (λ w. same (two_or_under mask value w) (d w A)))
+  pub asked_of_a : T (all 256 (λ w. same (two_or_under mask value w) (d w A)))
       → (w : ℕ) (group : Group) → w < 256 → group ≡ A → two_or_under mask value w ≡ d w group
-  asked-of-a t w group h e = bits 256 (two_or_under mask value) (λ w. d w A) t w h ∙ ap (d w) (sym e)
+  asked_of_a t w group h e = bits 256 (two_or_under mask value) (λ w. d w A) t w h ∙ ap (d w) (sym e)
 
-  pub asked-of-b : T (all 256 (λ w. same (under mask value w) (d w B))) → (w : ℕ) (group : Group) → w < 256 → group ≡ B → under mask value w ≡ d w group
-  asked-of-b t w group h e = bits 256 (under mask value) (λ w. d w B) t w h ∙ ap (d w) (sym e)
+  pub asked_of_b : T (all 256 (λ w. same (under mask value w) (d w B))) → (w : ℕ) (group : Group) → w < 256 → group ≡ B → under mask value w ≡ d w group
+  asked_of_b t w group h e = bits 256 (under mask value) (λ w. d w B) t w h ∙ ap (d w) (sym e)

@@ -11,6 +11,6 @@ pub record BothWays (w : ℕ) (g : Group) : Type 0 where
   pub giving : strobed_output w g ≡ true
   pub storing : output_of w g ≡ true
 
-pub mode-2-both-ways : (w : ℕ) (g : Group) → mode_of w g ≡ 2 → BothWays w g
+pub mode_2_both_ways : (w : ℕ) (g : Group) → mode_of w g ≡ 2 → BothWays w g
 unfolding strobed_input strobed_output output_of
-mode-2-both-ways w g two = record { taking = rw two; giving = rw two; storing = rw two }
+mode_2_both_ways w g two = record { taking = rw two; giving = rw two; storing = rw two }

@@ -6,8 +6,8 @@ use mathlib.Core.List.{[], ◌∷◌}
 use Prim.Native.Nat.{ℕ, ◌<◌}
 use lib.ListN.{get_or}
 use Rattle.bits.specs.Bit.{bit_of}
-use Rattle.bits.proofs.Tested.{numbers-of-two}
-use Rattle.bits.proofs.BitLaws.{bit-of-assembled}
+use Rattle.bits.proofs.Tested.{numbers_of_two}
+use Rattle.bits.proofs.BitLaws.{bit_of_assembled}
 use Rattle.control.specs.declared.Group.TheVariants.{B}
 use Rattle.control.specs.Mode.{mode_of, input_of, upper_input, lower_input, strobed_input}
 use Rattle.control.specs.Role.{Role, input, output, INTR, IBF, OBF, STB, ACK, number, uses_of, free_role, role_of}
@@ -17,38 +17,38 @@ use Rattle.control.specs.Pins.{is_handshake, is_output, handshake_pins, output_p
 abbrev numbered : ℕ → Role
 numbered k = get_or (input ∷ output ∷ INTR ∷ IBF ∷ OBF ∷ STB ∷ ACK ∷ []) k input
 
-numbered-back : (r : Role) → numbered (number r) ≡ r
-numbered-back input = refl
-numbered-back output = refl
-numbered-back INTR = refl
-numbered-back IBF = refl
-numbered-back OBF = refl
-numbered-back STB = refl
-numbered-back ACK = refl
+numbered_back : (r : Role) → numbered (number r) ≡ r
+numbered_back input = refl
+numbered_back output = refl
+numbered_back INTR = refl
+numbered_back IBF = refl
+numbered_back OBF = refl
+numbered_back STB = refl
+numbered_back ACK = refl
 
-pub number-one : (r s : Role) → number r ≡ number s → r ≡ s
-number-one r s e = sym (numbered-back r) ∙ ap numbered e ∙ numbered-back s
+pub number_one : (r s : Role) → number r ≡ number s → r ≡ s
+number_one r s e = sym (numbered_back r) ∙ ap numbered e ∙ numbered_back s
 
 -- A pin in its handshake's role, or free.
 abbrev pub sorted : Bool → Bool → Bool → ℕ → Role
 sorted used out taking n = cond used (handshake_role taking n) (cond out output input)
 
-sorted-by-role : (w n : ℕ) → w < 256 → n < 8 → role_of w n ≡ sorted (is_handshake (role_of w n)) (is_output (role_of w n)) (strobed_input w B) n
+sorted_by_role : (w n : ℕ) → w < 256 → n < 8 → role_of w n ≡ sorted (is_handshake (role_of w n)) (is_output (role_of w n)) (strobed_input w B) n
 unfolding role_of uses_of free_role strobed_input mode_of input_of upper_input lower_input bit_of
-sorted-by-role w n hw hn =
-    number-one (role_of w n) (sorted (is_handshake (role_of w n)) (is_output (role_of w n)) (strobed_input w B) n)
-    (numbers-of-two 256 8 (λ w n. number (role_of w n))
+sorted_by_role w n hw hn =
+    number_one (role_of w n) (sorted (is_handshake (role_of w n)) (is_output (role_of w n)) (strobed_input w B) n)
+    (numbers_of_two 256 8 (λ w n. number (role_of w n))
     (λ w n. number (sorted (is_handshake (role_of w n)) (is_output (role_of w n)) (strobed_input w B) n)) tt w n hw hn)
 
 -- What the masks say of a pin.
-pub bit-of-handshake : (w n : ℕ) → n < 8 → bit_of (handshake_pins w) n ≡ is_handshake (role_of w n)
+pub bit_of_handshake : (w n : ℕ) → n < 8 → bit_of (handshake_pins w) n ≡ is_handshake (role_of w n)
 unfolding handshake_pins
-bit-of-handshake w = bit-of-assembled (λ n. is_handshake (role_of w n))
+bit_of_handshake w = bit_of_assembled (λ n. is_handshake (role_of w n))
 
-pub bit-of-outputs : (w n : ℕ) → n < 8 → bit_of (output_pins w) n ≡ is_output (role_of w n)
+pub bit_of_outputs : (w n : ℕ) → n < 8 → bit_of (output_pins w) n ≡ is_output (role_of w n)
 unfolding output_pins
-bit-of-outputs w = bit-of-assembled (λ n. is_output (role_of w n))
+bit_of_outputs w = bit_of_assembled (λ n. is_output (role_of w n))
 
-pub role-by-masks : (w n : ℕ) → w < 256 → n < 8
+pub role_by_masks : (w n : ℕ) → w < 256 → n < 8
     → role_of w n ≡ sorted (bit_of (handshake_pins w) n) (bit_of (output_pins w) n) (strobed_input w B) n
-role-by-masks w n hw hn = rw (bit-of-handshake w n hn, bit-of-outputs w n hn) (sorted-by-role w n hw hn)
+role_by_masks w n hw hn = rw (bit_of_handshake w n hn, bit_of_outputs w n hn) (sorted_by_role w n hw hn)

@@ -17,6 +17,6 @@ below : (mode : Bool) (d : ℕ) → pin_of (cond mode (Mode d) (Bit (d / 2 % 8) 
 below true d = omega arith
 below false d = omega arith
 
-pub pin-named : (d n : ℕ) (v : Bool) → control_of d ≡ Bit n v → n < 8
+pub pin_named_lem : (d n : ℕ) (v : Bool) → control_of d ≡ Bit n v → n < 8
 unfolding control_of
-pin-named d n v e = subst (λ (k : ℕ). k < 8) (ap pin_of e) (below (bit_of d 7) d)
+pin_named_lem d n v e = subst (λ (k : ℕ). k < 8) (ap pin_of e) (below (bit_of d 7) d)

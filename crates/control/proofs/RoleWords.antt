@@ -11,5 +11,5 @@ pub same_roles : {v w : ℕ} → SayTheSame v w → (n : ℕ) → role_of v n �
 unfolding role_of uses_of free_role
 same_roles same n = rw (same.mode A, same.mode B, same.input A, same.input B, same.upper, same.lower)
 
-pub role-as-byte : (w n : ℕ) → role_of (w % 256) n ≡ role_of w n
-role-as-byte w = same_roles (as_byte w)
+pub role_as_byte : (w n : ℕ) → role_of (w % 256) n ≡ role_of w n
+role_as_byte w = same_roles (as_byte w)

@@ -12,10 +12,10 @@ pub record SayTheSame (v w : ℕ) : Type 0 where
   pub lower : lower_input v ≡ lower_input w
 
 -- They strobe the same ports.
-pub same-taking : {v w : ℕ} → SayTheSame v w → (g : Group) → strobed_input v g ≡ strobed_input w g
+pub same_taking : {v w : ℕ} → SayTheSame v w → (g : Group) → strobed_input v g ≡ strobed_input w g
 unfolding strobed_input
-same-taking same g = rw (same.mode g, same.input g)
+same_taking same g = rw (same.mode g, same.input g)
 
-pub same-giving : {v w : ℕ} → SayTheSame v w → (g : Group) → strobed_output v g ≡ strobed_output w g
+pub same_giving : {v w : ℕ} → SayTheSame v w → (g : Group) → strobed_output v g ≡ strobed_output w g
 unfolding strobed_output
-same-giving same g = rw (same.mode g, same.input g)
+same_giving same g = rw (same.mode g, same.input g)

@@ -14,38 +14,38 @@ use Rattle.control.specs.declared.Group.TheVariants.{A, B}
 use Rattle.control.specs.Mode.{mode_of, input_of, strobed_input, strobed_output, output_of}
 use Rattle.control.proofs.AsByte.{as_byte}
 
-pub mode-below-3 : (w : ℕ) (g : Group) → mode_of w g < 3
+pub mode_below_3 : (w : ℕ) (g : Group) → mode_of w g < 3
 unfolding mode_of
-mode-below-3 w g = rw (← (as_byte w).mode g) (ltb-true _ _ (of-byte g (w % 256) (omega arith)))
+mode_below_3 w g = rw (← (as_byte w).mode g) (ltb-true _ _ (of_byte_lem g (w % 256) (omega arith)))
   where
-    of-byte : (g : Group) (w : ℕ) → w < 256 → ltb (mode_of w g) 3 ≡ true
-    of-byte A = bits 256 (λ w. ltb (mode_of w A) 3) (λ w. true) tt
-    of-byte B = bits 256 (λ w. ltb (mode_of w B) 3) (λ w. true) tt
+    of_byte_lem : (g : Group) (w : ℕ) → w < 256 → ltb (mode_of w g) 3 ≡ true
+    of_byte_lem A = bits 256 (λ w. ltb (mode_of w A) 3) (λ w. true) tt
+    of_byte_lem B = bits 256 (λ w. ltb (mode_of w B) 3) (λ w. true) tt
 
-pub mode-0-takes : (w : ℕ) (g : Group) → mode_of w g ≡ 0 → strobed_input w g ≡ false
+pub mode_0_takes : (w : ℕ) (g : Group) → mode_of w g ≡ 0 → strobed_input w g ≡ false
 unfolding strobed_input
-mode-0-takes w g zero = rw zero
+mode_0_takes w g zero = rw zero
 
-pub mode-0-gives : (w : ℕ) (g : Group) → mode_of w g ≡ 0 → strobed_output w g ≡ false
+pub mode_0_gives : (w : ℕ) (g : Group) → mode_of w g ≡ 0 → strobed_output w g ≡ false
 unfolding strobed_output
-mode-0-gives w g zero = rw zero
+mode_0_gives w g zero = rw zero
 
-pub mode-1-takes : (w : ℕ) (g : Group) → mode_of w g ≡ 1 → strobed_input w g ≡ input_of w g
+pub mode_1_takes : (w : ℕ) (g : Group) → mode_of w g ≡ 1 → strobed_input w g ≡ input_of w g
 unfolding strobed_input
-mode-1-takes w g one = rw one
+mode_1_takes w g one = rw one
 
-pub mode-1-gives : (w : ℕ) (g : Group) → mode_of w g ≡ 1 → strobed_output w g ≡ not (input_of w g)
+pub mode_1_gives : (w : ℕ) (g : Group) → mode_of w g ≡ 1 → strobed_output w g ≡ not (input_of w g)
 unfolding strobed_output
-mode-1-gives w g one = rw one
+mode_1_gives w g one = rw one
 
 -- But for mode 2 a port is an output by its direction.
-pub output-by-direction : (w : ℕ) (g : Group) → ¬ (mode_of w g ≡ 2) → output_of w g ≡ not (input_of w g)
+pub output_by_direction : (w : ℕ) (g : Group) → ¬ (mode_of w g ≡ 2) → output_of w g ≡ not (input_of w g)
 unfolding output_of
-output-by-direction w g other = rw (ne_eqb (mode_of w g) 2 other)
+output_by_direction w g other = rw (ne_eqb (mode_of w g) 2 other)
 
-pub giving-is-output : (w : ℕ) (g : Group) → strobed_output w g ≡ true → output_of w g ≡ true
+pub giving_is_output : (w : ℕ) (g : Group) → strobed_output w g ≡ true → output_of w g ≡ true
 unfolding strobed_output output_of
-giving-is-output w g on = go (eqb (mode_of w g) 2) (eqb (mode_of w g) 1) (input_of w g) on
+giving_is_output w g on = go (eqb (mode_of w g) 2) (eqb (mode_of w g) 1) (input_of w g) on
   where
     go : (two one input : Bool) → (two || (one && not input)) ≡ true → (two || not input) ≡ true
     go true one input e = refl

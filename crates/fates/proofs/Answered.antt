@@ -30,30 +30,30 @@ use Rattle.fates.specs.Promise.{Shows, run, tallies}
 use Rattle.fates.specs.Examples.{lost_bale, in_and_written, too_late, bale_tally, before_ack}
 
 -- The lost digit is counted as swallowed.
-pub bale-counted : tallies A Input (power_up_with all_high) lost_bale ≡ bale_tally
+pub bale_counted : tallies A Input (power_up_with all_high) lost_bale ≡ bale_tally
 unfolding bit_of value_of with_bit mode_of input_of upper_input lower_input strobed_input strobed_output output_of control_of uses_of free_role role_of flag_of after_offer after_follow after_hand_over after_end_read after_clear request_of intr_of cleared_port after_mode_word pin_set after_control_word after_read_begins after_read_ends stored_by latch_written after_write_ends fallen edged after_levels_on_c port_after_levels after_levels read_port read_lines read_of drives_port pins_of_port pins_of_lines pins_of number_of is_kind step_of step_in
-bale-counted = refl
+bale_counted = refl
 
 -- The byte written in mode 2 does not show before ACK falls.
-pub not-before : pins_of (run (power_up_with all_high) in_and_written) 0 ≡ before_ack
+pub not_before : pins_of (run (power_up_with all_high) in_and_written) 0 ≡ before_ack
 unfolding bit_of value_of with_bit mode_of input_of upper_input lower_input strobed_input strobed_output output_of control_of uses_of free_role role_of flag_of after_offer after_follow after_hand_over after_end_read after_clear request_of intr_of cleared_port after_mode_word pin_set after_control_word after_read_begins after_read_ends stored_by latch_written after_write_ends fallen edged after_levels_on_c port_after_levels after_levels read_port read_lines read_of drives_port pins_of_port pins_of_lines pins_of number_of is_kind step_of step_in
-not-before = refl
+not_before = refl
 
 -- It shows as ACK falls.
-pub ack-shows : Shows A Output (run (power_up_with all_high) in_and_written) (event 5 2 0xbf) 0x55
+pub ack_shows : Shows A Output (run (power_up_with all_high) in_and_written) (event 5 2 0xbf) 0x55
 unfolding bit_of value_of with_bit mode_of input_of upper_input lower_input strobed_input strobed_output output_of control_of uses_of free_role role_of flag_of after_offer after_follow after_hand_over after_end_read after_clear request_of intr_of cleared_port after_mode_word pin_set after_control_word after_read_begins after_read_ends stored_by latch_written after_write_ends fallen edged after_levels_on_c port_after_levels after_levels read_port read_lines read_of drives_port pins_of_port pins_of_lines pins_of number_of is_kind step_of step_in
-ack-shows = (refl, refl)
+ack_shows = (refl, refl)
 
 -- Levels that came too late to be a byte's are read all the same, by a read that finds none.
-pub late-levels-read : Shows A Input (run (power_up_with all_high) too_late) (event 1 0 0) 0x43
+pub late_levels_read : Shows A Input (run (power_up_with all_high) too_late) (event 1 0 0) 0x43
 unfolding bit_of value_of with_bit mode_of input_of upper_input lower_input strobed_input strobed_output output_of control_of uses_of free_role role_of flag_of after_offer after_follow after_hand_over after_end_read after_clear request_of intr_of cleared_port after_mode_word pin_set after_control_word after_read_begins after_read_ends stored_by latch_written after_write_ends fallen edged after_levels_on_c port_after_levels after_levels read_port read_lines read_of drives_port pins_of_port pins_of_lines pins_of number_of is_kind step_of step_in
-late-levels-read = (refl, refl)
+late_levels_read = (refl, refl)
 
 -- A mode word that finds STB low leaves 00 in the latch, and the levels that stood there already, put once more, go through to it.
-pub zero-at-first : Shows A Input (run (power_up_with (levels_by 0x41 0 0)) (write 3 0xb0)) (event 1 0 0) 0
+pub zero_at_first : Shows A Input (run (power_up_with (levels_by 0x41 0 0)) (write 3 0xb0)) (event 1 0 0) 0
 unfolding bit_of value_of with_bit mode_of input_of upper_input lower_input strobed_input strobed_output output_of control_of uses_of free_role role_of flag_of after_offer after_follow after_hand_over after_end_read after_clear request_of intr_of cleared_port after_mode_word pin_set after_control_word after_read_begins after_read_ends stored_by latch_written after_write_ends fallen edged after_levels_on_c port_after_levels after_levels read_port read_lines read_of drives_port pins_of_port pins_of_lines pins_of number_of is_kind step_of step_in
-zero-at-first = (refl, refl)
+zero_at_first = (refl, refl)
 
-pub same-levels-go-through : Shows A Input (run (power_up_with (levels_by 0x41 0 0)) (write 3 0xb0 ++ levels 0 0x41)) (event 1 0 0) 0x41
+pub same_levels_go_through : Shows A Input (run (power_up_with (levels_by 0x41 0 0)) (write 3 0xb0 ++ levels 0 0x41)) (event 1 0 0) 0x41
 unfolding bit_of value_of with_bit mode_of input_of upper_input lower_input strobed_input strobed_output output_of control_of uses_of free_role role_of flag_of after_offer after_follow after_hand_over after_end_read after_clear request_of intr_of cleared_port after_mode_word pin_set after_control_word after_read_begins after_read_ends stored_by latch_written after_write_ends fallen edged after_levels_on_c port_after_levels after_levels read_port read_lines read_of drives_port pins_of_port pins_of_lines pins_of number_of is_kind step_of step_in
-same-levels-go-through = (refl, refl)
+same_levels_go_through = (refl, refl)

@@ -21,9 +21,9 @@ use Rattle.chip.specs.Pins.{drives_port, pins_of_port, pins_of_lines, pins_of}
 use Rattle.chip.specs.Step.{step_of}
 use Rattle.fates.specs.Asked.{AsksNoMore}
 
-pub asks-no-more : AsksNoMore
+pub asks_no_more : AsksNoMore
 unfolding bit_of value_of with_bit mode_of input_of upper_input lower_input strobed_input strobed_output output_of control_of uses_of free_role role_of flag_of after_offer after_follow after_hand_over after_end_read after_clear request_of intr_of cleared_port after_mode_word pin_set after_control_word after_read_begins after_read_ends stored_by latch_written after_write_ends fallen edged after_levels_on_c port_after_levels after_levels read_port read_lines read_of drives_port pins_of_port pins_of_lines pins_of number_of is_kind step_of step_in
-asks-no-more = record {
+asks_no_more = record {
   ibf_is_high = refl;
   late_levels_kept = (tt, (tt, (tt, (refl, (tt, (tt, (refl, (tt, tt))))))));
   late_bytes = refl;

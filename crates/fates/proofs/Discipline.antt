@@ -14,18 +14,18 @@ use Rattle.chip.specs.declared.channel.Fill.{Fill}
 use Rattle.chip.specs.declared.channel.Fill.TheVariants.{Empty, Waiting, Fetching}
 use Rattle.chip.specs.Channel.{flag_of}
 use Rattle.chip.specs.declared.Chip.{Chip}
-use Rattle.laws.proofs.ChannelPins.{flag-pin}
+use Rattle.laws.proofs.ChannelPins.{flag_pin_lem}
 use Rattle.fates.specs.Surroundings.{surroundings_next}
 use Rattle.fates.specs.Effects.{Effect, offered, followed, taken, ended, cleared_away, forced_full, forced_empty, nothing, strobes}
 use Rattle.fates.specs.Bytes.{Fate, overwritten, swallowed, waiting, Offer, offered_at, same, count}
 use Rattle.fates.specs.Promise.{surroundings_of, new_bytes, old_byte}
 use Rattle.fates.specs.Discipline.{ibf, strobed_read_runs, HasFound, Minds, Disciplined, NoneLost}
-use Rattle.fates.proofs.Tables.{strobes-same}
-use Rattle.fates.proofs.SurroundingsKept.{surroundings-next}
+use Rattle.fates.proofs.Tables.{strobes_same}
+use Rattle.fates.proofs.SurroundingsKept.{surroundings_next_lem}
 use Rattle.fates.proofs.Shapes.{shape_of, fill_after, gives, held_after}
-use Rattle.fates.proofs.Followed.{after, fill, latch, effect_in, shape_in, story_of, next-fill, story-next}
-use Rattle.fates.proofs.Counted.{count-decided, none_yet}
-use Rattle.fates.proofs.ReadsRun.{Reads, reads-next}
+use Rattle.fates.proofs.Followed.{after, fill, latch, effect_in, shape_in, story_of, next_fill, story_next}
+use Rattle.fates.proofs.Counted.{count_decided, none_yet}
+use Rattle.fates.proofs.ReadsRun.{Reads, reads_next}
 
 -- An effect that minds the flag loses no byte, and a read that runs after it has found one.
 record Safe (f : Fill) (r' : Bool) (d : Effect) : Type 0 where
@@ -52,41 +52,41 @@ module _ (level on r r' : Bool) where
 
 module _ (g : Group) where
   -- The IBF pin is the channel's flag where the channel is strobed.
-  flag-shown : (c : Chip) → strobes c.core.word g Input ≡ true → ibf c g ≡ flag_of Input (fill g Input c)
-  flag-shown c on = flag-pin c g Input (sym (strobes-same c.core.word g Input) ∙ on)
+  flag_shown : (c : Chip) → strobes c.core.word g Input ≡ true → ibf c g ≡ flag_of Input (fill g Input c)
+  flag_shown c on = flag_pin_lem c g Input (sym (strobes_same c.core.word g Input) ∙ on)
 
   safe : (c : Chip) (e : Event) → HasFound g c → Minds (ibf c g) (effect_in g Input c e)
       → Safe (fill g Input c) (strobed_read_runs g (surroundings_next (surroundings_of c) e)) (effect_in g Input c e)
   safe c e found =
       minded (ibf c g) (strobes c.core.word g Input) (strobed_read_runs g (surroundings_of c)) (strobed_read_runs g (surroundings_next (surroundings_of c) e))
-      (fill g Input c) (effect_in g Input c e) (flag-shown c) found (reads-next g (surroundings_of c) e)
+      (fill g Input c) (effect_in g Input c e) (flag_shown c) found (reads_next g (surroundings_of c) e)
 
-  pub found-next : (c : Chip) (e : Event) → HasFound g c → Minds (ibf c g) (effect_in g Input c e) → HasFound g (after c e)
-  found-next c e found minds runs =
-      next-fill g Input c e ∙ (safe c e found minds).found (ap (strobed_read_runs g) (sym (surroundings-next c e)) ∙ runs)
+  pub found_next : (c : Chip) (e : Event) → HasFound g c → Minds (ibf c g) (effect_in g Input c e) → HasFound g (after c e)
+  found_next c e found minds runs =
+      next_fill g Input c e ∙ (safe c e found minds).found (ap (strobed_read_runs g) (sym (surroundings_next_lem c e)) ∙ runs)
 
   -- A fate that no event gives under the discipline is met by no byte.
   module _ (f : Fate) (tallied : same f waiting ≡ false)
       (spares : (c : Chip) (e : Event) → HasFound g c → Minds (ibf c g) (effect_in g Input c e) → gives f (fill g Input c) (shape_in g Input c e) ≡ false) where
-    none-lost : (c : Chip) (h : Offer) (n : ℕ) (es : List Event) → HasFound g c → Disciplined g (surroundings_of c) c es
+    none_lost_lem : (c : Chip) (h : Offer) (n : ℕ) (es : List Event) → HasFound g c → Disciplined g (surroundings_of c) c es
         → count f (story_of g Input c h n es) ≡ 0
-    none-lost c h n [] found kept = none_yet f tallied Input (fill g Input c) h n
-    none-lost c h n (e ∷ es) found kept =
+    none_lost_lem c h n [] found kept = none_yet f tallied Input (fill g Input c) h n
+    none_lost_lem c h n (e ∷ es) found kept =
         let d = shape_in g Input c e in
         let next = held_after Input (fill g Input c) h n d in
         let rest = story_of g Input (after c e) next (suc n) es in
-        ap (count f) (story-next g Input c e h n es)
-        ∙ count-decided f tallied (fill g Input c) h n d rest
+        ap (count f) (story_next g Input c e h n es)
+        ∙ count_decided f tallied (fill g Input c) h n d rest
         ∙ rw (spares c e found kept.0)
         (zero-add (count f rest)
-        ∙ none-lost (after c e) next (suc n) es (found-next c e found kept.0) (rw (surroundings-next c e) kept.1))
+        ∙ none_lost_lem (after c e) next (suc n) es (found_next c e found kept.0) (rw (surroundings_next_lem c e) kept.1))
 
   -- From any chip on which a read of the strobed port, if one runs, has found a byte.
-  pub disciplined-from : (c : Chip) → HasFound g c → (es : List Event) → Disciplined g (surroundings_of c) c es
+  pub disciplined_from : (c : Chip) → HasFound g c → (es : List Event) → Disciplined g (surroundings_of c) c es
       → NoneLost (old_byte g Input c es ++ new_bytes g Input c es)
-  disciplined-from c found es kept =
+  disciplined_from c found es kept =
       let h = offered_at 0 (latch g Input c) in
       record {
-        none_overwritten = none-lost overwritten refl (λ c e found minds. (safe c e found minds).not_overwritten) c h 1 es found kept;
-        none_swallowed = none-lost swallowed refl (λ c e found minds. (safe c e found minds).not_swallowed) c h 1 es found kept;
+        none_overwritten = none_lost_lem overwritten refl (λ c e found minds. (safe c e found minds).not_overwritten) c h 1 es found kept;
+        none_swallowed = none_lost_lem swallowed refl (λ c e found minds. (safe c e found minds).not_swallowed) c h 1 es found kept;
       }

@@ -28,11 +28,11 @@ use Rattle.fates.specs.Surroundings.{at_power_up}
 use Rattle.fates.specs.Examples.{lost_bale, two_digits}
 use Rattle.fates.specs.Discipline.{Disciplined}
 
-pub two-digits-disciplined : Disciplined A (at_power_up Older all_high) (power_up_with all_high) two_digits
+pub two_digits_disciplined : Disciplined A (at_power_up Older all_high) (power_up_with all_high) two_digits
 unfolding bit_of value_of with_bit mode_of input_of upper_input lower_input strobed_input strobed_output output_of control_of uses_of free_role role_of flag_of after_offer after_follow after_hand_over after_end_read after_clear request_of intr_of cleared_port after_mode_word pin_set after_control_word after_read_begins after_read_ends stored_by latch_written after_write_ends fallen edged after_levels_on_c port_after_levels after_levels read_port read_lines read_of drives_port pins_of_port pins_of_lines pins_of number_of is_kind step_of step_in
-two-digits-disciplined = (tt, (tt, (tt, (refl, (tt, (refl, (tt, (tt, (refl, (tt, (refl, (tt, tt))))))))))))
+two_digits_disciplined = (tt, (tt, (tt, (refl, (tt, (refl, (tt, (tt, (refl, (tt, (refl, (tt, tt))))))))))))
 
 -- The second digit of the lost bale comes while IBF is high.
-pub lost-bale-undisciplined : ¬ Disciplined A (at_power_up Older all_high) (power_up_with all_high) lost_bale
+pub lost_bale_undisciplined : ¬ Disciplined A (at_power_up Older all_high) (power_up_with all_high) lost_bale
 unfolding bit_of value_of with_bit mode_of input_of upper_input lower_input strobed_input strobed_output output_of control_of uses_of free_role role_of flag_of after_offer after_follow after_hand_over after_end_read after_clear request_of intr_of cleared_port after_mode_word pin_set after_control_word after_read_begins after_read_ends stored_by latch_written after_write_ends fallen edged after_levels_on_c port_after_levels after_levels read_port read_lines read_of drives_port pins_of_port pins_of_lines pins_of number_of is_kind step_of step_in
-lost-bale-undisciplined kept = subst T kept.1.1.1.1.1.1.1.0 tt
+lost_bale_undisciplined kept = subst T kept.1.1.1.1.1.1.1.0 tt

@@ -21,12 +21,12 @@ use Rattle.fates.specs.Effects.{strobes, effects}
 use Rattle.fates.specs.Bytes.{handed_over, overwritten, swallowed, cleared, struck, offered_at, bytes_of}
 use Rattle.fates.specs.Promise.{run, surroundings_of, new_bytes, old_byte, Fates, SixteenBits}
 use Rattle.fates.specs.Discipline.{HasFound, Disciplined, NoneLost}
-use Rattle.fates.proofs.Ordered.{story-in-order}
-use Rattle.fates.proofs.Counted.{one-fate-each, offered-or-planted, tally-counts, offered-counts, planted-counts, waits_there}
+use Rattle.fates.proofs.Ordered.{story_in_order}
+use Rattle.fates.proofs.Counted.{one_fate_each_lem, offered_or_planted_lem, tally_counts, offered_counts, planted_counts, waits_there}
 use Rattle.fates.proofs.ReadsRun.{refused}
-use Rattle.fates.proofs.SameByte.{as-offered}
-use Rattle.fates.proofs.InTheLatch.{new-held}
-use Rattle.fates.proofs.Discipline.{disciplined-from}
+use Rattle.fates.proofs.SameByte.{as_offered_lem}
+use Rattle.fates.proofs.InTheLatch.{new_held}
+use Rattle.fates.proofs.Discipline.{disciplined_from}
 
 -- What is one or none is at most one.
 at_most : (n : ℕ) (waits : Bool) → n ≡ num waits → n ≤ 1
@@ -34,30 +34,30 @@ at_most n true e = omega (arith, e)
 at_most n false e = omega (arith, e)
 
 -- From any chip whose tallies have sixteen bits.
-pub fates-from : (g : Group) (s : Side) (c : Chip) → SixteenBits (tally_of c g s) → (es : List Event)
+pub fates_from : (g : Group) (s : Side) (c : Chip) → SixteenBits (tally_of c g s) → (es : List Event)
     → Fates g s c es (tally_of c g s) (new_bytes g s c es) (old_byte g s c es ++ new_bytes g s c es)
-fates-from g s c small es =
+fates_from g s c small es =
     let h = offered_at 0 (channel_of c.core g s).latch in
     let waits = waits_there g s c h 1 es in
     record {
-      one_fate_each = one-fate-each (old_byte g s c es ++ new_bytes g s c es);
+      one_fate_each = one_fate_each_lem (old_byte g s c es ++ new_bytes g s c es);
       at_most_one_waits = at_most _ (is_waiting (channel_of (run c es).core g s).fill) waits;
       waits_in_the_chip = waits;
-      held_in_the_latch = new-held g s c es;
-      as_offered = as-offered g s c es;
-      in_order = story-in-order s (channel_of c.core g s).fill h 1 (effects g s (surroundings_of c) es) (omega arith);
-      offered_or_planted = offered-or-planted (new_bytes g s c es);
-      tally_offered = offered-counts g s c h 1 es small.offered;
-      tally_handed = tally-counts g s handed_over refl c h 1 es small.handed;
-      tally_overwritten = tally-counts g s overwritten refl c h 1 es small.overwritten;
-      tally_swallowed = tally-counts g s swallowed refl c h 1 es small.swallowed;
-      tally_cleared = tally-counts g s cleared refl c h 1 es small.cleared;
-      tally_planted = planted-counts g s c h 1 es small.planted;
-      tally_struck = tally-counts g s struck refl c h 1 es small.struck;
+      held_in_the_latch = new_held g s c es;
+      as_offered = as_offered_lem g s c es;
+      in_order = story_in_order s (channel_of c.core g s).fill h 1 (effects g s (surroundings_of c) es) (omega arith);
+      offered_or_planted = offered_or_planted_lem (new_bytes g s c es);
+      tally_offered = offered_counts g s c h 1 es small.offered;
+      tally_handed = tally_counts g s handed_over refl c h 1 es small.handed;
+      tally_overwritten = tally_counts g s overwritten refl c h 1 es small.overwritten;
+      tally_swallowed = tally_counts g s swallowed refl c h 1 es small.swallowed;
+      tally_cleared = tally_counts g s cleared refl c h 1 es small.cleared;
+      tally_planted = planted_counts g s c h 1 es small.planted;
+      tally_struck = tally_counts g s struck refl c h 1 es small.struck;
     }
 
-pub none-counted : SixteenBits no_tally
-none-counted = record {
+pub none_counted : SixteenBits no_tally
+none_counted = record {
   offered = omega arith;
   handed = omega arith;
   overwritten = omega arith;
@@ -70,10 +70,10 @@ none-counted = record {
 -- From power-up, whatever the edition and the levels: no byte waits there and nothing has been counted.
 pub fates : (g : Group) (s : Side) (ed : Edition) (l : Levels) (es : List Event)
     → Fates g s (power_up_as ed l) es no_tally (bytes_of g s ed l es) (bytes_of g s ed l es)
-fates A Input ed l es = fates-from A Input (power_up_as ed l) none-counted es
-fates A Output ed l es = fates-from A Output (power_up_as ed l) none-counted es
-fates B Input ed l es = fates-from B Input (power_up_as ed l) none-counted es
-fates B Output ed l es = fates-from B Output (power_up_as ed l) none-counted es
+fates A Input ed l es = fates_from A Input (power_up_as ed l) none_counted es
+fates A Output ed l es = fates_from A Output (power_up_as ed l) none_counted es
+fates B Input ed l es = fates_from B Input (power_up_as ed l) none_counted es
+fates B Output ed l es = fates_from B Output (power_up_as ed l) none_counted es
 
 -- No read runs at power-up.
 pub no_read : (g : Group) (ed : Edition) (l : Levels) → HasFound g (power_up_as ed l)
@@ -82,5 +82,5 @@ no_read g ed l runs = absurd (refused (strobes 0x9b g Input) runs)
 -- The discipline, from power-up.
 pub disciplined : (g : Group) (ed : Edition) (l : Levels) (es : List Event) → Disciplined g (at_power_up ed l) (power_up_as ed l) es
     → NoneLost (bytes_of g Input ed l es)
-disciplined A ed l es kept = disciplined-from A (power_up_as ed l) (no_read A ed l) es kept
-disciplined B ed l es kept = disciplined-from B (power_up_as ed l) (no_read B ed l) es kept
+disciplined A ed l es kept = disciplined_from A (power_up_as ed l) (no_read A ed l) es kept
+disciplined B ed l es kept = disciplined_from B (power_up_as ed l) (no_read B ed l) es kept

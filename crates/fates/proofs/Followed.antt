@@ -18,9 +18,9 @@ use Rattle.fates.specs.Effects.{Effect, effect, effects}
 use Rattle.fates.specs.Bytes.{Fate, waiting, Offer, Byte, same}
 use Rattle.fates.specs.Promise.{surroundings_of, handshake_alone}
 use Rattle.fates.proofs.Shapes.{Shape, shape_of, fill_after, latch_after, is_offer, is_plant, gives, held_after}
-use Rattle.fates.proofs.Story.{story, decided, story-step}
-use Rattle.fates.proofs.Moved.{tally_after, moved-so, tally_for, tally-gives}
-use Rattle.fates.proofs.SurroundingsKept.{surroundings-next}
+use Rattle.fates.proofs.Story.{story, decided, story_step}
+use Rattle.fates.proofs.Moved.{tally_after, moved_so, tally_for, tally_gives}
+use Rattle.fates.proofs.SurroundingsKept.{surroundings_next_lem}
 use Rattle.fates.proofs.Projection.{clears_now, follows}
 
 -- The chip that an event leaves.
@@ -49,32 +49,32 @@ module _ (g : Group) (s : Side) where
   story_of c h n es = story s (fill c) h n (effects g s (surroundings_of c) es)
 
   module _ (c : Chip) (e : Event) where
-    pub next-fill : fill (after c e) ≡ fill_after s (fill c) (shape_in c e)
-    next-fill = (follows c g s e).fill ∙ ap (λ ch. ch.fill) (moved-so s (channel_of c.core g s) (effect_in c e))
+    pub next_fill : fill (after c e) ≡ fill_after s (fill c) (shape_in c e)
+    next_fill = (follows c g s e).fill ∙ ap (λ ch. ch.fill) (moved_so s (channel_of c.core g s) (effect_in c e))
 
-    next-tallies : tally_of (after c e) g s ≡ tally_after s (fill c) (shape_in c e) (tally_of c g s)
-    next-tallies = (follows c g s e).tally ∙ ap (λ ch. ch.tally) (moved-so s (channel_of c.core g s) (effect_in c e))
+    next_tallies : tally_of (after c e) g s ≡ tally_after s (fill c) (shape_in c e) (tally_of c g s)
+    next_tallies = (follows c g s e).tally ∙ ap (λ ch. ch.tally) (moved_so s (channel_of c.core g s) (effect_in c e))
 
-    pub next-tally : (f : Fate) → same f waiting ≡ false
+    pub next_tally : (f : Fate) → same f waiting ≡ false
         → tally_for f (tally_of (after c e) g s) ≡ next (gives f (fill c) (shape_in c e)) (tally_for f (tally_of c g s))
-    next-tally f tallied = ap (tally_for f) next-tallies ∙ tally-gives f tallied s (fill c) (shape_in c e) (tally_of c g s)
+    next_tally f tallied = ap (tally_for f) next_tallies ∙ tally_gives f tallied s (fill c) (shape_in c e) (tally_of c g s)
 
-    pub next-offered : (tally_of (after c e) g s).offered ≡ next (is_offer (shape_in c e)) (tally_of c g s).offered
-    next-offered = ap (λ t. t.offered) next-tallies
+    pub next_offered : (tally_of (after c e) g s).offered ≡ next (is_offer (shape_in c e)) (tally_of c g s).offered
+    next_offered = ap (λ t. t.offered) next_tallies
 
-    pub next-planted : (tally_of (after c e) g s).planted ≡ next (is_plant s (fill c) (shape_in c e)) (tally_of c g s).planted
-    next-planted = ap (λ t. t.planted) next-tallies
+    pub next_planted : (tally_of (after c e) g s).planted ≡ next (is_plant s (fill c) (shape_in c e)) (tally_of c g s).planted
+    next_planted = ap (λ t. t.planted) next_tallies
 
-    pub next-latch : (handshake_alone c.core.word g s || clears_now (surroundings_of c) e) ≡ true → latch (after c e) ≡ latch_after (latch c) (shape_in c e)
-    next-latch sure = (follows c g s e).latch sure ∙ ap (λ ch. ch.latch) (moved-so s (channel_of c.core g s) (effect_in c e))
+    pub next_latch : (handshake_alone c.core.word g s || clears_now (surroundings_of c) e) ≡ true → latch (after c e) ≡ latch_after (latch c) (shape_in c e)
+    next_latch sure = (follows c g s e).latch sure ∙ ap (λ ch. ch.latch) (moved_so s (channel_of c.core g s) (effect_in c e))
 
     -- What the event decides, and then the bytes from the chip that it leaves, of a story that begins in any condition;
-    pub story-on : (f : Fill) (h : Offer) (n : ℕ) (es : List Event)
+    pub story_on : (f : Fill) (h : Offer) (n : ℕ) (es : List Event)
         → story s f h n (effects g s (surroundings_of c) (e ∷ es))
         ≡ decided f h n (shape_in c e) ++ story s (fill_after s f (shape_in c e)) (held_after s f h n (shape_in c e)) (suc n) (effects g s (surroundings_of (after c e)) es)
-    story-on f h n es = rw (surroundings-next c e) (story-step s f h n (effect_in c e) (effects g s (surroundings_next (surroundings_of c) e) es))
+    story_on f h n es = rw (surroundings_next_lem c e) (story_step s f h n (effect_in c e) (effects g s (surroundings_next (surroundings_of c) e) es))
 
     -- and of the one that begins in the chip's.
-    pub story-next : (h : Offer) (n : ℕ) (es : List Event)
+    pub story_next : (h : Offer) (n : ℕ) (es : List Event)
         → story_of c h n (e ∷ es) ≡ decided (fill c) h n (shape_in c e) ++ story_of (after c e) (held_after s (fill c) h n (shape_in c e)) (suc n) es
-    story-next h n es = rw (next-fill) (story-on (fill c) h n es)
+    story_next h n es = rw (next_fill) (story_on (fill c) h n es)

@@ -25,14 +25,14 @@ use Rattle.fates.proofs.EveryByte.{fates}
 abbrev strobing : Edition → ℕ → Surroundings
 strobing ed x = record { phase = Idle; edition = ed; word = 0xb0; levels_a = x; levels_b = 0xff; levels_c = 0xff }
 
-offers-of : (ed : Edition) (n v k x : ℕ) (f : Fill) (l : ℕ) → offered_among (bytes Input (left f l) k (effects A Input (strobing ed x) (times n (strobe v)))) ≡ n
+offers_of : (ed : Edition) (n v k x : ℕ) (f : Fill) (l : ℕ) → offered_among (bytes Input (left f l) k (effects A Input (strobing ed x) (times n (strobe v)))) ≡ n
 unfolding bit_of
-offers-of ed zero v k x f l = refl
-offers-of ed (suc n) v k x f l = let rest = offers-of ed n v (suc (suc (suc k))) v Waiting v in omega (arith, rest)
+offers_of ed zero v k x f l = refl
+offers_of ed (suc n) v k x f l = let rest = offers_of ed n v (suc (suc (suc k))) v Waiting v in omega (arith, rest)
 
-pub many-offers : (ed : Edition) (n v : ℕ) → (tally_of (run (power_up_as ed all_high) (strobed_times n v)) A Input).offered ≡ n % 65536
+pub many_offers : (ed : Edition) (n v : ℕ) → (tally_of (run (power_up_as ed all_high) (strobed_times n v)) A Input).offered ≡ n % 65536
 unfolding bit_of
-many-offers ed n v = (fates A Input ed all_high (strobed_times n v)).tally_offered ∙ ap (λ k. k % 65536) (zero-add _ ∙ offers-of ed n v 3 0xff Empty 0)
+many_offers ed n v = (fates A Input ed all_high (strobed_times n v)).tally_offered ∙ ap (λ k. k % 65536) (zero-add _ ∙ offers_of ed n v 3 0xff Empty 0)
 
-pub seventy-thousand : (ed : Edition) → (tally_of (run (power_up_as ed all_high) (strobed_times 70000 0x41)) A Input).offered ≡ 4464
-seventy-thousand ed = many-offers ed 70000 0x41
+pub seventy_thousand : (ed : Edition) → (tally_of (run (power_up_as ed all_high) (strobed_times 70000 0x41)) A Input).offered ≡ 4464
+seventy_thousand ed = many_offers ed 70000 0x41

@@ -11,7 +11,7 @@ use Rattle.chip.specs.declared.channel.Tally.{Tally}
 use Rattle.chip.specs.declared.channel.Channel.{Channel}
 use Rattle.chip.specs.Channel.{has_room, next}
 use Rattle.chip.specs.Moves.{after_offer, after_follow, after_hand_over, after_end_read, after_clear, after_plant, after_strike}
-use Rattle.chip.proofs.ConditionsLeft.{leaves, hand-over-leaves, hand-over-keeps, hand-over-counts, plants, planted-so, struck-so}
+use Rattle.chip.proofs.ConditionsLeft.{leaves, hand_over_leaves, hand_over_keeps, hand_over_counts, plants, planted_so, struck_so}
 use Rattle.fates.specs.Effects.{Effect, offered, followed, taken, ended, cleared_away, forced_full, forced_empty, nothing}
 use Rattle.fates.specs.Left.{room_in, after_taken, after_forced_full, after_forced_empty}
 use Rattle.fates.specs.Bytes.{Fate, handed_over, overwritten, swallowed, cleared, struck, waiting, same}
@@ -58,44 +58,44 @@ of_parts : (ch : Channel) (f : Fill) (l : ℕ) (t : Tally) → ch.fill ≡ f →
 of_parts ch f l t fills latches counts = rw (← fills, ← latches, ← counts)
 
 -- What the channel's moves leave of a condition is what the history's words say.
-taken-left : (s : Side) (f : Fill) → leaves f (emptied s) ≡ after_taken s f
-taken-left s Empty = refl
-taken-left Input Waiting = refl
-taken-left Output Waiting = refl
-taken-left s Fetching = refl
+taken_left : (s : Side) (f : Fill) → leaves f (emptied s) ≡ after_taken s f
+taken_left s Empty = refl
+taken_left Input Waiting = refl
+taken_left Output Waiting = refl
+taken_left s Fetching = refl
 
-planted-left : (s : Side) (f : Fill) → plants s f ≡ after_forced_full s f
-planted-left s Empty = refl
-planted-left s Waiting = refl
-planted-left Input Fetching = refl
-planted-left Output Fetching = refl
+planted_left : (s : Side) (f : Fill) → plants s f ≡ after_forced_full s f
+planted_left s Empty = refl
+planted_left s Waiting = refl
+planted_left Input Fetching = refl
+planted_left Output Fetching = refl
 
-struck-left : (f : Fill) → leaves f Empty ≡ after_forced_empty f
-struck-left Empty = refl
-struck-left Waiting = refl
-struck-left Fetching = refl
+struck_left : (f : Fill) → leaves f Empty ≡ after_forced_empty f
+struck_left Empty = refl
+struck_left Waiting = refl
+struck_left Fetching = refl
 
-room-same : (s : Side) (f : Fill) → has_room s f ≡ room_in s f
+room_same : (s : Side) (f : Fill) → has_room s f ≡ room_in s f
 unfolding has_room
-room-same Input Empty = refl
-room-same Input Waiting = refl
-room-same Input Fetching = refl
-room-same Output Empty = refl
-room-same Output Waiting = refl
-room-same Output Fetching = refl
+room_same Input Empty = refl
+room_same Input Waiting = refl
+room_same Input Fetching = refl
+room_same Output Empty = refl
+room_same Output Waiting = refl
+room_same Output Fetching = refl
 
 -- The chip's channel moves as the table says.
-pub moved-so : (s : Side) (ch : Channel) (d : Effect) → moved s ch d ≡ channel_after s ch (shape_of d)
+pub moved_so : (s : Side) (ch : Channel) (d : Effect) → moved s ch d ≡ channel_after s ch (shape_of d)
 unfolding after_offer after_follow after_end_read after_clear
-moved-so s ch (offered v) = refl
-moved-so s ch (followed v) = refl
-moved-so s ch taken =
-    of_parts _ _ _ _ (hand-over-leaves ch (emptied s) ∙ taken-left s ch.fill) (hand-over-keeps ch (emptied s)) (hand-over-counts ch (emptied s))
-moved-so s ch ended = refl
-moved-so s ch cleared_away = refl
-moved-so s ch forced_full = rw (planted-so s ch, planted-left s ch.fill, room-same s ch.fill)
-moved-so s ch forced_empty = rw (struck-so ch, struck-left ch.fill)
-moved-so s ch nothing = refl
+moved_so s ch (offered v) = refl
+moved_so s ch (followed v) = refl
+moved_so s ch taken =
+    of_parts _ _ _ _ (hand_over_leaves ch (emptied s) ∙ taken_left s ch.fill) (hand_over_keeps ch (emptied s)) (hand_over_counts ch (emptied s))
+moved_so s ch ended = refl
+moved_so s ch cleared_away = refl
+moved_so s ch forced_full = rw (planted_so s ch, planted_left s ch.fill, room_same s ch.fill)
+moved_so s ch forced_empty = rw (struck_so ch, struck_left ch.fill)
+moved_so s ch nothing = refl
 
 -- The tally of a fate; bytes that wait are not counted in one.
 abbrev pub tally_for : Fate → Tally → ℕ
@@ -107,11 +107,11 @@ tally_for struck t = t.struck
 tally_for waiting t = 0
 
 -- Each goes on where the effect gives its fate.
-pub tally-gives : (x : Fate) → same x waiting ≡ false → (s : Side) (f : Fill) (d : Shape) (t : Tally)
+pub tally_gives : (x : Fate) → same x waiting ≡ false → (s : Side) (f : Fill) (d : Shape) (t : Tally)
     → tally_for x (tally_after s f d t) ≡ next (gives x f d) (tally_for x t)
-tally-gives handed_over tallied s f d t = refl
-tally-gives overwritten tallied s f d t = refl
-tally-gives swallowed tallied s f d t = refl
-tally-gives cleared tallied s f d t = refl
-tally-gives struck tallied s f d t = refl
-tally-gives waiting tallied s f d t = cc
+tally_gives handed_over tallied s f d t = refl
+tally_gives overwritten tallied s f d t = refl
+tally_gives swallowed tallied s f d t = refl
+tally_gives cleared tallied s f d t = refl
+tally_gives struck tallied s f d t = refl
+tally_gives waiting tallied s f d t = cc

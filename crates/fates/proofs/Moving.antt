@@ -36,17 +36,17 @@ moves s ch d true own = gated s ch d own
 moves s ch d false own = refl
 
 -- So is a flag that is forced.
-forced-so : (s : Side) (ch : Channel) (v : Bool) → after_force s v ch ≡ moved s ch (cond (says_full s v) forced_full forced_empty)
+forced_so : (s : Side) (ch : Channel) (v : Bool) → after_force s v ch ≡ moved s ch (cond (says_full s v) forced_full forced_empty)
 unfolding after_force
-forced-so Input ch true = refl
-forced-so Input ch false = refl
-forced-so Output ch true = refl
-forced-so Output ch false = refl
+forced_so Input ch true = refl
+forced_so Input ch false = refl
+forced_so Output ch true = refl
+forced_so Output ch false = refl
 
 pub forcing : (s : Side) (ch : Channel) (v on own : Bool)
     → cond (on && own) (after_force s v ch) ch ≡ moved s ch (when on (when own (cond (says_full s v) forced_full forced_empty)))
 forcing s ch v on own =
-    ap (λ (forced : Channel). cond (on && own) forced ch) (forced-so s ch v) ∙ moves s ch (cond (says_full s v) forced_full forced_empty) on own
+    ap (λ (forced : Channel). cond (on && own) forced ch) (forced_so s ch v) ∙ moves s ch (cond (says_full s v) forced_full forced_empty) on own
 
 -- So is the fall of a line, which port C alone has, or else levels on the port's own lines while that line is low.
 pub levelling : (s : Side) (ch : Channel) (d e : Effect) (lines on fell own low : Bool)

@@ -44,19 +44,19 @@ rests : (on : Bool) → Reads on (on && false) (on && false) (when on nothing)
 rests true = refl
 rests false = refl
 
-levels-come : (on r fell low : Bool) (v u : ℕ) → Reads on r r (when on (cond fell (offered v) (when low (followed u))))
-levels-come true r true low v u = (refl, refl)
-levels-come true r false true v u = refl
-levels-come true r false false v u = refl
-levels-come false r fell low v u = refl
+levels_come : (on r fell low : Bool) (v u : ℕ) → Reads on r r (when on (cond fell (offered v) (when low (followed u))))
+levels_come true r true low v u = (refl, refl)
+levels_come true r false true v u = refl
+levels_come true r false false v u = refl
+levels_come false r fell low v u = refl
 
-write-ends : (mode on on' own says : Bool)
+write_ends : (mode on on' own says : Bool)
     → Reads on (on && false) (on' && false) (cond mode cleared_away (when on (when own (cond says forced_full forced_empty))))
-write-ends true on on' own says = and-false on'
-write-ends false true on' true true = and-false on'
-write-ends false true on' true false = and-false on'
-write-ends false true on' false says = and-false on'
-write-ends false false on' own says = and-false on'
+write_ends true on on' own says = and-false on'
+write_ends false true on' true true = and-false on'
+write_ends false true on' true false = and-false on'
+write_ends false true on' false says = and-false on'
+write_ends false false on' own says = and-false on'
 
 -- Surroundings put together.
 abbrev surroundings : Phase → Edition → ℕ → ℕ → ℕ → ℕ → Surroundings
@@ -80,18 +80,18 @@ module _ (g : Group) (ed : Edition) (w x y z : ℕ) where
   reads_on Idle cycle_ended ok = absurd (contrary false refl ok)
   reads_on (Reading q) cycle_ended ok = ends on (eqb q (port_number g))
   reads_on (Writing q d) cycle_ended ok =
-      write-ends (of_mode_word (Writing q d)) on (strobes (cond (of_mode_word (Writing q d)) d w) g Input) (of_pin (Writing q d) (full_pin g Input)) (bit_of d 0)
+      write_ends (of_mode_word (Writing q d)) on (strobes (cond (of_mode_word (Writing q d)) d w) g Input) (of_pin (Writing q d) (full_pin g Input)) (bit_of d 0)
   reads_on Idle (write_begun p u) ok = rests on
   reads_on (Reading q) (write_begun p u) ok = absurd (refused (ltb p 4) ok)
   reads_on (Writing q d) (write_begun p u) ok = absurd (refused (ltb p 4) ok)
   reads_on ph (new_levels p u) ok =
       let a = surroundings ph ed w x y z in
-      levels-come on (on && read_runs g ph) (falls g Input a p u) (under_low g a p) (levels_on g a) u
+      levels_come on (on && read_runs g ph) (falls g Input a p u) (under_low g a p) (levels_on g a) u
   reads_on ph unknown ok = absurd (contrary false refl ok)
 
 -- The same of every event, accepted or refused.
-pub reads-next : (g : Group) (a : Surroundings) (e : Event) → Reads (strobes a.word g Input) (strobed_read_runs g a) (strobed_read_runs g (surroundings_next a e)) (effect g Input a e)
-reads-next g a e = go (accepts a.edition a.phase (kind_of e)) refl
+pub reads_next : (g : Group) (a : Surroundings) (e : Event) → Reads (strobes a.word g Input) (strobed_read_runs g a) (strobed_read_runs g (surroundings_next a e)) (effect g Input a e)
+reads_next g a e = go (accepts a.edition a.phase (kind_of e)) refl
   where
     go : (ok : Bool) → accepts a.edition a.phase (kind_of e) ≡ ok
         → Reads (strobes a.word g Input) (strobed_read_runs g a) (strobed_read_runs g (cond ok (surroundings_after a (kind_of e)) a)) (when ok (effect_of g Input a (kind_of e)))

@@ -38,28 +38,28 @@ pub data Shape : Type 0 where
   decides : Decision → Shape
 
 -- What is left where a byte is taken or struck.
-pub taken-gone : (s : Side) (f : Fill) → Gone s f (after_taken s f)
-taken-gone s Empty = tt
-taken-gone Input Waiting = tt
-taken-gone Output Waiting = tt
-taken-gone Input Fetching = tt
-taken-gone Output Fetching = refl
+pub taken_gone : (s : Side) (f : Fill) → Gone s f (after_taken s f)
+taken_gone s Empty = tt
+taken_gone Input Waiting = tt
+taken_gone Output Waiting = tt
+taken_gone Input Fetching = tt
+taken_gone Output Fetching = refl
 
-pub struck-gone : (s : Side) (f : Fill) → Gone s f (after_forced_empty f)
-struck-gone s Empty = tt
-struck-gone s Waiting = tt
-struck-gone Input Fetching = tt
-struck-gone Output Fetching = refl
+pub struck_gone : (s : Side) (f : Fill) → Gone s f (after_forced_empty f)
+struck_gone s Empty = tt
+struck_gone s Waiting = tt
+struck_gone Input Fetching = tt
+struck_gone Output Fetching = refl
 
--- The table. Story's story-step holds it to the words of Bytes, and Moved's moved-so to the chip's channel.
+-- The table. Story's story_step holds it to the words of Bytes, and Moved's moved_so to the chip's channel.
 abbrev pub shape_of : Effect → Shape
 shape_of (offered v) = offers v
 shape_of (followed v) = passes (λ l. v)
-shape_of taken = decides (record { fate = handed_over; decisive = refl; left = after_taken; gone = taken-gone; latch = λ l. l })
+shape_of taken = decides (record { fate = handed_over; decisive = refl; left = after_taken; gone = taken_gone; latch = λ l. l })
 shape_of ended = decides (record { fate = swallowed; decisive = refl; left = λ s f. Empty; gone = λ s f. tt; latch = λ l. l })
 shape_of cleared_away = decides (record { fate = cleared; decisive = refl; left = λ s f. Empty; gone = λ s f. tt; latch = λ l. 0 })
 shape_of forced_full = plants
-shape_of forced_empty = decides (record { fate = struck; decisive = refl; left = λ s f. after_forced_empty f; gone = struck-gone; latch = λ l. l })
+shape_of forced_empty = decides (record { fate = struck; decisive = refl; left = λ s f. after_forced_empty f; gone = struck_gone; latch = λ l. l })
 shape_of nothing = passes (λ l. l)
 
 -- The columns, by shape: the fate of a byte that waits,
@@ -109,12 +109,12 @@ held_after s f h n (offers v) = offered_at n v
 held_after s f h n plants = cond (room_in s f) (planted_at n h.value) h
 held_after s f h n (decides x) = offered_at n (x.latch h.value)
 
-pub held-latch : (s : Side) (f : Fill) (h : Offer) (n : ℕ) (d : Shape) → (held_after s f h n d).value ≡ latch_after h.value d
-held-latch s f h n (passes to) = refl
-held-latch s f h n (offers v) = refl
-held-latch s f h n plants = either_way (λ (o : Offer). o.value) h.value (room_in s f) _ _ refl refl
-held-latch s f h n (decides x) = refl
+pub held_latch : (s : Side) (f : Fill) (h : Offer) (n : ℕ) (d : Shape) → (held_after s f h n d).value ≡ latch_after h.value d
+held_latch s f h n (passes to) = refl
+held_latch s f h n (offers v) = refl
+held_latch s f h n plants = either_way (λ (o : Offer). o.value) h.value (room_in s f) _ _ refl refl
+held_latch s f h n (decides x) = refl
 
 -- Where the byte is gone none waits.
-pub none-waits : (s : Side) (f left : Fill) → Gone s f left → left ≡ Waiting → ⊥
-none-waits s f left gone waits = subst (Gone s f) waits gone
+pub none_waits : (s : Side) (f left : Fill) → Gone s f left → left ≡ Waiting → ⊥
+none_waits s f left gone waits = subst (Gone s f) waits gone

@@ -12,61 +12,61 @@ use Rattle.control.specs.declared.Group.TheVariants.{A, B}
 use Rattle.chip.specs.declared.Edition.{Edition}
 use Rattle.chip.specs.declared.Core.{Core}
 use Rattle.chip.specs.declared.Chip.{Chip}
-use Rattle.chip.proofs.Surrounded.{Surrounded, spared-surrounded}
+use Rattle.chip.proofs.Surrounded.{Surrounded, spared_surrounded}
 use Rattle.chip.specs.ModeWord.{after_mode_word}
-use Rattle.chip.proofs.SettingsAfter.{mode-word-word, mode-word-ports, mode-word-lines}
+use Rattle.chip.proofs.SettingsAfter.{mode_word_word, mode_word_ports, mode_word_lines}
 use Rattle.chip.specs.Read.{after_read_begins, after_read_ends}
-use Rattle.chip.proofs.ReadsAfter.{begun-surrounded, ended-surrounded}
+use Rattle.chip.proofs.ReadsAfter.{begun_surrounded, ended_surrounded}
 use Rattle.chip.proofs.WritesAfter.{by_address}
 use Rattle.chip.specs.Levels.{after_levels}
-use Rattle.chip.proofs.LevelsAfter.{levels-word, levels-ports, levels-lines}
+use Rattle.chip.proofs.LevelsAfter.{levels_word, levels_ports, levels_lines}
 use Rattle.chip.specs.Step.{device, on_bus, after_end, stepped}
 use Rattle.fates.specs.Kinds.{cycle_ended, new_levels, kind_of, accepts}
 use Rattle.fates.specs.Surroundings.{surroundings_after, surroundings_next}
 use Rattle.fates.specs.Promise.{surroundings_of}
-use Rattle.fates.proofs.Accepted.{no-kind-accepted, by-outcome}
+use Rattle.fates.proofs.Accepted.{no_kind_accepted, by_outcome}
 
 -- The surroundings of a core like c, in the phase ph.
-surroundings-like : (ph : Phase) (ed : Edition) (c' c : Core) → Surrounded c' c → surroundings_of (on_bus ph ed c') ≡ surroundings_of (on_bus ph ed c)
-surroundings-like ph ed c' c k = rw (k.word, k.ports A, k.ports B, k.lines)
+surroundings_like : (ph : Phase) (ed : Edition) (c' c : Core) → Surrounded c' c → surroundings_of (on_bus ph ed c') ≡ surroundings_of (on_bus ph ed c)
+surroundings_like ph ed c' c k = rw (k.word, k.ports A, k.ports B, k.lines)
 
 -- Those of a core made anew.
-surroundings-mode-word : (ph : Phase) (ed : Edition) (c : Core) (w : ℕ)
+surroundings_mode_word : (ph : Phase) (ed : Edition) (c : Core) (w : ℕ)
     → surroundings_of (on_bus ph ed (after_mode_word c w))
     ≡ record { phase = ph; edition = ed; word = w; levels_a = c.a.outside; levels_b = c.b.outside; levels_c = c.c.outside }
-surroundings-mode-word ph ed c w = rw (mode-word-word c w, mode-word-ports c w A, mode-word-ports c w B, mode-word-lines c w)
+surroundings_mode_word ph ed c w = rw (mode_word_word c w, mode_word_ports c w A, mode_word_ports c w B, mode_word_lines c w)
 
 module _ (ed : Edition) (c : Core) where
-  cycle-ended : (ph : Phase) → surroundings_of (on_bus Idle ed (after_end c ph)) ≡ surroundings_after (surroundings_of (on_bus ph ed c)) cycle_ended
-  cycle-ended Idle = refl
-  cycle-ended (Reading p) = surroundings-like Idle ed (after_read_ends c p) c (ended-surrounded c p)
-  cycle-ended (Writing x d) =
+  cycle_ended_lem : (ph : Phase) → surroundings_of (on_bus Idle ed (after_end c ph)) ≡ surroundings_after (surroundings_of (on_bus ph ed c)) cycle_ended
+  cycle_ended_lem Idle = refl
+  cycle_ended_lem (Reading p) = surroundings_like Idle ed (after_read_ends c p) c (ended_surrounded c p)
+  cycle_ended_lem (Writing x d) =
       by_address (λ c'. surroundings_of (on_bus Idle ed c') ≡ surroundings_after (surroundings_of (on_bus (Writing x d) ed c)) cycle_ended) c x d
-      (λ mode. rw (mode) (surroundings-mode-word Idle ed c d))
-      (λ mode three c' k. rw (mode) (surroundings-like Idle ed c' c k.surroundings))
-      (λ mode two c' k. rw (mode) (surroundings-like Idle ed c' c (spared-surrounded k)))
-      (λ mode elsewhere c' k. rw (mode) (surroundings-like Idle ed c' c k.surroundings))
+      (λ mode. rw (mode) (surroundings_mode_word Idle ed c d))
+      (λ mode three c' k. rw (mode) (surroundings_like Idle ed c' c k.surroundings))
+      (λ mode two c' k. rw (mode) (surroundings_like Idle ed c' c (spared_surrounded k)))
+      (λ mode elsewhere c' k. rw (mode) (surroundings_like Idle ed c' c k.surroundings))
 
-  levels-set : (ph : Phase) (x d : ℕ) → surroundings_of (on_bus ph ed (after_levels c x d)) ≡ surroundings_after (surroundings_of (on_bus ph ed c)) (new_levels x d)
-  levels-set ph x d = rw (levels-word c x d, levels-ports c x d A, levels-ports c x d B, levels-lines c x d)
+  levels_set : (ph : Phase) (x d : ℕ) → surroundings_of (on_bus ph ed (after_levels c x d)) ≡ surroundings_after (surroundings_of (on_bus ph ed c)) (new_levels x d)
+  levels_set ph x d = rw (levels_word c x d, levels_ports c x d A, levels_ports c x d B, levels_lines c x d)
 
 module _ (c : Chip) where
   abbrev Surrounds : Event → Type 0
   Surrounds e = accepts c.edition c.phase (kind_of e) ≡ true → surroundings_of (after_in device c e.kind e.first e.second) ≡ surroundings_after (surroundings_of c) (kind_of e)
 
-  surroundings-accepted : (k x d : ℕ) → Surrounds (event k x d)
-  surroundings-accepted k x d =
+  surroundings_accepted : (k x d : ℕ) → Surrounds (event k x d)
+  surroundings_accepted k x d =
       by_kind (λ k. Surrounds (event k x d))
-      (λ ok. surroundings-mode-word Idle c.edition c.core 0x9b)
-      (λ ok. surroundings-like (Reading x) c.edition (after_read_begins c.core x) c.core (begun-surrounded c.core x))
-      (λ ok. cycle-ended c.edition c.core c.phase)
+      (λ ok. surroundings_mode_word Idle c.edition c.core 0x9b)
+      (λ ok. surroundings_like (Reading x) c.edition (after_read_begins c.core x) c.core (begun_surrounded c.core x))
+      (λ ok. cycle_ended_lem c.edition c.core c.phase)
       (λ ok. refl)
-      (λ ok. levels-set c.edition c.core c.phase x d)
-      (λ k none ok. absurd (no-kind-accepted c.edition c.phase k x d none ok))
+      (λ ok. levels_set c.edition c.core c.phase x d)
+      (λ k none ok. absurd (no_kind_accepted c.edition c.phase k x d none ok))
       k
 
   -- After any event, accepted or refused.
-  pub surroundings-next : (e : Event) → surroundings_of (stepped c e).chip ≡ surroundings_next (surroundings_of c) e
-  surroundings-next e =
-      by-outcome (λ c' ok. surroundings_of c' ≡ cond ok (surroundings_after (surroundings_of c) (kind_of e)) (surroundings_of c)) c e
-      (surroundings-accepted e.kind e.first e.second) refl
+  pub surroundings_next_lem : (e : Event) → surroundings_of (stepped c e).chip ≡ surroundings_next (surroundings_of c) e
+  surroundings_next_lem e =
+      by_outcome (λ c' ok. surroundings_of c' ≡ cond ok (surroundings_after (surroundings_of c) (kind_of e)) (surroundings_of c)) c e
+      (surroundings_accepted e.kind e.first e.second) refl

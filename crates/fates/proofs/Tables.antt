@@ -6,7 +6,7 @@ use Prim.Native.Nat.{ℕ}
 use lib.Dec.{eqb}
 use Rattle.control.specs.declared.Group.{Group}
 use Rattle.control.specs.declared.Group.TheVariants.{A, B}
-use Rattle.control.proofs.ByBits.{a-takes, a-gives, b-takes, b-gives}
+use Rattle.control.proofs.ByBits.{a_takes, a_gives, b_takes, b_gives}
 use Rattle.chip.specs.declared.channel.Side.{Side}
 use Rattle.chip.specs.declared.channel.Side.TheVariants.{Input, Output}
 use Rattle.chip.specs.Handshakes.{own_address, strobed, line_pin, flag_pin}
@@ -16,9 +16,9 @@ pub own_same : (x : ℕ) (g : Group) → eqb x (port_number g) ≡ own_address x
 own_same x A = refl
 own_same x B = refl
 
-pub own-port : (g : Group) → own_address (port_number g) g ≡ true
-own-port A = refl
-own-port B = refl
+pub own_port_lem : (g : Group) → own_address (port_number g) g ≡ true
+own_port_lem A = refl
+own_port_lem B = refl
 
 pub line_same : (g : Group) (s : Side) → strobe_pin g s ≡ line_pin g s
 line_same A Input = refl
@@ -26,14 +26,14 @@ line_same A Output = refl
 line_same B Input = refl
 line_same B Output = refl
 
-pub full-same : (g : Group) (s : Side) → full_pin g s ≡ flag_pin g s
-full-same A Input = refl
-full-same A Output = refl
-full-same B Input = refl
-full-same B Output = refl
+pub full_same : (g : Group) (s : Side) → full_pin g s ≡ flag_pin g s
+full_same A Input = refl
+full_same A Output = refl
+full_same B Input = refl
+full_same B Output = refl
 
-pub strobes-same : (w : ℕ) (g : Group) (s : Side) → strobes w g s ≡ strobed w g s
-strobes-same w A Input = sym (a-takes w)
-strobes-same w A Output = sym (a-gives w)
-strobes-same w B Input = sym (b-takes w)
-strobes-same w B Output = sym (b-gives w)
+pub strobes_same : (w : ℕ) (g : Group) (s : Side) → strobes w g s ≡ strobed w g s
+strobes_same w A Input = sym (a_takes w)
+strobes_same w A Output = sym (a_gives w)
+strobes_same w B Input = sym (b_takes w)
+strobes_same w B Output = sym (b_gives w)

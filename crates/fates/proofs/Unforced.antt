@@ -21,63 +21,63 @@ use Rattle.fates.specs.Bytes.{struck, Offer, offered_at, bytes, bytes_of, plante
 use Rattle.fates.specs.Promise.{surroundings_of, new_bytes, old_byte}
 use Rattle.fates.specs.Discipline.{Unforced, NeverForced, NoneForced}
 use Rattle.fates.proofs.Shapes.{shape_of, fill_after, is_plant, gives, held_after}
-use Rattle.fates.proofs.Story.{story, story-step, plants-counted}
-use Rattle.fates.proofs.Counted.{count-decided, none_yet}
+use Rattle.fates.proofs.Story.{story, story_step, plants_counted}
+use Rattle.fates.proofs.Counted.{count_decided, none_yet}
 
 -- An effect that forces nothing plants nothing and strikes nothing.
-plants-none : (s : Side) (f : Fill) (d : Effect) → Unforced d → is_plant s f (shape_of d) ≡ false
-plants-none s f (offered v) free = refl
-plants-none s f (followed v) free = refl
-plants-none s f taken free = refl
-plants-none s f ended free = refl
-plants-none s f cleared_away free = refl
-plants-none s f forced_full free = absurd free
-plants-none s f forced_empty free = refl
-plants-none s f nothing free = refl
+plants_none : (s : Side) (f : Fill) (d : Effect) → Unforced d → is_plant s f (shape_of d) ≡ false
+plants_none s f (offered v) free = refl
+plants_none s f (followed v) free = refl
+plants_none s f taken free = refl
+plants_none s f ended free = refl
+plants_none s f cleared_away free = refl
+plants_none s f forced_full free = absurd free
+plants_none s f forced_empty free = refl
+plants_none s f nothing free = refl
 
-strikes-none : (f : Fill) (d : Effect) → Unforced d → gives struck f (shape_of d) ≡ false
-strikes-none f (offered v) free = refl
-strikes-none f (followed v) free = refl
-strikes-none f taken free = refl
-strikes-none f ended free = refl
-strikes-none f cleared_away free = refl
-strikes-none f forced_full free = refl
-strikes-none f forced_empty free = absurd free
-strikes-none f nothing free = refl
+strikes_none : (f : Fill) (d : Effect) → Unforced d → gives struck f (shape_of d) ≡ false
+strikes_none f (offered v) free = refl
+strikes_none f (followed v) free = refl
+strikes_none f taken free = refl
+strikes_none f ended free = refl
+strikes_none f cleared_away free = refl
+strikes_none f forced_full free = refl
+strikes_none f forced_empty free = absurd free
+strikes_none f nothing free = refl
 
 module _ (g : Group) (s : Side) where
-  none-planted : (a : Surroundings) (f : Fill) (h : Offer) (n : ℕ) (es : List Event) → NeverForced g s a es
+  none_planted_lem : (a : Surroundings) (f : Fill) (h : Offer) (n : ℕ) (es : List Event) → NeverForced g s a es
       → planted_among (bytes s (left f h.value) n (effects g s a es)) ≡ 0
-  none-planted a f h n [] free = refl
-  none-planted a f h n (e ∷ es) free =
+  none_planted_lem a f h n [] free = refl
+  none_planted_lem a f h n (e ∷ es) free =
       let d = shape_of (effect g s a e) in
-      plants-counted s f h n (effect g s a e) (effects g s (surroundings_next a e) es)
-      ∙ rw (plants-none s f (effect g s a e) free.0)
-      (zero-add _ ∙ none-planted (surroundings_next a e) (fill_after s f d) (held_after s f h n d) (suc n) es free.1)
+      plants_counted s f h n (effect g s a e) (effects g s (surroundings_next a e) es)
+      ∙ rw (plants_none s f (effect g s a e) free.0)
+      (zero-add _ ∙ none_planted_lem (surroundings_next a e) (fill_after s f d) (held_after s f h n d) (suc n) es free.1)
 
-  none-struck : (a : Surroundings) (f : Fill) (h : Offer) (n : ℕ) (es : List Event) → NeverForced g s a es → count struck (story s f h n (effects g s a es)) ≡ 0
-  none-struck a f h n [] free = none_yet struck refl s f h n
-  none-struck a f h n (e ∷ es) free =
+  none_struck_lem : (a : Surroundings) (f : Fill) (h : Offer) (n : ℕ) (es : List Event) → NeverForced g s a es → count struck (story s f h n (effects g s a es)) ≡ 0
+  none_struck_lem a f h n [] free = none_yet struck refl s f h n
+  none_struck_lem a f h n (e ∷ es) free =
       let d = shape_of (effect g s a e) in
       let rest = effects g s (surroundings_next a e) es in
-      ap (count struck) (story-step s f h n (effect g s a e) rest)
-      ∙ count-decided struck refl f h n d (story s (fill_after s f d) (held_after s f h n d) (suc n) rest)
-      ∙ rw (strikes-none f (effect g s a e) free.0)
-      (zero-add _ ∙ none-struck (surroundings_next a e) (fill_after s f d) (held_after s f h n d) (suc n) es free.1)
+      ap (count struck) (story_step s f h n (effect g s a e) rest)
+      ∙ count_decided struck refl f h n d (story s (fill_after s f d) (held_after s f h n d) (suc n) rest)
+      ∙ rw (strikes_none f (effect g s a e) free.0)
+      (zero-add _ ∙ none_struck_lem (surroundings_next a e) (fill_after s f d) (held_after s f h n d) (suc n) es free.1)
 
   -- From any chip.
-  pub unforced-from : (c : Chip) (es : List Event) → NeverForced g s (surroundings_of c) es → NoneForced (new_bytes g s c es) (old_byte g s c es ++ new_bytes g s c es)
-  unforced-from c es free =
+  pub unforced_from : (c : Chip) (es : List Event) → NeverForced g s (surroundings_of c) es → NoneForced (new_bytes g s c es) (old_byte g s c es ++ new_bytes g s c es)
+  unforced_from c es free =
       let ch = channel_of c.core g s in
       record {
-        none_planted = none-planted (surroundings_of c) ch.fill (offered_at 0 ch.latch) 1 es free;
-        none_struck = none-struck (surroundings_of c) ch.fill (offered_at 0 ch.latch) 1 es free;
+        none_planted = none_planted_lem (surroundings_of c) ch.fill (offered_at 0 ch.latch) 1 es free;
+        none_struck = none_struck_lem (surroundings_of c) ch.fill (offered_at 0 ch.latch) 1 es free;
       }
 
   -- From power-up, whatever the edition and the levels.
   pub unforced : (ed : Edition) (l : Levels) (es : List Event) → NeverForced g s (at_power_up ed l) es
       → NoneForced (bytes_of g s ed l es) (bytes_of g s ed l es)
   unforced ed l es free = record {
-    none_planted = none-planted (at_power_up ed l) Empty (offered_at 0 0) 1 es free;
-    none_struck = none-struck (at_power_up ed l) Empty (offered_at 0 0) 1 es free;
+    none_planted = none_planted_lem (at_power_up ed l) Empty (offered_at 0 0) 1 es free;
+    none_struck = none_struck_lem (at_power_up ed l) Empty (offered_at 0 0) 1 es free;
   }

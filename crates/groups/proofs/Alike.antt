@@ -42,8 +42,8 @@ alike_then k l = record {
   lines = λ n small its. k.lines n small its ∙ l.lines n small its;
 }
 
-pub alike-back : {g : Group} {c' c : Core} → Alike g c' c → Alike g c c'
-alike-back k = record {
+pub alike_back : {g : Group} {c' c : Core} → Alike g c' c → Alike g c c'
+alike_back k = record {
   word = sym k.word;
   port = sym k.port;
   enables = λ s. sym (k.enables s);
@@ -57,16 +57,16 @@ pub record AlikeOnBus (g : Group) (c' c : Chip) : Type 0 where
   pub cycle : (s : Side) → running c'.phase g s ≡ running c.phase g s
 
 -- A port is its two channels and the levels outside.
-pub port-by-parts : (p q : Port) → p.input ≡ q.input → p.output ≡ q.output → p.outside ≡ q.outside → p ≡ q
-port-by-parts p q i o l =
+pub port_by_parts : (p q : Port) → p.input ≡ q.input → p.output ≡ q.output → p.outside ≡ q.outside → p ≡ q
+port_by_parts p q i o l =
     ap (λ x. record { input = x; output = p.output; outside = p.outside }) i
     ∙ ap (λ x. record { input = q.input; output = x; outside = p.outside }) o
     ∙ ap (λ x. record { input = q.input; output = q.output; outside = x }) l
 
 -- Where both ports are the same, each group's is.
-pub port-same : (c' c : Core) → c'.a ≡ c.a → c'.b ≡ c.b → (g : Group) → port_of c' g ≡ port_of c g
-port-same c' c a b A = a
-port-same c' c a b B = b
+pub port_same : (c' c : Core) → c'.a ≡ c.a → c'.b ≡ c.b → (g : Group) → port_of c' g ≡ port_of c g
+port_same c' c a b A = a
+port_same c' c a b B = b
 
 -- STB and ACK of a group come in at its own pins.
 pub line_same : (g : Group) (x y : ℕ) → SameAt g x y → (s : Side) → bit_of x (line_pin g s) ≡ bit_of y (line_pin g s)
@@ -75,6 +75,6 @@ line_same A x y same Output = same 6 (lit< tt) refl
 line_same B x y same s = same 2 (lit< tt) refl
 
 -- The signals at a group's pin are the group's.
-pub at-its-pin : (g : Group) (n : ℕ) → its_pin g n ≡ true → group_at n ≡ g
-at-its-pin A n its = let above = ltb-true _ n its in rw (le-ltb n 3 (omega (arith, above)))
-at-its-pin B n its = let below = ltb-true n _ its in rw (lt-ltb n 3 (omega (arith, below)))
+pub at_its_pin : (g : Group) (n : ℕ) → its_pin g n ≡ true → group_at n ≡ g
+at_its_pin A n its = let above = ltb-true _ n its in rw (le-ltb n 3 (omega (arith, above)))
+at_its_pin B n its = let below = ltb-true n _ its in rw (lt-ltb n 3 (omega (arith, below)))

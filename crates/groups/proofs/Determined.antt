@@ -5,14 +5,14 @@ use Rattle.bits.proofs.Determined.{Determines}
 use Rattle.groups.specs.contracts as groups_says
 use Rattle.groups.proofs as groups
 
-pub each-group-keeps-its-own-determined : Determines groups_says.each_group_keeps_its_own.ended groups.each_group_keeps_its_own.Reads.Learnt
-each-group-keeps-its-own-determined c x y p q = refl
+pub each_group_keeps_its_own_determined : Determines groups_says.each_group_keeps_its_own.ended groups.each_group_keeps_its_own.Reads.Learnt
+each_group_keeps_its_own_determined c x y p q = refl
 
-pub belongings-are-what-is-kept-determined : Determines groups_says.belongings_are_what_is_kept.ended groups.belongings_are_what_is_kept.Reads.Learnt
-belongings-are-what-is-kept-determined c x y p q = refl
+pub belongings_are_what_is_kept_determined : Determines groups_says.belongings_are_what_is_kept.ended groups.belongings_are_what_is_kept.Reads.Learnt
+belongings_are_what_is_kept_determined c x y p q = refl
 
-pub lines-are-divided-at-pin-3-determined : Determines groups_says.lines_are_divided_at_pin_3.ended groups.lines_are_divided_at_pin_3.Reads.Learnt
-lines-are-divided-at-pin-3-determined c x y p q = refl
+pub lines_are_divided_at_pin_3_determined : Determines groups_says.lines_are_divided_at_pin_3.ended groups.lines_are_divided_at_pin_3.Reads.Learnt
+lines_are_divided_at_pin_3_determined c x y p q = refl
 
-pub in-the-way-is-refused-with-4-determined : Determines groups_says.in_the_way_is_refused_with_4.ended groups.in_the_way_is_refused_with_4.Reads.Learnt
-in-the-way-is-refused-with-4-determined c x y p q = refl
+pub in_the_way_is_refused_with_4_determined : Determines groups_says.in_the_way_is_refused_with_4.ended groups.in_the_way_is_refused_with_4.Reads.Learnt
+in_the_way_is_refused_with_4_determined c x y p q = refl

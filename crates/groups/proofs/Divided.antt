@@ -7,7 +7,7 @@ use Prim.Native.Nat.{ℕ, ◌<◌}
 use lib.Dec.{eqb}
 use Rattle.bits.specs.Bit.{bit_of}
 use Rattle.bits.proofs.Tested.{bits}
-use Rattle.bits.proofs.BitLaws.{bit-of-assembled, assembled-same, assembled-bits}
+use Rattle.bits.proofs.BitLaws.{bit_of_assembled, assembled_same, assembled_bits}
 use Rattle.control.specs.declared.Group.{Group}
 use Rattle.control.specs.declared.Group.TheVariants.{A, B}
 use Rattle.chip.specs.declared.Chip.{Chip}
@@ -15,10 +15,10 @@ use Rattle.chip.specs.State.{port_of}
 use Rattle.groups.specs.Belongings.{its_pin, at_its_pins}
 use Rattle.groups.specs.Doings.{acts_on}
 use Rattle.groups.specs.Divided.{PinDivided, LinesOfBytes, SameInAll}
-use Rattle.groups.proofs.Alike.{port-by-parts}
+use Rattle.groups.proofs.Alike.{port_by_parts}
 
-pub pin-divided : (n : ℕ) → n < 8 → PinDivided n
-pin-divided n small = record { belongs = bits 8 (its_pin A) (λ n. not (its_pin B n)) tt n small; acted = acted }
+pub pin_divided : (n : ℕ) → n < 8 → PinDivided n
+pin_divided n small = record { belongs = bits 8 (its_pin A) (λ n. not (its_pin B n)) tt n small; acted = acted }
   where
     acted : (g : Group) → acts_on g n ≡ (its_pin g n && not (eqb n 3))
     acted A = bits 8 (acts_on A) (λ n. its_pin A n && not (eqb n 3)) tt n small
@@ -26,18 +26,18 @@ pin-divided n small = record { belongs = bits 8 (its_pin A) (λ n. not (its_pin 
 
 -- Bytes that have the same bits at the pins of both groups.
 pub bit_at : (g : Group) (x n : ℕ) → n < 8 → its_pin g n ≡ true → bit_of (at_its_pins g x) n ≡ bit_of x n
-bit_at g x n small its = bit-of-assembled (λ n. its_pin g n && bit_of x n) n small ∙ rw (its)
+bit_at g x n small its = bit_of_assembled (λ n. its_pin g n && bit_of x n) n small ∙ rw (its)
 
 same_byte : (x y : ℕ) → x < 256 → y < 256 → ((g : Group) → at_its_pins g x ≡ at_its_pins g y) → x ≡ y
 same_byte x y hx hy same =
-    sym (assembled-bits x hx) ∙ assembled-same (bit_of x) (bit_of y) (λ n small. go n small (its_pin B n) refl) ∙ assembled-bits y hy
+    sym (assembled_bits x hx) ∙ assembled_same (bit_of x) (bit_of y) (λ n small. go n small (its_pin B n) refl) ∙ assembled_bits y hy
   where
     at : (g : Group) (n : ℕ) → n < 8 → its_pin g n ≡ true → bit_of x n ≡ bit_of y n
     at g n small its = sym (bit_at g x n small its) ∙ ap (λ b. bit_of b n) (same g) ∙ bit_at g y n small its
 
     go : (n : ℕ) → n < 8 → (of_b : Bool) → its_pin B n ≡ of_b → bit_of x n ≡ bit_of y n
     go n small true is = at B n small is
-    go n small false is = at A n small ((pin-divided n small).belongs ∙ rw (is))
+    go n small false is = at A n small ((pin_divided n small).belongs ∙ rw (is))
 
 -- A chip, put together of its parts.
 abbrev together : Chip → Chip
@@ -55,8 +55,8 @@ together c =
     }
 
 -- Nothing of the chip is forgotten.
-pub same-in-all : (c' c : Chip) → LinesOfBytes c' → LinesOfBytes c → SameInAll c' c → c' ≡ c
-same-in-all c' c small' small k =
+pub same_in_all : (c' c : Chip) → LinesOfBytes c' → LinesOfBytes c → SameInAll c' c → c' ≡ c
+same_in_all c' c small' small k =
     let a : c'.core.a ≡ c.core.a = port A in
     let b : c'.core.b ≡ c.core.b = port B in
     let latch = same_byte _ _ small'.latch small.latch (λ g. ap (λ x. x.latch) (k.belongings g)) in
@@ -69,5 +69,5 @@ same-in-all c' c small' small k =
   where
     port : (g : Group) → port_of c'.core g ≡ port_of c.core g
     port g =
-        port-by-parts (port_of c'.core g) (port_of c.core g)
+        port_by_parts (port_of c'.core g) (port_of c.core g)
         (ap (λ x. x.input) (k.belongings g)) (ap (λ x. x.output) (k.belongings g)) (ap (λ x. x.port_outside) (k.belongings g))

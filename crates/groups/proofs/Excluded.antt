@@ -27,40 +27,40 @@ use Rattle.groups.specs.Excluded.{Example, shown, Changes, EachChanges, examples
 abbrev by_account : Group → List Event → ℕ
 by_account g es = at_its_pins g (levels_shown (over (opened Older all_high) es) 2)
 
-shown-by-account : (g : Group) (es : List Event) → shown g (run (power_up_with all_high) es) ≡ by_account g es
-shown-by-account g es = ap (at_its_pins g) ((account Older all_high es).levels 2)
+shown_by_account : (g : Group) (es : List Event) → shown g (run (power_up_with all_high) es) ≡ by_account g es
+shown_by_account g es = ap (at_its_pins g) ((account Older all_high es).levels 2)
 
 -- One history after another.
 run_on : (c : Chip) (es later : List Event) → run (run c es) later ≡ run c (es ++ later)
 run_on c [] later = refl
 run_on c (e ∷ es) later = run_on (stepped c e).chip es later
 
-changes-by-account : (x : Example) → by_account x.group x.before ≡ x.was → by_account x.group (x.before ++ x.done) ≡ x.becomes
+changes_by_account : (x : Example) → by_account x.group x.before ≡ x.was → by_account x.group (x.before ++ x.done) ≡ x.becomes
     → eqb x.becomes x.was ≡ false → Changes x
-changes-by-account x was becomes differ =
-    let first = shown-by-account x.group x.before ∙ was in
+changes_by_account x was becomes differ =
+    let first = shown_by_account x.group x.before ∙ was in
     let on = run_on (power_up_with all_high) x.before x.done in
-    let last = ap (shown x.group) on ∙ shown-by-account x.group (x.before ++ x.done) ∙ becomes in
+    let last = ap (shown x.group) on ∙ shown_by_account x.group (x.before ++ x.done) ∙ becomes in
     record { first = first; last = last; not_left = λ left. eqb-false _ _ differ (sym last ∙ ap (λ b. b.levels) left ∙ first) }
 
-pub each-changes : EachChanges examples
+pub each_changes : EachChanges examples
 unfolding bit_of value_of
-each-changes = (
-  changes-by-account _ refl refl refl,
+each_changes = (
+  changes_by_account _ refl refl refl,
   (
-    changes-by-account _ refl refl refl,
+    changes_by_account _ refl refl refl,
     (
-      changes-by-account _ refl refl refl,
+      changes_by_account _ refl refl refl,
       (
-        changes-by-account _ refl refl refl,
+        changes_by_account _ refl refl refl,
         (
-          changes-by-account _ refl refl refl,
+          changes_by_account _ refl refl refl,
           (
-            changes-by-account _ refl refl refl,
+            changes_by_account _ refl refl refl,
             (
-              changes-by-account _ refl refl refl,
+              changes_by_account _ refl refl refl,
               (
-                changes-by-account _ refl refl refl,
+                changes_by_account _ refl refl refl,
                 tt,
               ),
             ),
@@ -71,7 +71,7 @@ each-changes = (
   ),
 )
 
-pub none-is-of : (g : Group) → NoneIsOf g excluded
+pub none_is_of : (g : Group) → NoneIsOf g excluded
 unfolding bit_of
-none-is-of A = (refl, (refl, (refl, (refl, (refl, tt)))))
-none-is-of B = (refl, (refl, (refl, (refl, (refl, tt)))))
+none_is_of A = (refl, (refl, (refl, (refl, (refl, tt)))))
+none_is_of B = (refl, (refl, (refl, (refl, (refl, tt)))))

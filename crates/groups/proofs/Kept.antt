@@ -22,12 +22,12 @@ use Rattle.groups.specs.Doings.{elsewhere, acts_on, only_of}
 use Rattle.groups.specs.Kept.{PinKept, PortKept, ChannelKept, KeptByA, KeptByB, SameFrom3, SameTo3}
 use Rattle.groups.proofs.Seen.{same_bits}
 use Rattle.groups.proofs.Divided.{bit_at}
-use Rattle.groups.proofs.Pins.{bit-elsewhere, same-elsewhere}
+use Rattle.groups.proofs.Pins.{bit_elsewhere_lem, same_elsewhere}
 
 -- What belongs to a group, by its parts.
 module _ (g : Group) (c c' : Chip) (same : belongings_of g c' ≡ belongings_of g c) where
-  pin-kept : (n : ℕ) → n < 8 → its_pin g n ≡ true → PinKept c' c n
-  pin-kept n small its = record {
+  pin_kept : (n : ℕ) → n < 8 → its_pin g n ≡ true → PinKept c' c n
+  pin_kept n small its = record {
     level = at _ _ (ap (λ b. b.levels) same);
     driven = at _ _ (ap (λ b. b.driven) same);
     told = at _ _ (ap (λ b. b.told) same);
@@ -38,18 +38,18 @@ module _ (g : Group) (c c' : Chip) (same : belongings_of g c' ≡ belongings_of 
       at : (x y : ℕ) → at_its_pins g x ≡ at_its_pins g y → bit_of x n ≡ bit_of y n
       at x y is = sym (bit_at g x n small its) ∙ ap (λ b. bit_of b n) is ∙ bit_at g y n small its
 
-port-kept : (c c' : Chip) (p : ℕ) → pins_of c' p ≡ pins_of c p → read_of c' p ≡ read_of c p → PortKept c' c p
-port-kept c c' p shown read = record { levels = ap (λ b. b.levels) shown; driven = ap (λ b. b.driven) shown; read = read }
+port_kept : (c c' : Chip) (p : ℕ) → pins_of c' p ≡ pins_of c p → read_of c' p ≡ read_of c p → PortKept c' c p
+port_kept c c' p shown read = record { levels = ap (λ b. b.levels) shown; driven = ap (λ b. b.driven) shown; read = read }
 
-port-back : (c c' : Chip) (p : ℕ) → PortKept c' c p → pins_of c' p ≡ pins_of c p
-port-back c c' p k =
+port_back : (c c' : Chip) (p : ℕ) → PortKept c' c p → pins_of c' p ≡ pins_of c p
+port_back c c' p k =
     let all : ◌≡◌ {A = Pins}
     (record { levels = (pins_of c' p).levels; driven = (pins_of c' p).driven })
     (record { levels = (pins_of c p).levels; driven = (pins_of c p).driven }) = cc (k.levels, k.driven) in
     all
 
-channel-kept : (k k' : Channel) → k' ≡ k → ChannelKept k' k
-channel-kept k k' same = record {
+channel_kept : (k k' : Channel) → k' ≡ k → ChannelKept k' k
+channel_kept k k' same = record {
   fill = ap (λ b. b.fill) same;
   latch = ap (λ b. b.latch) same;
   offered = ap (λ b. b.tally.offered) same;
@@ -77,8 +77,8 @@ together k =
       };
     }
 
-channel-back : (k k' : Channel) → ChannelKept k' k → k' ≡ k
-channel-back k k' same =
+channel_back : (k k' : Channel) → ChannelKept k' k → k' ≡ k
+channel_back k k' same =
     let all : together k' ≡ together k =
     cc (
       same.fill,
@@ -94,40 +94,40 @@ channel-back k k' same =
     all
 
 module _ (c c' : Chip) where
-  kept-by-a : belongings_of A c' ≡ belongings_of A c → KeptByA c' c
-  kept-by-a same = record {
-    pins = λ n three small. pin-kept A c c' same n small (lt-ltb 2 n (omega (arith, three)));
-    port = port-kept c c' 0 (ap (λ b. b.port) same) (ap (λ b. b.port_read) same);
+  kept_by_a : belongings_of A c' ≡ belongings_of A c → KeptByA c' c
+  kept_by_a same = record {
+    pins = λ n three small. pin_kept A c c' same n small (lt-ltb 2 n (omega (arith, three)));
+    port = port_kept c c' 0 (ap (λ b. b.port) same) (ap (λ b. b.port_read) same);
     outside = ap (λ b. b.port_outside) same;
-    input = channel-kept _ _ (ap (λ b. b.input) same);
-    output = channel-kept _ _ (ap (λ b. b.output) same);
+    input = channel_kept _ _ (ap (λ b. b.input) same);
+    output = channel_kept _ _ (ap (λ b. b.output) same);
     input_enabled = ap (λ b. b.input_enabled) same;
     output_enabled = ap (λ b. b.output_enabled) same;
     interrupt = ap (λ b. b.interrupt) same;
   }
 
-  kept-by-b : belongings_of B c' ≡ belongings_of B c → KeptByB c' c
-  kept-by-b same = record {
-    pins = λ n few. pin-kept B c c' same n (omega (arith, few)) (lt-ltb n 3 few);
-    port = port-kept c c' 1 (ap (λ b. b.port) same) (ap (λ b. b.port_read) same);
+  kept_by_b : belongings_of B c' ≡ belongings_of B c → KeptByB c' c
+  kept_by_b same = record {
+    pins = λ n few. pin_kept B c c' same n (omega (arith, few)) (lt-ltb n 3 few);
+    port = port_kept c c' 1 (ap (λ b. b.port) same) (ap (λ b. b.port_read) same);
     outside = ap (λ b. b.port_outside) same;
-    input = channel-kept _ _ (ap (λ b. b.input) same);
-    output = channel-kept _ _ (ap (λ b. b.output) same);
+    input = channel_kept _ _ (ap (λ b. b.input) same);
+    output = channel_kept _ _ (ap (λ b. b.output) same);
     enabled = ap (λ b. b.input_enabled) same;
     interrupt = ap (λ b. b.interrupt) same;
   }
 
-  back-a : KeptByA c' c → belongings_of A c' ≡ belongings_of A c
-  back-a k =
+  back_a : KeptByA c' c → belongings_of A c' ≡ belongings_of A c
+  back_a k =
       let pin : (n : ℕ) → n < 8 → its_pin A n ≡ true → PinKept c' c n =
       λ n small its. k.pins n (let above = ltb-true 2 n its in omega (arith, above)) small in
       cc (
-        channel-back _ _ k.input,
-        channel-back _ _ k.output,
+        channel_back _ _ k.input,
+        channel_back _ _ k.output,
         k.input_enabled,
         k.output_enabled,
         k.interrupt,
-        port-back c c' 0 k.port,
+        port_back c c' 0 k.port,
         k.port.read,
         k.outside,
         same_bits A (pins_of c' 2).levels (pins_of c 2).levels (λ n small its. (pin n small its).level),
@@ -137,15 +137,15 @@ module _ (c c' : Chip) where
         same_bits A c'.core.c.outside c.core.c.outside (λ n small its. (pin n small its).outside),
       )
 
-  back-b : KeptByB c' c → belongings_of B c' ≡ belongings_of B c
-  back-b k =
+  back_b : KeptByB c' c → belongings_of B c' ≡ belongings_of B c
+  back_b k =
       let pin : (n : ℕ) → n < 8 → its_pin B n ≡ true → PinKept c' c n = λ n small its. k.pins n (ltb-true n 3 its) in
       cc (
-        channel-back _ _ k.input,
-        channel-back _ _ k.output,
+        channel_back _ _ k.input,
+        channel_back _ _ k.output,
         k.enabled,
         k.interrupt,
-        port-back c c' 1 k.port,
+        port_back c c' 1 k.port,
         k.port.read,
         k.outside,
         same_bits B (pins_of c' 2).levels (pins_of c 2).levels (λ n small its. (pin n small its).level),
@@ -155,16 +155,16 @@ module _ (c c' : Chip) where
         same_bits B c'.core.c.outside c.core.c.outside (λ n small its. (pin n small its).outside),
       )
 
-  pub exactly-a : (belongings_of A c' ≡ belongings_of A c) ↔ KeptByA c' c
-  exactly-a = (kept-by-a, back-a)
+  pub exactly_a : (belongings_of A c' ≡ belongings_of A c) ↔ KeptByA c' c
+  exactly_a = (kept_by_a, back_a)
 
-  pub exactly-b : (belongings_of B c' ≡ belongings_of B c) ↔ KeptByB c' c
-  exactly-b = (kept-by-b, back-b)
+  pub exactly_b : (belongings_of B c' ≡ belongings_of B c) ↔ KeptByB c' c
+  exactly_b = (kept_by_b, back_b)
 
 -- Bytes that are the same elsewhere have the same bits there.
-elsewhere-bits : (g : Group) (x y : ℕ) → eqb (elsewhere g x) (elsewhere g y) ≡ true → (n : ℕ) → n < 8 → acts_on g n ≡ false → bit_of x n ≡ bit_of y n
-elsewhere-bits g x y same n small none =
-    sym (bit-elsewhere g x n small none) ∙ ap (λ b. bit_of b n) (eqb-true _ _ same) ∙ bit-elsewhere g y n small none
+elsewhere_bits : (g : Group) (x y : ℕ) → eqb (elsewhere g x) (elsewhere g y) ≡ true → (n : ℕ) → n < 8 → acts_on g n ≡ false → bit_of x n ≡ bit_of y n
+elsewhere_bits g x y same n small none =
+    sym (bit_elsewhere_lem g x n small none) ∙ ap (λ b. bit_of b n) (eqb-true _ _ same) ∙ bit_elsewhere_lem g y n small none
 
 -- So levels on port C are a group's exactly where they are the same elsewhere.
 its : (b : Bool) → (((b || false) && true) ≡ true) ↔ (b ≡ true)
@@ -175,14 +175,14 @@ module _ (c : Chip) (d : ℕ) where
   abbrev l : ℕ
   l = c.core.c.outside
 
-  pub own-lines-b : (only_of B (surroundings_of c) (levels 2 d) ≡ true) ↔ SameFrom3 d l
-  own-lines-b = (
-    λ only n three small. elsewhere-bits B d l ((its _).0 only) n small (le-ltb n 3 three),
-    λ same. (its _).1 (same-elsewhere B d l (λ n small none. same n (ltb-false n _ none) small)),
+  pub own_lines_b : (only_of B (surroundings_of c) (levels 2 d) ≡ true) ↔ SameFrom3 d l
+  own_lines_b = (
+    λ only n three small. elsewhere_bits B d l ((its _).0 only) n small (le-ltb n 3 three),
+    λ same. (its _).1 (same_elsewhere B d l (λ n small none. same n (ltb-false n _ none) small)),
   )
 
-  pub own-lines-a : (only_of A (surroundings_of c) (levels 2 d) ≡ true) ↔ SameTo3 d l
-  own-lines-a = (
-    λ only n few. elsewhere-bits A d l ((its _).0 only) n (omega (arith, few)) (le-ltb 3 n few),
-    λ same. (its _).1 (same-elsewhere A d l (λ n small none. same n (ltb-false _ n none))),
+  pub own_lines_a : (only_of A (surroundings_of c) (levels 2 d) ≡ true) ↔ SameTo3 d l
+  own_lines_a = (
+    λ only n few. elsewhere_bits A d l ((its _).0 only) n (omega (arith, few)) (le-ltb 3 n few),
+    λ same. (its _).1 (same_elsewhere A d l (λ n small none. same n (ltb-false _ n none))),
   )

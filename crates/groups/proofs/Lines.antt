@@ -18,11 +18,11 @@ use Prim.Native.Nat.{ℕ}
 abbrev shown : List Event → ℕ → List ℕ
 shown es p = let a = over (opened Older all_high) es in levels_shown a p ∷ mask_shown a p ∷ read_answer a p ∷ []
 
-by-account : (es : List Event) → sight_after es ≡ record { port_a = shown es 0; port_b = shown es 1; port_c = shown es 2 }
-by-account es =
+by_account : (es : List Event) → sight_after es ≡ record { port_a = shown es 0; port_b = shown es 1; port_c = shown es 2 }
+by_account es =
     let k = account Older all_high es in
     cc (k.levels 0, k.driven 0, k.reads 0, k.levels 1, k.driven 1, k.reads 1, k.levels 2, k.driven 2, k.reads 2)
 
-pub lines-in-numbers : LinesInNumbers
+pub lines_in_numbers : LinesInNumbers
 unfolding bit_of value_of
-lines-in-numbers = record { first = by-account at_work; taken = by-account (at_work ++ levels 2 0xf8); strobed = by-account (at_work ++ levels 2 0x0f) }
+lines_in_numbers = record { first = by_account at_work; taken = by_account (at_work ++ levels 2 0xf8); strobed = by_account (at_work ++ levels 2 0x0f) }

@@ -8,57 +8,57 @@ use lib.Dec.{eqb}
 use borrow.Author.Tests.{ltb-true, lt-ltb, le-ltb, eqb-true, eq-eqb, ne_eqb}
 use Rattle.bits.specs.Bit.{bit_of, assembled}
 use Rattle.bits.proofs.Logic.{contrary}
-use Rattle.bits.proofs.BitLaws.{bit-of-assembled}
-use Rattle.bits.proofs.Sum.{byte-same}
+use Rattle.bits.proofs.BitLaws.{bit_of_assembled}
+use Rattle.bits.proofs.Sum.{byte_same}
 use Rattle.control.specs.declared.Group.{Group}
 use Rattle.control.specs.declared.Group.TheVariants.{A, B}
 use Rattle.chip.specs.Handshakes.{group_at}
 use Rattle.groups.specs.Belongings.{its_pin}
 use Rattle.groups.specs.Doings.{other, acts_on, elsewhere}
-use Rattle.groups.proofs.Alike.{SameAt, at-its-pin}
+use Rattle.groups.proofs.Alike.{SameAt, at_its_pin}
 
 -- No group acts on a pin of the other.
-not-acted : (g : Group) (n : ℕ) → its_pin g n ≡ true → acts_on (other g) n ≡ false
-not-acted A n its = let above = ltb-true _ n its in le-ltb n _ (omega (arith, above))
-not-acted B n its = let below = ltb-true n _ its in le-ltb _ n (omega (arith, below))
+not_acted : (g : Group) (n : ℕ) → its_pin g n ≡ true → acts_on (other g) n ≡ false
+not_acted A n its = let above = ltb-true _ n its in le-ltb n _ (omega (arith, above))
+not_acted B n its = let below = ltb-true n _ its in le-ltb _ n (omega (arith, below))
 
 -- A pin on which the other group acts is none of the group's.
-pub acted-apart : (g : Group) (n k : ℕ) → acts_on (other g) n ≡ true → its_pin g k ≡ true → eqb k n ≡ false
-acted-apart g n k acts its =
-    ne_eqb k n (λ same. contrary (acts_on (other g) n) (ap (acts_on (other g)) (sym same) ∙ not-acted g k its) acts)
+pub acted_apart : (g : Group) (n k : ℕ) → acts_on (other g) n ≡ true → its_pin g k ≡ true → eqb k n ≡ false
+acted_apart g n k acts its =
+    ne_eqb k n (λ same. contrary (acts_on (other g) n) (ap (acts_on (other g)) (sym same) ∙ not_acted g k its) acts)
 
 -- The signals at a pin on which a group acts are that group's, for the pin is.
-acted-its : (g : Group) (n : ℕ) → acts_on g n ≡ true → its_pin g n ≡ true
-acted-its A n acts = let above = ltb-true _ n acts in lt-ltb _ n (omega (arith, above))
-acted-its B n acts = let below = ltb-true n _ acts in lt-ltb n _ (omega (arith, below))
+acted_its : (g : Group) (n : ℕ) → acts_on g n ≡ true → its_pin g n ≡ true
+acted_its A n acts = let above = ltb-true _ n acts in lt-ltb _ n (omega (arith, above))
+acted_its B n acts = let below = ltb-true n _ acts in lt-ltb n _ (omega (arith, below))
 
-pub acted-group : (g : Group) (n : ℕ) → acts_on g n ≡ true → group_at n ≡ g
-acted-group g n acts = at-its-pin g n (acted-its g n acts)
+pub acted_group : (g : Group) (n : ℕ) → acts_on g n ≡ true → group_at n ≡ g
+acted_group g n acts = at_its_pin g n (acted_its g n acts)
 
 -- Bit n of a byte, where the group does not act on that pin.
 abbrev bit_elsewhere : Group → ℕ → ℕ → Bool
 bit_elsewhere g x n = not (acts_on g n) && bit_of x n
 
-assembled-elsewhere : (g : Group) (x : ℕ) → assembled (bit_elsewhere g x) ≡ elsewhere g x
-assembled-elsewhere g x = byte-same (bit_elsewhere g x) (bit_elsewhere g x) (λ n small. refl)
+assembled_elsewhere : (g : Group) (x : ℕ) → assembled (bit_elsewhere g x) ≡ elsewhere g x
+assembled_elsewhere g x = byte_same (bit_elsewhere g x) (bit_elsewhere g x) (λ n small. refl)
 
-pub bit-elsewhere : (g : Group) (x n : ℕ) → n < 8 → acts_on g n ≡ false → bit_of (elsewhere g x) n ≡ bit_of x n
-bit-elsewhere g x n small none =
-    ap (λ b. bit_of b n) (sym (assembled-elsewhere g x)) ∙ bit-of-assembled (bit_elsewhere g x) n small ∙ rw (none)
+pub bit_elsewhere_lem : (g : Group) (x n : ℕ) → n < 8 → acts_on g n ≡ false → bit_of (elsewhere g x) n ≡ bit_of x n
+bit_elsewhere_lem g x n small none =
+    ap (λ b. bit_of b n) (sym (assembled_elsewhere g x)) ∙ bit_of_assembled (bit_elsewhere g x) n small ∙ rw (none)
 
 -- Bytes that differ only where the other group acts have the same bits at the group's pins.
 pub same_at : (g : Group) (x y : ℕ) → eqb (elsewhere (other g) x) (elsewhere (other g) y) ≡ true → SameAt g x y
 same_at g x y same n small its =
-    let none = not-acted g n its in
-    sym (bit-elsewhere (other g) x n small none)
+    let none = not_acted g n its in
+    sym (bit_elsewhere_lem (other g) x n small none)
     ∙ ap (λ b. bit_of b n) (eqb-true _ _ same)
-    ∙ bit-elsewhere (other g) y n small none
+    ∙ bit_elsewhere_lem (other g) y n small none
 
 -- Said pin by pin.
-pub same-elsewhere : (g : Group) (x y : ℕ) → ((n : ℕ) → n < 8 → acts_on g n ≡ false → bit_of x n ≡ bit_of y n)
+pub same_elsewhere : (g : Group) (x y : ℕ) → ((n : ℕ) → n < 8 → acts_on g n ≡ false → bit_of x n ≡ bit_of y n)
     → eqb (elsewhere g x) (elsewhere g y) ≡ true
-same-elsewhere g x y same =
-    eq-eqb _ _ (sym (assembled-elsewhere g x) ∙ byte-same (bit_elsewhere g x) (bit_elsewhere g y) (λ n small. go n small (acts_on g n) refl))
+same_elsewhere g x y same =
+    eq-eqb _ _ (sym (assembled_elsewhere g x) ∙ byte_same (bit_elsewhere g x) (bit_elsewhere g y) (λ n small. go n small (acts_on g n) refl))
   where
     go : (n : ℕ) → n < 8 → (acts : Bool) → acts_on g n ≡ acts → (not acts && bit_of x n) ≡ (not acts && bit_of y n)
     go n small true acts = refl

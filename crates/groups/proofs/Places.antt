@@ -21,61 +21,61 @@ use Rattle.groups.proofs.Pins.{same_at}
 apart : (g : Group) (x y : ℕ) → eqb y (port_number g) ≡ false → eqb x y ≡ true → eqb x (port_number g) ≡ false
 apart g x y differ at = rw (eqb-true x y at) (differ)
 
-ports-apart : (g : Group) → eqb (port_number (other g)) (port_number g) ≡ false
-ports-apart A = refl
-ports-apart B = refl
+ports_apart : (g : Group) → eqb (port_number (other g)) (port_number g) ≡ false
+ports_apart A = refl
+ports_apart B = refl
 
-lines-apart : (g : Group) → eqb 2 (port_number g) ≡ false
-lines-apart A = refl
-lines-apart B = refl
+lines_apart : (g : Group) → eqb 2 (port_number g) ≡ false
+lines_apart A = refl
+lines_apart B = refl
 
-control-apart : (g : Group) → eqb 3 (port_number g) ≡ false
-control-apart A = refl
-control-apart B = refl
+control_apart : (g : Group) → eqb 3 (port_number g) ≡ false
+control_apart A = refl
+control_apart B = refl
 
 -- So the cycles of the other group, and a read of port C or of control, are at another address.
-pub read-away : (g : Group) (x : ℕ) → its_cycle (other g) (Reading x) ≡ true → eqb x (port_number g) ≡ false
-read-away g x its = apart g x _ (ports-apart g) its
+pub read_away : (g : Group) (x : ℕ) → its_cycle (other g) (Reading x) ≡ true → eqb x (port_number g) ≡ false
+read_away g x its = apart g x _ (ports_apart g) its
 
-pub for-both-away : (g : Group) (x : ℕ) → reads_for_both (Reading x) ≡ true → eqb x (port_number g) ≡ false
-for-both-away g x status = one_of (eqb x 2) (eqb x 3) status (apart g x 2 (lines-apart g)) (apart g x 3 (control-apart g))
+pub for_both_away : (g : Group) (x : ℕ) → reads_for_both (Reading x) ≡ true → eqb x (port_number g) ≡ false
+for_both_away g x status = one_of (eqb x 2) (eqb x 3) status (apart g x 2 (lines_apart g)) (apart g x 3 (control_apart g))
 
-pub write-away : (g : Group) (x d : ℕ) → its_cycle (other g) (Writing x d) ≡ true → eqb x (port_number g) ≡ false
-write-away g x d its =
+pub write_away : (g : Group) (x d : ℕ) → its_cycle (other g) (Writing x d) ≡ true → eqb x (port_number g) ≡ false
+write_away g x d its =
     one_of _ (eqb x 3 && sets_bit (other g) d) its
-    (apart g x _ (ports-apart g))
-    (λ word. apart g x 3 (control-apart g) (both (eqb x 3) _ word).0)
+    (apart g x _ (ports_apart g))
+    (λ word. apart g x 3 (control_apart g) (both (eqb x 3) _ word).0)
 
 -- What a group writes at control is bit set/reset of a pin on which it acts; at port C it writes nothing.
-pub sets-bit : (h : Group) (x d : ℕ) → its_cycle h (Writing x d) ≡ true → x ≡ 3 → (bit_of d 7 ≡ false) × (acts_on h (d / 2 % 8) ≡ true)
-sets-bit h x d its three =
-    let word = both (not (bit_of d 7)) _ (sym (word-its h) ∙ ap (λ x. its_cycle h (Writing x d)) (sym three) ∙ its) in
+pub sets_bit_lem : (h : Group) (x d : ℕ) → its_cycle h (Writing x d) ≡ true → x ≡ 3 → (bit_of d 7 ≡ false) × (acts_on h (d / 2 % 8) ≡ true)
+sets_bit_lem h x d its three =
+    let word = both (not (bit_of d 7)) _ (sym (word_its h) ∙ ap (λ x. its_cycle h (Writing x d)) (sym three) ∙ its) in
     (not-true (bit_of d 7) word.0, word.1)
   where
-    word-its : (h : Group) → its_cycle h (Writing 3 d) ≡ sets_bit h d
-    word-its A = refl
-    word-its B = refl
+    word_its : (h : Group) → its_cycle h (Writing 3 d) ≡ sets_bit h d
+    word_its A = refl
+    word_its B = refl
 
-pub writes-no-lines : (h : Group) (x d : ℕ) → its_cycle h (Writing x d) ≡ true → x ≡ 2 → ⊥
-writes-no-lines h x d its two = contrary _ (ap (λ x. its_cycle h (Writing x d)) two ∙ none h) its
+pub writes_no_lines : (h : Group) (x d : ℕ) → its_cycle h (Writing x d) ≡ true → x ≡ 2 → ⊥
+writes_no_lines h x d its two = contrary _ (ap (λ x. its_cycle h (Writing x d)) two ∙ none h) its
   where
     none : (h : Group) → its_cycle h (Writing 2 d) ≡ false
     none A = refl
     none B = refl
 
 -- Levels of the other group come onto another port than the group's;
-pub levels-away : (g : Group) (a : Surroundings) (x d : ℕ) → is_of (other g) a (new_levels x d) ≡ true → eqb x (port_number g) ≡ false
-levels-away g a x d its =
-    one_of _ (eqb x 2 && _) its (apart g x _ (ports-apart g)) (λ at. apart g x 2 (lines-apart g) (both (eqb x 2) _ at).0)
+pub levels_away : (g : Group) (a : Surroundings) (x d : ℕ) → is_of (other g) a (new_levels x d) ≡ true → eqb x (port_number g) ≡ false
+levels_away g a x d its =
+    one_of _ (eqb x 2 && _) its (apart g x _ (ports_apart g)) (λ at. apart g x 2 (lines_apart g) (both (eqb x 2) _ at).0)
 
 -- and it is not port C, or they are the old ones at the group's pins.
-pub levels-either : {X : Type 0} (g : Group) (a : Surroundings) (x d : ℕ) → is_of (other g) a (new_levels x d) ≡ true
+pub levels_either : {X : Type 0} (g : Group) (a : Surroundings) (x d : ℕ) → is_of (other g) a (new_levels x d) ≡ true
     → (eqb x 2 ≡ false → X) → (eqb x 2 ≡ true → SameAt g d a.levels_c → X) → X
-levels-either g a x d its on-port on-lines =
+levels_either g a x d its on_port_lem on_lines =
     one_of _ (eqb x 2 && _) its
-    (λ at. on-port (not-lines (other g) at))
-    (λ at. let is = both (eqb x 2) _ at in on-lines is.0 (same_at g d a.levels_c is.1))
+    (λ at. on_port_lem (not_lines (other g) at))
+    (λ at. let is = both (eqb x 2) _ at in on_lines is.0 (same_at g d a.levels_c is.1))
   where
-    not-lines : (h : Group) → eqb x (port_number h) ≡ true → eqb x 2 ≡ false
-    not-lines A at = rw (eqb-true x 0 at)
-    not-lines B at = rw (eqb-true x 1 at)
+    not_lines : (h : Group) → eqb x (port_number h) ≡ true → eqb x 2 ≡ false
+    not_lines A at = rw (eqb-true x 0 at)
+    not_lines B at = rw (eqb-true x 1 at)

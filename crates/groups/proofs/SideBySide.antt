@@ -20,10 +20,10 @@ side_by_side = record {
   prints_alone = refl;
 }
 
-pub read-in-the-way : ReadInTheWay
+pub read_in_the_way : ReadInTheWay
 unfolding bit_of
-read-in-the-way = record { with_it = refl; without_it = refl; not_out_of_the_way = refl; others_out_of_the_way = refl }
+read_in_the_way = record { with_it = refl; without_it = refl; not_out_of_the_way = refl; others_out_of_the_way = refl }
 
-pub status-read : StatusRead
+pub status_read_lem : StatusRead
 unfolding bit_of
-status-read = record { stays = refl; waits = refl }
+status_read_lem = record { stays = refl; waits = refl }

@@ -37,12 +37,12 @@ device = record {
   after_end = after_end;
   after_levels = after_levels;
   answer = read_of;
-  phase-on = λ ph s. refl;
-  rest-on = λ ph s. refl;
-  reset-limits = λ s. refl;
-  begin-limits = λ s x. refl;
-  end-limits = λ s ph. refl;
-  levels-limits = λ s x d. refl;
+  phase_on = λ ph s. refl;
+  rest_on = λ ph s. refl;
+  reset_limits = λ s. refl;
+  begin_limits = λ s x. refl;
+  end_limits = λ s ph. refl;
+  levels_limits = λ s x d. refl;
 }
 
 -- What an event gives: the device, the number and the byte.

@@ -25,33 +25,33 @@ use Rattle.image.specs.Good.{can_be_read, names_its_place, has_image}
 two_bytes : (n : ℕ) → n % 256 + 256 * (n / 256) ≡ n
 two_bytes n = omega arith
 
-pub fill-back : (f : Fill) → fill_as (fill_byte f) ≡ f
-fill-back Empty = refl
-fill-back Waiting = refl
-fill-back Fetching = refl
+pub fill_back : (f : Fill) → fill_as (fill_byte f) ≡ f
+fill_back Empty = refl
+fill_back Waiting = refl
+fill_back Fetching = refl
 
 -- Only addresses can be read.
-an-address : (ed : Edition) (p : ℕ) → can_be_read ed p ≡ true → p < 4
-an-address Older p can = omega (arith, ltb-true p 3 can)
-an-address Newer p can = ltb-true p 4 can
+an_address : (ed : Edition) (p : ℕ) → can_be_read ed p ≡ true → p < 4
+an_address Older p can = omega (arith, ltb-true p 3 can)
+an_address Newer p can = ltb-true p 4 can
 
-pub phase-back : (ed : Edition) (ph : Phase) → names_its_place ed ph ≡ true → phase_as (bus_byte ph) (written_byte ph) ≡ ph
-phase-back ed Idle names = refl
-phase-back ed (Reading p) names =
-    let below = an-address ed p names in
+pub phase_back : (ed : Edition) (ph : Phase) → names_its_place ed ph ≡ true → phase_as (bus_byte ph) (written_byte ph) ≡ ph
+phase_back ed Idle names = refl
+phase_back ed (Reading p) names =
+    let below = an_address ed p names in
     rw (lt-ltb p 4 below, lt-ltb p places.writes below) (ap Reading (omega (arith, below)))
-phase-back ed (Writing a d) names =
+phase_back ed (Writing a d) names =
     let below = ltb-true a 4 names in
     rw (names, le-ltb (places.writes + a) places.writes (omega arith), lt-ltb (places.writes + a) places.idle (omega (arith, below)))
     (ap (λ (x : ℕ). Writing x d) (omega (arith, below)))
 
-edition-back : (ed : Edition) → edition_as (edition_byte ed) ≡ ed
-edition-back Older = refl
-edition-back Newer = refl
+edition_back : (ed : Edition) → edition_as (edition_byte ed) ≡ ed
+edition_back Older = refl
+edition_back Newer = refl
 
-pub enables-back : (e : Enables) → enables_as (enables_byte e) ≡ e
+pub enables_back : (e : Enables) → enables_as (enables_byte e) ≡ e
 unfolding bit_of value_of
-enables-back e = go e.input e.output e.b
+enables_back e = go e.input e.output e.b
   where
     go : (i o b : Bool)
         → enables_as (enables_byte (record { input = i; output = o; b = b })) ≡ record { input = i; output = o; b = b }
@@ -65,7 +65,7 @@ enables-back e = go e.input e.output e.b
     go false false false = refl
 
 -- A channel, of which every layout has the condition, the latch and five tallies; of the other two it is asked what they are told as.
-pub channel-back : (ch : Channel) (planted struck : ℕ) → planted ≡ ch.tally.planted → struck ≡ ch.tally.struck →
+pub channel_back : (ch : Channel) (planted struck : ℕ) → planted ≡ ch.tally.planted → struck ≡ ch.tally.struck →
     record {
       fill = fill_as (fill_byte ch.fill);
       latch = ch.latch;
@@ -79,8 +79,8 @@ pub channel-back : (ch : Channel) (planted struck : ℕ) → planted ≡ ch.tall
         struck = struck;
       };
     } ≡ ch
-channel-back ch planted struck same-planted same-struck = λ i. record {
-  fill = fill-back ch.fill i;
+channel_back ch planted struck same_planted same_struck = λ i. record {
+  fill = fill_back ch.fill i;
   latch = ch.latch;
   tally = record {
     offered = two_bytes ch.tally.offered i;
@@ -88,37 +88,37 @@ channel-back ch planted struck same-planted same-struck = λ i. record {
     overwritten = two_bytes ch.tally.overwritten i;
     swallowed = two_bytes ch.tally.swallowed i;
     cleared = two_bytes ch.tally.cleared i;
-    planted = same-planted i;
-    struck = same-struck i;
+    planted = same_planted i;
+    struck = same_struck i;
   };
 }
 
 -- Here they are told as two bytes each.
-seven-back : (ch : Channel) →
+seven_back : (ch : Channel) →
     record {
       fill = fill_as (fill_byte ch.fill);
       latch = ch.latch;
       tally = tally_at (tally_bytes ch.tally) 0;
     } ≡ ch
-seven-back ch = channel-back ch _ _ (two_bytes ch.tally.planted) (two_bytes ch.tally.struck)
+seven_back ch = channel_back ch _ _ (two_bytes ch.tally.planted) (two_bytes ch.tally.struck)
 
 -- The bus is that of a state with an image.
-pub at-place : (c : Chip) → has_image c ≡ true → names_its_place c.edition c.phase ≡ true
+pub at_place_lem : (c : Chip) → has_image c ≡ true → names_its_place c.edition c.phase ≡ true
 unfolding has_image
-at-place c has =
+at_place_lem c has =
     let names = names_its_place c.edition c.phase in
     (both names (bit_of c.core.word 7) (both (names && bit_of c.core.word 7) _ has).0).0
 
 pub comes_back : (c : Chip) → has_image c ≡ true → state_of (image_of c) ≡ c
 unfolding state_of image_of
 comes_back c has = λ i. record {
-  phase = phase-back c.edition c.phase (at-place c has) i;
-  edition = edition-back c.edition i;
+  phase = phase_back c.edition c.phase (at_place_lem c has) i;
+  edition = edition_back c.edition i;
   core = record {
     word = c.core.word;
-    a = record { input = seven-back c.core.a.input i; output = seven-back c.core.a.output i; outside = c.core.a.outside };
-    b = record { input = seven-back c.core.b.input i; output = seven-back c.core.b.output i; outside = c.core.b.outside };
+    a = record { input = seven_back c.core.a.input i; output = seven_back c.core.a.output i; outside = c.core.a.outside };
+    b = record { input = seven_back c.core.b.input i; output = seven_back c.core.b.output i; outside = c.core.b.outside };
     c = c.core.c;
-    inte = enables-back c.core.inte i;
+    inte = enables_back c.core.inte i;
   };
 }

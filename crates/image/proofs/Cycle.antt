@@ -23,16 +23,16 @@ module _ (edition bus byte : ℕ) (fits : cycle_fits edition bus byte ≡ true) 
   asked : ((not (ltb places.idle bus) && readable) ≡ true) × ((writes bus || eqb byte 0) ≡ true)
   asked = both (not (ltb places.idle bus) && readable) (writes bus || eqb byte 0) fits
 
-  up-to-idle : bus ≤ places.idle
-  up-to-idle = ltb-false places.idle bus (not-true (ltb places.idle bus) (both (not (ltb places.idle bus)) readable asked.0).0)
+  up_to_idle : bus ≤ places.idle
+  up_to_idle = ltb-false places.idle bus (not-true (ltb places.idle bus) (both (not (ltb places.idle bus)) readable asked.0).0)
 
   nothing_written : writes bus ≡ false → byte ≡ 0
   nothing_written none =
       one_of (writes bus) (eqb byte 0) asked.1
       (λ some. absurd (contrary (writes bus) none some)) (λ is. eqb-true byte 0 is)
 
-  pub same-bus : Same
-  same-bus = go (ltb bus places.writes) (ltb bus places.idle) refl refl
+  pub same_bus : Same
+  same_bus = go (ltb bus places.writes) (ltb bus places.idle) refl refl
     where
       go : (read below : Bool) → ltb bus places.writes ≡ read → ltb bus places.idle ≡ below → Same
       go true below r b =
@@ -40,9 +40,9 @@ module _ (edition bus byte : ℕ) (fits : cycle_fits edition bus byte ≡ true) 
           let place : bus % places.writes ≡ bus = omega (arith, four) in
           (rw (r, place, lt-ltb bus 4 four), rw (r) (sym (nothing_written (rw (r)))))
       go false true r b =
-          let from-four = ltb-false bus places.writes r in
-          let below-eight = ltb-true bus places.idle b in
-          let below-four : bus % places.writes < 4 = omega arith in
-          (rw (r, b, lt-ltb (bus % places.writes) 4 below-four) (omega (arith, from-four, below-eight)), rw (r, b))
+          let from_four = ltb-false bus places.writes r in
+          let below_eight = ltb-true bus places.idle b in
+          let below_four : bus % places.writes < 4 = omega arith in
+          (rw (r, b, lt-ltb (bus % places.writes) 4 below_four) (omega (arith, from_four, below_eight)), rw (r, b))
       go false false r b =
-          (rw (r, b) (omega (arith, up-to-idle, ltb-false bus places.idle b)), rw (r, b) (sym (nothing_written (rw (r, b)))))
+          (rw (r, b) (omega (arith, up_to_idle, ltb-false bus places.idle b)), rw (r, b) (sym (nothing_written (rw (r, b)))))

@@ -18,13 +18,13 @@ use Rattle.image.specs.OlderGood.{unused_zero}
 use Rattle.image.specs.OlderSlices.{moved_of}
 
 -- Those of a state that an older image tells are its image, but for the bus.
-pub moved-image : (l : List ℕ) → moved_of (older_of (older_state l)) ≡ image_of (record { phase = Idle; edition = (older_state l).edition; core = (older_state l).core })
+pub moved_image : (l : List ℕ) → moved_of (older_of (older_state l)) ≡ image_of (record { phase = Idle; edition = (older_state l).edition; core = (older_state l).core })
 unfolding older_of older_state image_of
-moved-image l = refl
+moved_image l = refl
 
-pub moved-fits : (l : List ℕ) → is_image (moved_of l) ≡ (unused_zero l && core_fits (core_byte l))
+pub moved_fits : (l : List ℕ) → is_image (moved_of l) ≡ (unused_zero l && core_fits (core_byte l))
 unfolding is_image
-moved-fits l = refl
+moved_fits l = refl
 
 -- One part of the bytes after the other is put to its place.
 abbrev part : List ℕ → ℕ → ℕ → List ℕ
@@ -42,5 +42,5 @@ parts l =
     (3 * now.channel_tallies) (part l (3 * each) places.levels_a) in
     sets (sets tallies now.levels_a (part l places.levels_a places.bus)) now.unused (part l places.unused places.length)
 
-pub all-parts : (l : List ℕ) → length l ≡ places.length → parts l ≡ moved_of l
-all-parts l long = subst (λ (m : List ℕ). parts m ≡ moved_of m) (spelled l places.length long) refl
+pub all_parts : (l : List ℕ) → length l ≡ places.length → parts l ≡ moved_of l
+all_parts l long = subst (λ (m : List ℕ). parts m ≡ moved_of m) (spelled l places.length long) refl

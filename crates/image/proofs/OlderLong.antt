@@ -5,10 +5,10 @@ use mathlib.Core.Bool.{true}
 use mathlib.Core.List.{List}
 use Prim.Native.Nat.{ℕ}
 use lib.ListN.{length}
-use Rattle.image.proofs.Long.{long-and-more}
+use Rattle.image.proofs.Long.{long_and_more}
 use Rattle.image.specs.OlderPlaces as places
 use Rattle.image.specs.OlderGood.{bytes_fit, is_older}
 
 pub is_long : (l : List ℕ) → is_older l ≡ true → length l ≡ places.length
 unfolding is_older
-is_long l good = long-and-more l places.length (bytes_fit l) good
+is_long l good = long_and_more l places.length (bytes_fit l) good

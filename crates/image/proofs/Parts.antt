@@ -13,13 +13,13 @@ use Rattle.image.specs.Loaded.{state_of}
 use Rattle.image.specs.Good.{Told}
 use Rattle.image.specs.Slices.{core_saved_in, bus_saved_in}
 
-over-core : (c : Chip) (d : Core) → core_saved_in (image_of c) d ≡ image_of (record { phase = c.phase; edition = c.edition; core = d })
+over_core : (c : Chip) (d : Core) → core_saved_in (image_of c) d ≡ image_of (record { phase = c.phase; edition = c.edition; core = d })
 unfolding core_saved_in image_of
-over-core c d = refl
+over_core c d = refl
 
-pub over-bus : (c : Chip) (ph : Phase) → bus_saved_in (image_of c) ph ≡ image_of (record { phase = ph; edition = c.edition; core = c.core })
+pub over_bus : (c : Chip) (ph : Phase) → bus_saved_in (image_of c) ph ≡ image_of (record { phase = ph; edition = c.edition; core = c.core })
 unfolding bus_saved_in image_of
-over-bus c ph = refl
+over_bus c ph = refl
 
 long : (c : Chip) → length (image_of c) ≡ places.length
 unfolding image_of
@@ -30,12 +30,12 @@ module _ (l : List ℕ) (told : Told l) where
   told_long = sym (ap length told) ∙ long (state_of l)
 
   pub core_saved : (d : Core) → core_saved_in l d ≡ image_of (record { phase = (state_of l).phase; edition = (state_of l).edition; core = d })
-  core_saved d = ap (λ (m : List ℕ). core_saved_in m d) (sym told) ∙ over-core (state_of l) d
+  core_saved d = ap (λ (m : List ℕ). core_saved_in m d) (sym told) ∙ over_core (state_of l) d
 
   pub bus_saved : (ph : Phase) → bus_saved_in l ph ≡ image_of (record { phase = ph; edition = (state_of l).edition; core = (state_of l).core })
-  bus_saved ph = ap (λ (m : List ℕ). bus_saved_in m ph) (sym told) ∙ over-bus (state_of l) ph
+  bus_saved ph = ap (λ (m : List ℕ). bus_saved_in m ph) (sym told) ∙ over_bus (state_of l) ph
 
   pub both_saved : (d : Core) (ph : Phase) → bus_saved_in (core_saved_in l d) ph ≡ image_of (record { phase = ph; edition = (state_of l).edition; core = d })
   both_saved d ph =
       ap (λ (m : List ℕ). bus_saved_in m ph) (core_saved d)
-      ∙ over-bus (record { phase = (state_of l).phase; edition = (state_of l).edition; core = d }) ph
+      ∙ over_bus (record { phase = (state_of l).phase; edition = (state_of l).edition; core = d }) ph

@@ -25,7 +25,7 @@ use Rattle.image.specs.Layout.{fill_byte, enables_byte, port_bytes, edition_byte
 use Rattle.image.specs.Loaded.{byte_at, fill_as, enables_as, core_by, channel_tally, edition_as, state_of}
 use Rattle.image.specs.Good.{cycle_fits, edition_fits, enables_fit, fill_fits, channel_fits, fills_fit, core_fits, all_zero, unused_zero, end_fits, bytes_fit, is_image, Told, Bytes}
 use Rattle.image.proofs.Long.{is_long}
-use Rattle.image.proofs.Cycle.{same-bus}
+use Rattle.image.proofs.Cycle.{same_bus}
 
 length_from : (f : ℕ → ℕ) (i n : ℕ) → length (from f i n) ≡ n
 length_from f i zero = refl
@@ -58,23 +58,23 @@ module _ (f : ℕ → ℕ) (below : (i : ℕ) → f i < 256) where
   twice zero = zero
   twice (suc n) = suc (suc (twice n))
 
-  pub same-pairs : (i n : ℕ) → apart i n ≡ from f i (twice n)
-  same-pairs i zero = refl
-  same-pairs i (suc n) = λ j. low (f i) (f (suc i)) (below i) j ∷ high (f i) (f (suc i)) (below i) j ∷ same-pairs (suc (suc i)) n j
+  pub same_pairs : (i n : ℕ) → apart i n ≡ from f i (twice n)
+  same_pairs i zero = refl
+  same_pairs i (suc n) = λ j. low (f i) (f (suc i)) (below i) j ∷ high (f i) (f (suc i)) (below i) j ∷ same_pairs (suc (suc i)) n j
 
-same-fill : (on : Bool) (s : Side) (b : ℕ) → fill_fits on s b ≡ true → fill_byte (fill_as b) ≡ b
-same-fill on s zero fits = refl
-same-fill on s (suc zero) fits = refl
-same-fill on s (suc (suc zero)) fits = refl
-same-fill true Input (suc (suc (suc b))) fits = absurd (omega (arith, ltb-true (suc (suc (suc b))) 3 fits))
-same-fill true Output (suc (suc (suc b))) fits = absurd (omega (arith, ltb-true (suc (suc (suc b))) 2 fits))
-same-fill false Input (suc (suc (suc b))) fits = absurd (omega (arith, ltb-true (suc (suc (suc b))) 1 fits))
-same-fill false Output (suc (suc (suc b))) fits = absurd (omega (arith, ltb-true (suc (suc (suc b))) 1 fits))
+same_fill : (on : Bool) (s : Side) (b : ℕ) → fill_fits on s b ≡ true → fill_byte (fill_as b) ≡ b
+same_fill on s zero fits = refl
+same_fill on s (suc zero) fits = refl
+same_fill on s (suc (suc zero)) fits = refl
+same_fill true Input (suc (suc (suc b))) fits = absurd (omega (arith, ltb-true (suc (suc (suc b))) 3 fits))
+same_fill true Output (suc (suc (suc b))) fits = absurd (omega (arith, ltb-true (suc (suc (suc b))) 2 fits))
+same_fill false Input (suc (suc (suc b))) fits = absurd (omega (arith, ltb-true (suc (suc (suc b))) 1 fits))
+same_fill false Output (suc (suc (suc b))) fits = absurd (omega (arith, ltb-true (suc (suc (suc b))) 1 fits))
 
-same-edition : (b : ℕ) → edition_fits b ≡ true → edition_byte (edition_as b) ≡ b
-same-edition zero fits = refl
-same-edition (suc zero) fits = refl
-same-edition (suc (suc b)) fits =
+same_edition : (b : ℕ) → edition_fits b ≡ true → edition_byte (edition_as b) ≡ b
+same_edition zero fits = refl
+same_edition (suc zero) fits = refl
+same_edition (suc (suc b)) fits =
     absurd (omega (arith, ltb-false places.newer (suc (suc b)) (not-true (ltb places.newer (suc (suc b))) fits)))
 
 -- As many zeros as there are bytes.
@@ -82,11 +82,11 @@ abbrev pub zeros : List ℕ → List ℕ
 zeros [] = []
 zeros (b ∷ bs) = 0 ∷ zeros bs
 
-pub same-zeros : (bs : List ℕ) → all_zero bs ≡ true → zeros bs ≡ bs
-same-zeros [] all = refl
-same-zeros (b ∷ bs) all =
+pub same_zeros : (bs : List ℕ) → all_zero bs ≡ true → zeros bs ≡ bs
+same_zeros [] all = refl
+same_zeros (b ∷ bs) all =
     let is = both (eqb b 0) (all_zero bs) all in
-    λ i. sym (eqb-true b 0 is.0) i ∷ same-zeros bs is.1 i
+    λ i. sym (eqb-true b 0 is.0) i ∷ same_zeros bs is.1 i
 
 -- What is asked of the bytes between the tallies and the bus, one by one.
 record Parts (byte : ℕ → ℕ) : Type 0 where
@@ -103,49 +103,49 @@ parts byte fits =
     let b = channel_fits byte A Output 1 in
     let c = channel_fits byte B Input 2 in
     let d = channel_fits byte B Output 3 in
-    let to-enables = both (set && fills_fit byte) (enables_fit (byte places.enables)) fits in
-    let three = both (a && b && c) d (both set (fills_fit byte) to-enables.0).1 in
+    let to_enables = both (set && fills_fit byte) (enables_fit (byte places.enables)) fits in
+    let three = both (a && b && c) d (both set (fills_fit byte) to_enables.0).1 in
     let two = both (a && b) c three.0 in
     let one = both a b two.0 in
-    record { a_input = one.0; a_output = one.1; b_input = two.1; b_output = three.1; enables = to-enables.1 }
+    record { a_input = one.0; a_output = one.1; b_input = two.1; b_output = three.1; enables = to_enables.1 }
 
 -- Those fourteen bytes, by the byte at each place, whatever the tallies are.
-pub same-core : (byte : ℕ → ℕ) (tally : ℕ → Tally) → core_fits byte ≡ true
+pub same_core : (byte : ℕ → ℕ) (tally : ℕ → Tally) → core_fits byte ≡ true
     → port_bytes (core_by byte tally) ++ (byte places.word ∷ enables_byte (enables_as (byte places.enables)) ∷ [])
     ≡ from byte places.levels_a (places.bus - places.levels_a)
-same-core byte tally fits =
+same_core byte tally fits =
     let p = parts byte fits in
     let strobes = strobed (byte places.word) in
     let condition : ℕ → ℕ = λ k. byte (places.conditions + k) in
     λ i.
     from byte places.levels_a (places.conditions - places.levels_a)
-    ++ (same-fill (strobes A Input) Input (condition 0) p.a_input i
-    ∷ same-fill (strobes A Output) Output (condition 1) p.a_output i
-    ∷ same-fill (strobes B Input) Input (condition 2) p.b_input i
-    ∷ same-fill (strobes B Output) Output (condition 3) p.b_output i
+    ++ (same_fill (strobes A Input) Input (condition 0) p.a_input i
+    ∷ same_fill (strobes A Output) Output (condition 1) p.a_output i
+    ∷ same_fill (strobes B Input) Input (condition 2) p.b_input i
+    ∷ same_fill (strobes B Output) Output (condition 3) p.b_output i
     ∷ byte places.word
     ∷ eqb-true (enables_byte (enables_as (byte places.enables))) (byte places.enables) p.enables i ∷ [])
 
-pub same-bytes : (l : List ℕ) → Bytes l → is_image l ≡ true → Told l
+pub same_bytes_lem : (l : List ℕ) → Bytes l → is_image l ≡ true → Told l
 unfolding image_of state_of is_image
-same-bytes l bytes good =
+same_bytes_lem l bytes good =
     let fits = both (end_fits l) (core_fits (byte_at l)) (both (eqb (length l) places.length) (bytes_fit l) good).1 in
     let edition = byte_at l places.edition in
     let cycle = cycle_fits edition (byte_at l places.bus) (byte_at l places.written) in
     let end = both cycle (edition_fits edition && unused_zero l) fits.0 in
     let behind = both (edition_fits edition) (unused_zero l) end.1 in
-    let bus = same-bus edition (byte_at l places.bus) (byte_at l places.written) end.0 in
+    let bus = same_bus edition (byte_at l places.bus) (byte_at l places.written) end.0 in
     (λ i.
-    same-pairs (byte_at l) (small l bytes) places.tallies 28 i
-    ++ same-core (byte_at l) (channel_tally l) fits.1 i
-    ++ (bus.0 i ∷ bus.1 i ∷ same-edition edition behind.0 i ∷ [])
-    ++ same-zeros (from (byte_at l) places.unused (places.length - places.unused)) behind.1 i)
+    same_pairs (byte_at l) (small l bytes) places.tallies 28 i
+    ++ same_core (byte_at l) (channel_tally l) fits.1 i
+    ++ (bus.0 i ∷ bus.1 i ∷ same_edition edition behind.0 i ∷ [])
+    ++ same_zeros (from (byte_at l) places.unused (places.length - places.unused)) behind.1 i)
     ∙ spelled l places.length (is_long l good)
 
 -- What a slice holds are bytes.
-pub bytes-by : (l : List ℕ) → ((i : ℕ) → Fits w8 (byte_at l i)) → Bytes l
-bytes-by [] each = tt
-bytes-by (b ∷ bs) each = ((each 0).fits, bytes-by bs (λ i. each (suc i)))
+pub bytes_by : (l : List ℕ) → ((i : ℕ) → Fits w8 (byte_at l i)) → Bytes l
+bytes_by [] each = tt
+bytes_by (b ∷ bs) each = ((each 0).fits, bytes_by bs (λ i. each (suc i)))
 
 pub slice_told : (l : List ℕ) → ((i : ℕ) → Fits w8 (byte_at l i)) → is_image l ≡ true → Told l
-slice_told l each good = same-bytes l (bytes-by l each) good
+slice_told l each good = same_bytes_lem l (bytes_by l each) good

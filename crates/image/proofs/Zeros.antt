@@ -27,9 +27,9 @@ both_zero (suc b) v =
     ne_eqb (suc b + 256 * v) 0 (λ e. absurd (omega (arith, e)))
     ∙ sym (ap (λ (z : Bool). z && eqb v 0) (ne_eqb (suc b) 0 (λ e. absurd (omega (arith, e)))))
 
-value-zero : (bs : List ℕ) → eqb (value bs) 0 ≡ all_zero bs
-value-zero [] = refl
-value-zero (b ∷ bs) = both_zero b (value bs) ∙ ap (λ (z : Bool). eqb b 0 && z) (value-zero bs)
+value_zero : (bs : List ℕ) → eqb (value bs) 0 ≡ all_zero bs
+value_zero [] = refl
+value_zero (b ∷ bs) = both_zero b (value bs) ∙ ap (λ (z : Bool). eqb b 0 && z) (value_zero bs)
 
 -- A number is below 2 where its lowest byte is an edition, and what stands above is 0.
 below_two : (b v : ℕ) → ltb (b + 256 * v) 2 ≡ (edition_fits b && eqb v 0)
@@ -54,14 +54,14 @@ by_eight l i = byte_at l i ∷ behind_it l i
 as_one : (l : List ℕ) (i : ℕ) → eight_at l i ≡ value (by_eight l i)
 as_one l i = omega arith
 
-eight-zero : (l : List ℕ) (i : ℕ) → eqb (eight_at l i) 0 ≡ all_zero (by_eight l i)
-eight-zero l i = ap (λ (n : ℕ). eqb n 0) (as_one l i) ∙ value-zero (by_eight l i)
+eight_zero : (l : List ℕ) (i : ℕ) → eqb (eight_at l i) 0 ≡ all_zero (by_eight l i)
+eight_zero l i = ap (λ (n : ℕ). eqb n 0) (as_one l i) ∙ value_zero (by_eight l i)
 
-edition-first : (l : List ℕ) (i : ℕ) → ltb (eight_at l i) 2 ≡ (edition_fits (byte_at l i) && all_zero (behind_it l i))
-edition-first l i =
+edition_first : (l : List ℕ) (i : ℕ) → ltb (eight_at l i) 2 ≡ (edition_fits (byte_at l i) && all_zero (behind_it l i))
+edition_first l i =
     ap (λ (n : ℕ). ltb n 2) (as_one l i)
     ∙ below_two (byte_at l i) (value (behind_it l i))
-    ∙ ap (λ (z : Bool). edition_fits (byte_at l i) && z) (value-zero (behind_it l i))
+    ∙ ap (λ (z : Bool). edition_fits (byte_at l i) && z) (value_zero (behind_it l i))
 
 pub and_assoc : (a b c : Bool) → (a && b && c) ≡ (a && (b && c))
 and_assoc true b c = refl
@@ -81,7 +81,7 @@ all_fit l =
     let second = by_eight l (places.edition + 8) in
     let third = by_eight l (places.edition + 16) in
     let fits = edition_fits (byte_at l places.edition) in
-    (λ i. edition-first l places.edition i && eight-zero l (places.edition + 8) i && eight-zero l (places.edition + 16) i)
+    (λ i. edition_first l places.edition i && eight_zero l (places.edition + 8) i && eight_zero l (places.edition + 16) i)
     ∙ ap (λ (z : Bool). z && all_zero third) (and_assoc fits (all_zero first) (all_zero second))
     ∙ and_assoc fits (all_zero first && all_zero second) (all_zero third)
     ∙ ap (λ (z : Bool). fits && (z && all_zero third)) (in_two first second)

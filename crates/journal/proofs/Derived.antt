@@ -24,7 +24,7 @@ use Rattle.chip.specs.contracts.CorePartialEq.TheImpl as cores
 use Rattle.chip.specs.contracts.EditionPartialEq.TheImpl as editions
 use Rattle.chip.specs.contracts.ChipPartialEq.TheImpl as chips
 use Rattle.journal.specs.Same.{same_state}
-use Rattle.journal.proofs.Exact.{then, other-state}
+use Rattle.journal.proofs.Exact.{then, other_state}
 
 -- Where it says so, the parts are equal, and with them the whole.
 phase : (p q : Phase) → phases.ghosts.eq p q ≡ true → p ≡ q
@@ -81,45 +81,45 @@ together h k = λ i. h i && k i
 number : (x : ℕ) → eqb x x ≡ true
 number x = eq-eqb x x refl
 
-phase-self : (p : Phase) → phases.ghosts.eq p p ≡ true
-phase-self p = search rules
+phase_self : (p : Phase) → phases.ghosts.eq p p ≡ true
+phase_self p = search rules
 
-edition-self : (p : Edition) → editions.ghosts.eq p p ≡ true
-edition-self p = search rules
+edition_self : (p : Edition) → editions.ghosts.eq p p ≡ true
+edition_self p = search rules
 
-port_c-self : (p : PortC) → lines.ghosts.eq p p ≡ true
-port_c-self p = search rules
+port_c_self : (p : PortC) → lines.ghosts.eq p p ≡ true
+port_c_self p = search rules
 
-enables-self : (p : Enables) → enabled.ghosts.eq p p ≡ true
-enables-self p = search rules
+enables_self : (p : Enables) → enabled.ghosts.eq p p ≡ true
+enables_self p = search rules
 
-channel-self : (p : Channel) → channels.ghosts.eq p p ≡ true
-channel-self p = search rules
+channel_self : (p : Channel) → channels.ghosts.eq p p ≡ true
+channel_self p = search rules
 
-port-self : (p : Port) → ports.ghosts.eq p p ≡ true
-port-self p = together (channel-self p.input) (together (channel-self p.output) (number p.outside))
+port_self : (p : Port) → ports.ghosts.eq p p ≡ true
+port_self p = together (channel_self p.input) (together (channel_self p.output) (number p.outside))
 
-chip-self : (p : Chip) → chips.ghosts.eq p p ≡ true
-chip-self p =
-    together (phase-self p.phase)
-    (together (edition-self p.edition)
+chip_self : (p : Chip) → chips.ghosts.eq p p ≡ true
+chip_self p =
+    together (phase_self p.phase)
+    (together (edition_self p.edition)
     (together (number p.core.word)
-    (together (port-self p.core.a) (together (port-self p.core.b) (together (port_c-self p.core.c) (enables-self p.core.inte))))))
+    (together (port_self p.core.a) (together (port_self p.core.b) (together (port_c_self p.core.c) (enables_self p.core.inte))))))
 
 -- So it answers what the definition's test does.
 module _ (c d : Chip) where
   others : chips.ghosts.eq d c ≡ false → ¬ (c ≡ d)
-  others differ same = contrary (chips.ghosts.eq d c) differ (subst (λ (e : Chip). chips.ghosts.eq e c ≡ true) same (chip-self c))
+  others differ same = contrary (chips.ghosts.eq d c) differ (subst (λ (e : Chip). chips.ghosts.eq e c ≡ true) same (chip_self c))
 
   pub agree : chips.ghosts.eq d c ≡ same_state c d
   agree = go (chips.ghosts.eq d c) refl
     where
       go : (b : Bool) → chips.ghosts.eq d c ≡ b → b ≡ same_state c d
       go true is = sym (then c d (sym (chip d c is)))
-      go false is = sym (other-state c d (others is))
+      go false is = sym (other_state c d (others is))
 
   -- Chips whose lines differ do.
-  pub lines-differ : lines.ghosts.eq d.core.c c.core.c ≡ false → same_state c d ≡ false
-  lines-differ differ =
-      other-state c d
-      (λ same. contrary (lines.ghosts.eq d.core.c c.core.c) differ (subst (λ (e : Chip). lines.ghosts.eq e.core.c c.core.c ≡ true) same (port_c-self c.core.c)))
+  pub lines_differ : lines.ghosts.eq d.core.c c.core.c ≡ false → same_state c d ≡ false
+  lines_differ differ =
+      other_state c d
+      (λ same. contrary (lines.ghosts.eq d.core.c c.core.c) differ (subst (λ (e : Chip). lines.ghosts.eq e.core.c c.core.c ≡ true) same (port_c_self c.core.c)))

@@ -60,17 +60,17 @@ chip c d h = λ i. record {
 }
 
 module _ (c d : Chip) where
-  pub only-then : same_state c d ≡ true → c ≡ d
+  pub only_then_lem : same_state c d ≡ true → c ≡ d
   unfolding same_state
-  only-then same = chip c d (same_lists (of_chip c) (of_chip d) same)
+  only_then_lem same = chip c d (same_lists (of_chip c) (of_chip d) same)
 
   pub then : c ≡ d → same_state c d ≡ true
   unfolding same_state
   then is = subst (λ (e : Chip). same_bytes (of_chip c) (of_chip e) ≡ true) is (same_self (of_chip c))
 
-  pub other-state : ¬ (c ≡ d) → same_state c d ≡ false
-  other-state differ = go (same_state c d) refl
+  pub other_state : ¬ (c ≡ d) → same_state c d ≡ false
+  other_state differ = go (same_state c d) refl
     where
       go : (b : Bool) → same_state c d ≡ b → b ≡ false
-      go true is = absurd (differ (only-then is))
+      go true is = absurd (differ (only_then_lem is))
       go false is = refl

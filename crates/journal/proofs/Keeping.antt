@@ -15,7 +15,7 @@ use Rattle.journal.specs.Words.{event_in, is_frame, all_frames}
 use Rattle.journal.specs.Same.{same_state}
 use Rattle.journal.specs.Trim.{after_word, kept_from, filled_up}
 use Rattle.journal.proofs.Ahead.{ahead}
-use Rattle.journal.proofs.Exact.{only-then}
+use Rattle.journal.proofs.Exact.{only_then_lem}
 
 -- Of the words ws₀, met by the chip c₀, those before the place `at` have been gone through, and `kept` of them are kept. They are `done`, and have
 -- led to the chip c. What they and those ahead are kept as is what is kept of all.
@@ -44,9 +44,9 @@ kept_here : (c : Chip) (w : ℕ) (ws : List ℕ) → same_state c (after_word c 
 unfolding kept_from
 kept_here c w ws differs = rw (differs)
 
-dropped-here : (c : Chip) (w : ℕ) (ws : List ℕ) → same_state c (after_word c w) ≡ true → kept_from c (w ∷ ws) ≡ kept_from c ws
+dropped_here : (c : Chip) (w : ℕ) (ws : List ℕ) → same_state c (after_word c w) ≡ true → kept_from c (w ∷ ws) ≡ kept_from c ws
 unfolding kept_from
-dropped-here c w ws same = rw (same) (ap (λ (d : Chip). kept_from d ws) (sym (only-then c (after_word c w) same)))
+dropped_here c w ws same = rw (same) (ap (λ (d : Chip). kept_from d ws) (sym (only_then_lem c (after_word c w) same)))
 
 none_kept : (c : Chip) → kept_from c [] ≡ []
 unfolding kept_from
@@ -54,67 +54,67 @@ none_kept c = refl
 
 module _ (c₀ : Chip) (ws₀ ws : List ℕ) (c : Chip) (at kept : ℕ) (way : Keeping c₀ ws₀ ws c at kept) where
   -- What stands before the place.
-  abbrev passed-by : List ℕ
-  passed-by = way.done ++ replicate (at - kept) 0
+  abbrev passed_by : List ℕ
+  passed_by = way.done ++ replicate (at - kept) 0
 
-  up-to-here : length passed-by ≡ at
-  up-to-here =
+  up_to_here : length passed_by ≡ at
+  up_to_here =
       length-append way.done (replicate (at - kept) 0)
       ∙ omega (arith, way.counted, length-replicate {A = ℕ} (at - kept) 0, way.behind)
 
   pub long : length ws ≡ length ws₀
-  long = ap length way.words ∙ length-append passed-by (drop at ws₀) ∙ omega (arith, up-to-here, length-drop at ws₀, way.inside)
+  long = ap length way.words ∙ length-append passed_by (drop at ws₀) ∙ omega (arith, up_to_here, length-drop at ws₀, way.inside)
 
-  module _ (ahead-of-it : at < length ws) where
+  module _ (ahead_of_it : at < length ws) where
     abbrev word : ℕ
     word = get_or ws₀ at 0
 
     pub below : at < length ws₀
-    below = omega (arith, ahead-of-it, long)
+    below = omega (arith, ahead_of_it, long)
 
-    split : ws ≡ passed-by ++ word ∷ drop (at + 1) ws₀
-    split = way.words ∙ ap (λ l. passed-by ++ l) (ahead ws₀ at below)
+    split : ws ≡ passed_by ++ word ∷ drop (at + 1) ws₀
+    split = way.words ∙ ap (λ l. passed_by ++ l) (ahead ws₀ at below)
 
     -- The word at the place is the one that stood there.
     pub here : get_or ws at 0 ≡ word
-    here = ap (λ l. get_or l at 0) split ∙ get_or_at passed-by word (drop (at + 1) ws₀) 0 at up-to-here
+    here = ap (λ l. get_or l at 0) split ∙ get_or_at passed_by word (drop (at + 1) ws₀) 0 at up_to_here
 
     -- Taken out, it leaves one zero word more.
     pub taken_out : set ws at 0 ≡ (way.done ++ 0 ∷ replicate (at - kept) 0) ++ drop (at + 1) ws₀
     taken_out =
         ap (λ l. set l at 0) split
-        ∙ set_at passed-by word (drop (at + 1) ws₀) 0 at up-to-here
-        ∙ sym (append_assoc passed-by (0 ∷ []) (drop (at + 1) ws₀))
+        ∙ set_at passed_by word (drop (at + 1) ws₀) 0 at up_to_here
+        ∙ sym (append_assoc passed_by (0 ∷ []) (drop (at + 1) ws₀))
         ∙ ap (λ l. l ++ drop (at + 1) ws₀)
-        (append_assoc way.done (replicate (at - kept) 0) (0 ∷ []) ∙ ap (λ l. way.done ++ l) one-zero-more)
+        (append_assoc way.done (replicate (at - kept) 0) (0 ∷ []) ∙ ap (λ l. way.done ++ l) one_zero_more)
       where
-        one-zero-more : ◌++◌ {A = ℕ} (replicate (at - kept) 0) (0 ∷ []) ≡ 0 ∷ replicate (at - kept) 0
-        one-zero-more =
+        one_zero_more : ◌++◌ {A = ℕ} (replicate (at - kept) 0) (0 ∷ []) ≡ 0 ∷ replicate (at - kept) 0
+        one_zero_more =
             let count : at - kept + 1 ≡ 1 + (at - kept) = omega arith in
             replicate-append-replicate (at - kept) 1 0
             ∙ ap (λ (n : ℕ). replicate n 0) count
             ∙ sym (replicate-append-replicate 1 (at - kept) 0)
 
-    both-frames : (is_frame (event_in word) ≡ true) × (all_frames (drop (at + 1) ws₀) ≡ true)
-    both-frames = both (is_frame (event_in word)) (all_frames (drop (at + 1) ws₀)) (sym (ap all_frames (ahead ws₀ at below)) ∙ way.frames)
+    both_frames : (is_frame (event_in word) ≡ true) × (all_frames (drop (at + 1) ws₀) ≡ true)
+    both_frames = both (is_frame (event_in word)) (all_frames (drop (at + 1) ws₀)) (sym (ap all_frames (ahead ws₀ at below)) ∙ way.frames)
 
-    pub is-frame : is_frame (event_in (get_or ws at 0)) ≡ true
-    is-frame = ap (λ w. is_frame (event_in w)) here ∙ both-frames.0
+    pub is_frame_lem : is_frame (event_in (get_or ws at 0)) ≡ true
+    is_frame_lem = ap (λ w. is_frame (event_in w)) here ∙ both_frames.0
 
     -- What is kept of this word and of those behind it, once more.
-    all-here : way.done ++ kept_from c (word ∷ drop (at + 1) ws₀) ≡ kept_from c₀ ws₀
-    all-here = ap (λ l. way.done ++ kept_from c l) (sym (ahead ws₀ at below)) ∙ way.all
+    all_here : way.done ++ kept_from c (word ∷ drop (at + 1) ws₀) ≡ kept_from c₀ ws₀
+    all_here = ap (λ l. way.done ++ kept_from c l) (sym (ahead ws₀ at below)) ∙ way.all
 
     module _ (next : Chip) (met : next ≡ after_word c (get_or ws at 0)) (changed : Bool) (told : changed ≡ not (same_state c (after_word c (get_or ws at 0)))) where
-      now-met : next ≡ after_word c word
-      now-met = met ∙ ap (after_word c) here
+      now_met : next ≡ after_word c word
+      now_met = met ∙ ap (after_word c) here
 
-      same-as : same_state c (after_word c word) ≡ not changed
-      same-as = ap (λ w. same_state c (after_word c w)) (sym here) ∙ sym (not-not _) ∙ ap not (sym told)
+      same_as : same_state c (after_word c word) ≡ not changed
+      same_as = ap (λ w. same_state c (after_word c w)) (sym here) ∙ sym (not-not _) ∙ ap not (sym told)
 
       -- A word that changes nothing leaves the chip,
       pub stays : changed ≡ false → next ≡ c
-      stays off = now-met ∙ sym (only-then c (after_word c word) (same-as ∙ ap not off))
+      stays off = now_met ∙ sym (only_then_lem c (after_word c word) (same_as ∙ ap not off))
 
       -- and is dropped.
       pub dropped : changed ≡ false → Keeping c₀ ws₀ (set ws at 0) c (at + 1) kept
@@ -126,8 +126,8 @@ module _ (c₀ : Chip) (ws₀ ws : List ℕ) (c : Chip) (at kept : ℕ) (way : K
             behind = omega (arith, way.behind);
             inside = omega (arith, below);
             words = taken_out ∙ ap (λ n. (way.done ++ replicate n 0) ++ drop (at + 1) ws₀) zeros;
-            all = ap (λ l. way.done ++ l) (sym (dropped-here c word (drop (at + 1) ws₀) (same-as ∙ ap not off))) ∙ all-here;
-            frames = both-frames.1;
+            all = ap (λ l. way.done ++ l) (sym (dropped_here c word (drop (at + 1) ws₀) (same_as ∙ ap not off))) ∙ all_here;
+            frames = both_frames.1;
           }
 
       pub moved : changed ≡ true → Keeping c₀ ws₀ (set (set ws at 0) kept (get_or ws at 0)) next (at + 1) (kept + 1)
@@ -146,10 +146,10 @@ module _ (c₀ : Chip) (ws₀ ws : List ℕ) (c : Chip) (at kept : ℕ) (way : K
                 ∙ ap (λ n. ((way.done ++ (word ∷ [])) ++ replicate n 0) ++ drop (at + 1) ws₀) zeros;
             all =
                 append_assoc way.done (word ∷ []) (kept_from next (drop (at + 1) ws₀))
-                ∙ ap (λ d. way.done ++ (word ∷ kept_from d (drop (at + 1) ws₀))) now-met
-                ∙ ap (λ l. way.done ++ l) (sym (kept_here c word (drop (at + 1) ws₀) (same-as ∙ ap not on)))
-                ∙ all-here;
-            frames = both-frames.1;
+                ∙ ap (λ d. way.done ++ (word ∷ kept_from d (drop (at + 1) ws₀))) now_met
+                ∙ ap (λ l. way.done ++ l) (sym (kept_here c word (drop (at + 1) ws₀) (same_as ∙ ap not on)))
+                ∙ all_here;
+            frames = both_frames.1;
           }
 
   -- Behind the last word `done` is all that is kept, and what stands behind it is zero.
@@ -158,7 +158,7 @@ module _ (c₀ : Chip) (ws₀ ws : List ℕ) (c : Chip) (at kept : ℕ) (way : K
     end = omega (arith, over, long, way.inside)
 
     none_ahead : drop at ws₀ ≡ []
-    none_ahead = let all-passed : length ws₀ ≤ at = omega (arith, end) in drop_of_length-le ws₀ all-passed
+    none_ahead = let all_passed : length ws₀ ≤ at = omega (arith, end) in drop_of_length-le ws₀ all_passed
 
     pub arrives : way.done ≡ kept_from c₀ ws₀
     arrives =
@@ -166,9 +166,9 @@ module _ (c₀ : Chip) (ws₀ ws : List ℕ) (c : Chip) (at kept : ℕ) (way : K
         ∙ ap (λ l. way.done ++ l) (sym (ap (kept_from c) none_ahead ∙ none_kept c))
         ∙ way.all
 
-    pub filled-up : ws ≡ filled_up way.done (length ws₀)
-    filled-up =
+    pub filled_up_lem : ws ≡ filled_up way.done (length ws₀)
+    filled_up_lem =
         way.words
-        ∙ ap (λ l. passed-by ++ l) none_ahead
-        ∙ append-nil passed-by
+        ∙ ap (λ l. passed_by ++ l) none_ahead
+        ∙ append-nil passed_by
         ∙ (λ i. way.done ++ replicate (end i - sym way.counted i) 0)

@@ -50,10 +50,10 @@ refusal_number NoEdition = no_edition_number
 refusal_number TooLong = too_long_number
 refusal_number NoFrame = no_frame_number
 
-pub refusal-never-0 : Never0 refusal_number
-refusal-never-0 NoEdition = refl
-refusal-never-0 TooLong = refl
-refusal-never-0 NoFrame = refl
+pub refusal_never_0 : Never0 refusal_number
+refusal_never_0 NoEdition = refl
+refusal_never_0 TooLong = refl
+refusal_never_0 NoFrame = refl
 
 -- The number of a trim: that of the first refusal that applies, and 0 where none does.
 unfoldable pub trim_number : List ℕ → ℕ → ℕ

@@ -4,7 +4,7 @@
 
 ghost use Rattle.std.specs.Prelude.{◌≡◌};
 ghost use Rattle.chip.specs.State.{edition_number};
-ghost use Rattle.journal.specs.Trim.{refusal_number, refusal-never-0, answer_told, trim_answer, trimmed_words};
+ghost use Rattle.journal.specs.Trim.{refusal_number, refusal_never_0, answer_told, trim_answer, trimmed_words};
 
 mod compact;
 pub mod words;
@@ -29,7 +29,7 @@ pub enum TrimRefusal {
 impl Numbered for TrimRefusal {
     ghost number_of = { refusal_number };
 
-    ghost never_0 = { refusal-never-0 };
+    ghost never_0 = { refusal_never_0 };
 
     fn number(&self) -> u8 {
         *self as u8

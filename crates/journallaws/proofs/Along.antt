@@ -19,45 +19,45 @@ use Rattle.fates.specs.Effects.{Effect, offered, followed, taken, ended, cleared
 use Rattle.fates.specs.Left.{Left, left, latch_left, left_after}
 use Rattle.fates.specs.Promise.{run, surroundings_of}
 use Rattle.fates.proofs.Shapes.{shape_of, latch_after}
-use Rattle.fates.proofs.SurroundingsKept.{surroundings-next}
-use Rattle.fates.proofs.Followed.{after, latch, effect_in, next-latch}
+use Rattle.fates.proofs.SurroundingsKept.{surroundings_next_lem}
+use Rattle.fates.proofs.Followed.{after, latch, effect_in, next_latch}
 use Rattle.journallaws.specs.Here.{left_by, here, left_here}
 
 -- One event more.
-pub one-more : (c : Chip) (es : List Event) (e : Event) → run c (es ++ e ∷ []) ≡ after (run c es) e
-one-more c [] e = refl
-one-more c (x ∷ es) e = one-more (after c x) es e
+pub one_more_lem : (c : Chip) (es : List Event) (e : Event) → run c (es ++ e ∷ []) ≡ after (run c es) e
+one_more_lem c [] e = refl
+one_more_lem c (x ∷ es) e = one_more_lem (after c x) es e
 
-pub around-is : (c : Chip) (es : List Event) → surroundings_of (run c es) ≡ surroundings_over (surroundings_of c) es
-around-is c [] = refl
-around-is c (e ∷ es) = around-is (after c e) es ∙ ap (λ a. surroundings_over a es) (surroundings-next c e)
+pub around_is : (c : Chip) (es : List Event) → surroundings_of (run c es) ≡ surroundings_over (surroundings_of c) es
+around_is c [] = refl
+around_is c (e ∷ es) = around_is (after c e) es ∙ ap (λ a. surroundings_over a es) (surroundings_next_lem c e)
 
 -- No event changes the edition.
-same-edition : (a : Surroundings) (es : List Event) → (surroundings_over a es).edition ≡ a.edition
-same-edition a [] = refl
-same-edition a (e ∷ es) =
-    same-edition (surroundings_next a e) es
+same_edition : (a : Surroundings) (es : List Event) → (surroundings_over a es).edition ≡ a.edition
+same_edition a [] = refl
+same_edition a (e ∷ es) =
+    same_edition (surroundings_next a e) es
     ∙ either_way (λ (b : Surroundings). b.edition) a.edition (accepts a.edition a.phase (kind_of e)) (surroundings_after a (kind_of e)) a refl refl
 
 -- An effect leaves of a latch what the history says.
-latch-left : (l : ℕ) (d : Effect) → latch_after l (shape_of d) ≡ latch_left l d
-latch-left l (offered v) = refl
-latch-left l (followed v) = refl
-latch-left l taken = refl
-latch-left l ended = refl
-latch-left l cleared_away = refl
-latch-left l forced_full = refl
-latch-left l forced_empty = refl
-latch-left l nothing = refl
+latch_left_lem : (l : ℕ) (d : Effect) → latch_after l (shape_of d) ≡ latch_left l d
+latch_left_lem l (offered v) = refl
+latch_left_lem l (followed v) = refl
+latch_left_lem l taken = refl
+latch_left_lem l ended = refl
+latch_left_lem l cleared_away = refl
+latch_left_lem l forced_full = refl
+latch_left_lem l forced_empty = refl
+latch_left_lem l nothing = refl
 
 -- An input's latch is filled by the handshake alone.
-latch-along : (g : Group) (c : Chip) (es : List Event) (h : Left) → latch g Input c ≡ h.latch
+latch_along : (g : Group) (c : Chip) (es : List Event) (h : Left) → latch g Input c ≡ h.latch
     → latch g Input (run c es) ≡ (left_by Input h (effects g Input (surroundings_of c) es)).latch
-latch-along g c [] h same = same
-latch-along g c (e ∷ es) h same =
-    latch-along g (after c e) es (left_after Input h (effect_in g Input c e))
-    (next-latch g Input c e refl ∙ latch-left (latch g Input c) (effect_in g Input c e) ∙ ap (λ l. latch_left l (effect_in g Input c e)) same)
-    ∙ ap (λ a. (left_by Input (left_after Input h (effect_in g Input c e)) (effects g Input a es)).latch) (surroundings-next c e)
+latch_along g c [] h same = same
+latch_along g c (e ∷ es) h same =
+    latch_along g (after c e) es (left_after Input h (effect_in g Input c e))
+    (next_latch g Input c e refl ∙ latch_left_lem (latch g Input c) (effect_in g Input c e) ∙ ap (λ l. latch_left l (effect_in g Input c e)) same)
+    ∙ ap (λ a. (left_by Input (left_after Input h (effect_in g Input c e)) (effects g Input a es)).latch) (surroundings_next_lem c e)
 
 -- From a power-up.
 module _ (ed : Edition) (v : Levels) (es : List Event) where
@@ -65,11 +65,11 @@ module _ (ed : Edition) (v : Levels) (es : List Event) where
   reached = run (power_up_as ed v) es
 
   pub surrounded : surroundings_of reached ≡ here ed v es
-  surrounded = around-is (power_up_as ed v) es
+  surrounded = around_is (power_up_as ed v) es
 
-  pub edition-here : (here ed v es).edition ≡ ed
-  edition-here = same-edition (at_power_up ed v) es
+  pub edition_here : (here ed v es).edition ≡ ed
+  edition_here = same_edition (at_power_up ed v) es
 
   pub latched : (g : Group) → latch g Input reached ≡ (left_here ed v es g Input).latch
-  latched A = latch-along A (power_up_as ed v) es (left Empty 0) refl
-  latched B = latch-along B (power_up_as ed v) es (left Empty 0) refl
+  latched A = latch_along A (power_up_as ed v) es (left Empty 0) refl
+  latched B = latch_along B (power_up_as ed v) es (left Empty 0) refl

@@ -21,7 +21,7 @@ use Rattle.journal.specs.Same.{same_state}
 use Rattle.journal.specs.Trim.{kept_from, trim_number, trim_answer, trimmed_words}
 use Rattle.journallaws.specs.Example.{given, said}
 
-pub trimmed-so : (ed : Edition) → given ed ≡ said
+pub trimmed_so : (ed : Edition) → given ed ≡ said
 unfolding bit_of value_of is_kind operands_of number_of step_in strobed_input strobed_output mode_of input_of control_of after_offer after_follow after_hand_over after_end_read after_clear cleared_port after_mode_word after_control_word after_read_begins after_read_ends after_write_ends fallen edged after_levels_on_c port_after_levels after_levels step_of is_frame same_state kept_from trim_number trim_answer trimmed_words
-trimmed-so Older = refl
-trimmed-so Newer = refl
+trimmed_so Older = refl
+trimmed_so Newer = refl

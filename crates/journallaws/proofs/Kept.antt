@@ -44,12 +44,12 @@ kept_again c (w ∷ ws) = go (same_state c (after_word c w)) refl (kept_again (a
     go false other again = rw (other) (ap (λ (ks : List ℕ). w ∷ ks) again)
 
 -- What is kept of frames is frames.
-pub kept-frames : (c : Chip) (ws : List ℕ) → all_frames ws ≡ true → all_frames (kept_from c ws) ≡ true
+pub kept_frames : (c : Chip) (ws : List ℕ) → all_frames ws ≡ true → all_frames (kept_from c ws) ≡ true
 unfolding kept_from
-kept-frames c [] all = refl
-kept-frames c (w ∷ ws) all =
+kept_frames c [] all = refl
+kept_frames c (w ∷ ws) all =
     let k = both (is_frame (event_in w)) (all_frames ws) all in
-    go (same_state c (after_word c w)) k.0 (kept-frames (after_word c w) ws k.1)
+    go (same_state c (after_word c w)) k.0 (kept_frames (after_word c w) ws k.1)
   where
     go : (b : Bool) → is_frame (event_in w) ≡ true → all_frames (kept_from (after_word c w) ws) ≡ true
         → all_frames (cond b (kept_from (after_word c w) ws) (w ∷ kept_from (after_word c w) ws)) ≡ true

@@ -28,61 +28,61 @@ use Rattle.chip.proofs.OnPort.{word_on}
 use Rattle.control.specs.Role.{input, output, uses_of, free_role, role_of}
 use Rattle.chip.specs.ModeWord.{cleared_port, after_mode_word}
 use Rattle.chip.specs.ControlWord.{set_as, pin_set, after_control_word}
-use Rattle.chip.proofs.SettingsAfter.{mode-word, mode-word-word, mode-word-latch, bit-word, bit-put}
+use Rattle.chip.proofs.SettingsAfter.{mode_word_lem, mode_word_word, mode_word_latch, bit_word_lem, bit_put}
 use Rattle.chip.specs.Read.{fetched_from, done_with, after_read_begins, after_read_ends}
-use Rattle.chip.proofs.ReadsAfter.{begun-surrounded, ended-surrounded}
+use Rattle.chip.proofs.ReadsAfter.{begun_surrounded, ended_surrounded}
 use Rattle.chip.specs.Write.{stored_by, latch_written, after_write_ends}
 use Rattle.chip.specs.Levels.{edged, after_levels_on_c, port_after_levels, after_levels}
-use Rattle.chip.proofs.LevelsAfter.{levels-word}
+use Rattle.chip.proofs.LevelsAfter.{levels_word}
 use Rattle.chip.specs.Step.{device, after_end}
 use Rattle.fates.specs.Kinds.{kind_of, accepts}
 use Rattle.fates.specs.Promise.{run}
-use Rattle.fates.proofs.Accepted.{by-outcome, no-kind-accepted}
+use Rattle.fates.proofs.Accepted.{by_outcome, no_kind_accepted}
 use Rattle.fates.proofs.Followed.{after}
 
 -- As a reset leaves it.
 abbrev pub Cleared : Core → Type 0
 Cleared c = after_mode_word c 0x9b ≡ c
 
-pub anew-again : (c : Core) (w : ℕ) → after_mode_word (after_mode_word c w) w ≡ after_mode_word c w
+pub anew_again : (c : Core) (w : ℕ) → after_mode_word (after_mode_word c w) w ≡ after_mode_word c w
 unfolding after_mode_word cleared_port after_clear
-anew-again c w = refl
+anew_again c w = refl
 
 -- Whatever the address, a port that stays leaves the core.
-stays-there : (c : Core) (zero one : Bool) → cond zero c (cond one c c) ≡ c
-stays-there c true one = refl
-stays-there c false true = refl
-stays-there c false false = refl
+stays_there : (c : Core) (zero one : Bool) → cond zero c (cond one c c) ≡ c
+stays_there c true one = refl
+stays_there c false true = refl
+stays_there c false false = refl
 
 module _ (c : Core) (plain : c.word ≡ 0x9b) where
   -- Under that word a read finds no handshake,
-  none-begun : (x : ℕ) → after_read_begins c x ≡ c
+  none_begun : (x : ℕ) → after_read_begins c x ≡ c
   unfolding after_read_begins strobed_input mode_of input_of bit_of
-  none-begun x = subst (λ w. on_port c x (λ g p. fetched_from p (strobed_input w g)) ≡ c) (sym plain) (stays-there c (eqb x 0) (eqb x 1))
+  none_begun x = subst (λ w. on_port c x (λ g p. fetched_from p (strobed_input w g)) ≡ c) (sym plain) (stays_there c (eqb x 0) (eqb x 1))
 
-  none-ended : (x : ℕ) → after_read_ends c x ≡ c
+  none_ended : (x : ℕ) → after_read_ends c x ≡ c
   unfolding after_read_ends strobed_input mode_of input_of bit_of
-  none-ended x = subst (λ w. on_port c x (λ g p. done_with p (strobed_input w g)) ≡ c) (sym plain) (stays-there c (eqb x 0) (eqb x 1))
+  none_ended x = subst (λ w. on_port c x (λ g p. done_with p (strobed_input w g)) ≡ c) (sym plain) (stays_there c (eqb x 0) (eqb x 1))
 
   -- bit set/reset finds a pin of port C that is an input,
-  no-pin : (n : ℕ) (v : Bool) → pin_set c n v ≡ c
+  no_pin_lem : (n : ℕ) (v : Bool) → pin_set c n v ≡ c
   unfolding pin_set role_of uses_of free_role mode_of input_of upper_input lower_input bit_of
-  no-pin n v = subst (λ w. set_as c n v (role_of w n) ≡ c) (sym plain) (go (ltb n 4))
+  no_pin_lem n v = subst (λ w. set_as c n v (role_of w n) ≡ c) (sym plain) (go (ltb n 4))
     where
       go : (lower : Bool) → set_as c n v (cond (cond lower true true) input output) ≡ c
       go true = refl
       go false = refl
 
   -- and a write finds no output.
-  none-stored : (x d : ℕ) → on_port c x (λ g p. stored_by p c.word g d) ≡ c
+  none_stored : (x d : ℕ) → on_port c x (λ g p. stored_by p c.word g d) ≡ c
   unfolding stored_by output_of mode_of input_of bit_of
-  none-stored x d = subst (λ w. on_port c x (λ g p. stored_by p w g d) ≡ c) (sym plain) (stays-there c (eqb x 0) (eqb x 1))
+  none_stored x d = subst (λ w. on_port c x (λ g p. stored_by p w g d) ≡ c) (sym plain) (stays_there c (eqb x 0) (eqb x 1))
 
   module _ (cleared : Cleared c) where
-    no-bit : (d : ℕ) → with_latch c (latch_written c.word c.c.latch d) ≡ c
+    no_bit : (d : ℕ) → with_latch c (latch_written c.word c.c.latch d) ≡ c
     unfolding latch_written role_of uses_of free_role mode_of input_of upper_input lower_input bit_of value_of
-    no-bit d =
-        let zero : c.c.latch ≡ 0 = sym (ap (λ c'. c'.c.latch) cleared) ∙ mode-word-latch c 0x9b in
+    no_bit d =
+        let zero : c.c.latch ≡ 0 = sym (ap (λ c'. c'.c.latch) cleared) ∙ mode_word_latch c 0x9b in
         subst (λ w. with_latch c (latch_written w c.c.latch d) ≡ c) (sym plain)
         (subst (λ l. with_latch c (latch_written 0x9b l d) ≡ c) (sym zero) (λ i. with_latch c (sym zero i)))
 
@@ -93,9 +93,9 @@ other_levels c x d =
     (on_port c x (λ g p. record { input = p.input; output = p.output; outside = d }))
 
 -- A mode word leaves them.
-levels-outlast : (c : Core) (x d : ℕ) → after_mode_word (other_levels c x d) 0x9b ≡ other_levels (after_mode_word c 0x9b) x d
+levels_outlast : (c : Core) (x d : ℕ) → after_mode_word (other_levels c x d) 0x9b ≡ other_levels (after_mode_word c 0x9b) x d
 unfolding after_mode_word cleared_port
-levels-outlast c x d = go (eqb x 2) (eqb x 0) (eqb x 1)
+levels_outlast c x d = go (eqb x 2) (eqb x 0) (eqb x 1)
   where
     anew : Core → Core
     anew c' = after_mode_word c' 0x9b
@@ -116,16 +116,16 @@ levels-outlast c x d = go (eqb x 2) (eqb x 0) (eqb x 1)
 
 module _ (c : Core) (plain : c.word ≡ 0x9b) where
   -- Under that word no channel is strobed, so that levels are levels and nothing more.
-  none-strobed : (g : Group) (s : Side) → strobed c.word g s ≡ false
+  none_strobed : (g : Group) (s : Side) → strobed c.word g s ≡ false
   unfolding strobed_input strobed_output mode_of input_of bit_of
-  none-strobed A Input = ap (λ w. strobed_input w A) plain
-  none-strobed A Output = ap (λ w. strobed_output w A) plain
-  none-strobed B Input = ap (λ w. strobed_input w B) plain
-  none-strobed B Output = ap (λ w. strobed_output w B) plain
+  none_strobed A Input = ap (λ w. strobed_input w A) plain
+  none_strobed A Output = ap (λ w. strobed_output w A) plain
+  none_strobed B Input = ap (λ w. strobed_input w B) plain
+  none_strobed B Output = ap (λ w. strobed_output w B) plain
 
-  levels-alone : (x d : ℕ) → after_levels c x d ≡ other_levels c x d
+  levels_alone : (x d : ℕ) → after_levels c x d ≡ other_levels c x d
   unfolding after_levels after_levels_on_c edged port_after_levels
-  levels-alone x d = rw (none-strobed A Input, none-strobed A Output, none-strobed B Input, none-strobed B Output)
+  levels_alone x d = rw (none_strobed A Input, none_strobed A Output, none_strobed B Input, none_strobed B Output)
 
 -- What is so of a core is so of another that is the same.
 moved : {c c' : Core} → c' ≡ c → Cleared c → Cleared c'
@@ -136,60 +136,60 @@ abbrev Kept : Core → Type 0
 Kept c = c.word ≡ 0x9b → Cleared c
 
 module _ (c : Core) (was : Kept c) where
-  by-control : (d : ℕ) → Kept (after_control_word c d)
-  by-control d = go (bit_of d 7) refl
+  by_control : (d : ℕ) → Kept (after_control_word c d)
+  by_control d = go (bit_of d 7) refl
     where
       go : (seven : Bool) → bit_of d 7 ≡ seven → Kept (after_control_word c d)
       go true seven is =
-          let same = mode-word c d seven in
-          let nine-b : d ≡ 0x9b = sym (mode-word-word c d) ∙ sym (ap (λ c'. c'.word) same) ∙ is in
-          moved same (subst (λ w. Cleared (after_mode_word c w)) (sym nine-b) (anew-again c 0x9b))
+          let same = mode_word_lem c d seven in
+          let nine_b : d ≡ 0x9b = sym (mode_word_word c d) ∙ sym (ap (λ c'. c'.word) same) ∙ is in
+          moved same (subst (λ w. Cleared (after_mode_word c w)) (sym nine_b) (anew_again c 0x9b))
       go false seven is =
-          let plain = sym (bit-put c d seven).surroundings.word ∙ is in
-          moved (bit-word c d seven ∙ no-pin c plain (d / 2 % 8) (bit_of d 0)) (was plain)
+          let plain = sym (bit_put c d seven).surroundings.word ∙ is in
+          moved (bit_word_lem c d seven ∙ no_pin_lem c plain (d / 2 % 8) (bit_of d 0)) (was plain)
 
-  write-ended : (x d : ℕ) → Kept (after_write_ends c x d)
+  write_ended : (x d : ℕ) → Kept (after_write_ends c x d)
   unfolding after_write_ends
-  write-ended x d = go (eqb x 2) (eqb x 3)
+  write_ended x d = go (eqb x 2) (eqb x 3)
     where
       go : (lines command : Bool)
           → Kept (cond lines (with_latch c (latch_written c.word c.c.latch d)) (cond command (after_control_word c d) (on_port c x (λ g p. stored_by p c.word g d))))
-      go true command is = moved (no-bit c is (was is) d) (was is)
-      go false true is = by-control d is
-      go false false is = let plain = sym (word_on c x (λ g p. stored_by p c.word g d)) ∙ is in moved (none-stored c plain x d) (was plain)
+      go true command is = moved (no_bit c is (was is) d) (was is)
+      go false true is = by_control d is
+      go false false is = let plain = sym (word_on c x (λ g p. stored_by p c.word g d)) ∙ is in moved (none_stored c plain x d) (was plain)
 
   ended : (ph : Phase) → Kept (after_end c ph)
   ended Idle is = was is
-  ended (Reading p) is = let plain = sym (ended-surrounded c p).word ∙ is in moved (none-ended c plain p) (was plain)
-  ended (Writing x d) is = write-ended x d is
+  ended (Reading p) is = let plain = sym (ended_surrounded c p).word ∙ is in moved (none_ended c plain p) (was plain)
+  ended (Writing x d) is = write_ended x d is
 
   begun : (x : ℕ) → Kept (after_read_begins c x)
-  begun x is = let plain = sym (begun-surrounded c x).word ∙ is in moved (none-begun c plain x) (was plain)
+  begun x is = let plain = sym (begun_surrounded c x).word ∙ is in moved (none_begun c plain x) (was plain)
 
   levelled : (x d : ℕ) → Kept (after_levels c x d)
   levelled x d is =
-      let plain = sym (levels-word c x d) ∙ is in
-      moved (levels-alone c plain x d) (levels-outlast c x d ∙ ap (λ c'. other_levels c' x d) (was plain))
+      let plain = sym (levels_word c x d) ∙ is in
+      moved (levels_alone c plain x d) (levels_outlast c x d ∙ ap (λ c'. other_levels c' x d) (was plain))
 
 -- From a power-up on, whatever the events.
 kept_next : (c : Chip) (e : Event) → Kept c.core → Kept (after c e).core
 kept_next c e was =
-    by-outcome (λ c' ok. Kept c'.core) c e
+    by_outcome (λ c' ok. Kept c'.core) c e
     (λ ok.
     by_kind (λ k. accepts c.edition c.phase (kind_of (event k e.first e.second)) ≡ true → Kept (after_in device c k e.first e.second).core)
-    (λ ok is. anew-again c.core 0x9b)
+    (λ ok is. anew_again c.core 0x9b)
     (λ ok. begun c.core was e.first)
     (λ ok. ended c.core was c.phase)
     (λ ok. was)
     (λ ok. levelled c.core was e.first e.second)
-    (λ k none ok. absurd (no-kind-accepted c.edition c.phase k e.first e.second none ok))
+    (λ k none ok. absurd (no_kind_accepted c.edition c.phase k e.first e.second none ok))
     e.kind ok)
     was
 
-pub cleared-along : (c : Chip) (es : List Event) → Kept c.core → Kept (run c es).core
-cleared-along c [] was = was
-cleared-along c (e ∷ es) was = cleared-along (after c e) es (kept_next c e was)
+pub cleared_along : (c : Chip) (es : List Event) → Kept c.core → Kept (run c es).core
+cleared_along c [] was = was
+cleared_along c (e ∷ es) was = cleared_along (after c e) es (kept_next c e was)
 
-pub cleared-at-first : (ed : Edition) (v : Levels) → Cleared (power_up_as ed v).core
+pub cleared_at_first : (ed : Edition) (v : Levels) → Cleared (power_up_as ed v).core
 unfolding after_mode_word cleared_port after_clear
-cleared-at-first ed v = refl
+cleared_at_first ed v = refl

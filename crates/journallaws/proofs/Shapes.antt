@@ -12,7 +12,7 @@ use Rattle.bus.specs.Kinds.{is_kind, no_kind, operands_of}
 use Rattle.bus.specs.Event.{Event, event}
 use Rattle.bus.proofs.ByKind.{by_kind}
 use Rattle.journal.specs.Words.{word_of, event_in, unused_zero, is_frame, all_frames}
-use Rattle.journal.proofs.Packed.{packed-back, read_back}
+use Rattle.journal.proofs.Packed.{packed_back, read_back}
 use Rattle.journallaws.specs.Frames.{Frame, reset, begin_read, end_cycle, begin_write, levels, Frames}
 
 -- The word of a frame with byte operands, kind by kind.
@@ -28,28 +28,28 @@ shape_of k x d below below' =
     (λ k none is. absurd (contrary (no_kind k) (ap not (both (is_kind k) (unused_zero (operands_of k) (event k x d)) is).0) none))
     k
 
-pub is-shape : (w : ℕ) → is_frame (event_in w) ≡ true → Frame w
-is-shape w is = subst Frame (packed-back w) (shape_of (w / 65536) (w / 256 % 256) (w % 256) (omega arith) (omega arith) is)
+pub is_shape : (w : ℕ) → is_frame (event_in w) ≡ true → Frame w
+is_shape w is = subst Frame (packed_back w) (shape_of (w / 65536) (w / 256 % 256) (w % 256) (omega arith) (omega arith) is)
 
 -- The other way round.
-of-event : (e : Event) → e.first < 256 → e.second < 256 → is_frame e ≡ true → is_frame (event_in (word_of e)) ≡ true
-of-event e first second is = ap is_frame (read_back e first second) ∙ is
+of_event : (e : Event) → e.first < 256 → e.second < 256 → is_frame e ≡ true → is_frame (event_in (word_of e)) ≡ true
+of_event e first second is = ap is_frame (read_back e first second) ∙ is
 
-at-word : (w : ℕ) (e : Event) → e.first < 256 → e.second < 256 → word_of e ≡ w → is_frame e ≡ true → is_frame (event_in w) ≡ true
-at-word w e first second same is = subst (λ w. is_frame (event_in w) ≡ true) same (of-event e first second is)
+at_word : (w : ℕ) (e : Event) → e.first < 256 → e.second < 256 → word_of e ≡ w → is_frame e ≡ true → is_frame (event_in w) ≡ true
+at_word w e first second same is = subst (λ w. is_frame (event_in w) ≡ true) same (of_event e first second is)
 
 pub shape_is : {w : ℕ} → Frame w → is_frame (event_in w) ≡ true
 unfolding is_frame is_kind operands_of
 shape_is reset = refl
-shape_is (begin_read a below) = at-word (65536 + 256 * a) (event 1 a 0) below (omega arith) (omega arith) refl
+shape_is (begin_read a below) = at_word (65536 + 256 * a) (event 1 a 0) below (omega arith) (omega arith) refl
 shape_is end_cycle = refl
-shape_is (begin_write a d below below') = at-word (196608 + 256 * a + d) (event 3 a d) below below' (omega arith) refl
-shape_is (levels p d below below') = at-word (327680 + 256 * p + d) (event 5 p d) below below' (omega arith) refl
+shape_is (begin_write a d below below') = at_word (196608 + 256 * a + d) (event 3 a d) below below' (omega arith) refl
+shape_is (levels p d below below') = at_word (327680 + 256 * p + d) (event 5 p d) below below' (omega arith) refl
 
-pub all-shapes : (ws : List ℕ) → all_frames ws ≡ true → Frames ws
-all-shapes [] all = tt
-all-shapes (w ∷ ws) all = let k = both (is_frame (event_in w)) (all_frames ws) all in (is-shape w k.0, all-shapes ws k.1)
+pub all_shapes : (ws : List ℕ) → all_frames ws ≡ true → Frames ws
+all_shapes [] all = tt
+all_shapes (w ∷ ws) all = let k = both (is_frame (event_in w)) (all_frames ws) all in (is_shape w k.0, all_shapes ws k.1)
 
-pub shapes-all : (ws : List ℕ) → Frames ws → all_frames ws ≡ true
-shapes-all [] all = refl
-shapes-all (w ∷ ws) all = ap (λ b. b && all_frames ws) (shape_is all.0) ∙ shapes-all ws all.1
+pub shapes_all : (ws : List ℕ) → Frames ws → all_frames ws ≡ true
+shapes_all [] all = refl
+shapes_all (w ∷ ws) all = ap (λ b. b && all_frames ws) (shape_is all.0) ∙ shapes_all ws all.1

@@ -3,7 +3,7 @@
 use mathlib.Core.Path.{◌≡◌, ◌∙◌, refl, ap, sym}
 use mathlib.Core.Bool.{true, false, not}
 use lib.Dec.{lit<}
-use Rattle.bits.proofs.BitLaws.{bit-of-with}
+use Rattle.bits.proofs.BitLaws.{bit_of_with}
 use Rattle.control.specs.declared.Group.{Group}
 use Rattle.control.specs.declared.Group.TheVariants.{A, B}
 use Rattle.chip.specs.declared.channel.Side.{Side}
@@ -14,92 +14,92 @@ use Rattle.chip.specs.Handshakes.{strobed}
 use Rattle.chip.specs.declared.reasons.Reason.{Reason}
 use Rattle.chip.specs.declared.reasons.Reason.TheVariants.{EnableOff, FlagWrong, LineLow, OwnCycle, High}
 use Rattle.chip.specs.Reasons.{holds, reason_of}
-use Rattle.chip.proofs.ByReason.{NoneHolds, by-reason, none_named, none-asks}
+use Rattle.chip.proofs.ByReason.{NoneHolds, by_reason, none_named, none_asks}
 use Rattle.laws.specs.Quiet.{later, NoneSeen}
 use Rattle.laws.specs.Altered.{altered, HalfHigh}
 use Rattle.laws.proofs.Interrupts.{none_runs}
-use Rattle.laws.proofs.Quiet.{wrong-seen, low-seen, asked-seen}
+use Rattle.laws.proofs.Quiet.{wrong_seen, low_seen, asked_seen}
 
 -- The cause altered no longer holds, and the others are as they were.
 module _ (c : Chip) where
-  word-altered : (g : Group) (s : Side) (r : Reason) → (altered c g s r).core.word ≡ c.core.word
-  word-altered g s EnableOff = refl
-  word-altered A Input FlagWrong = refl
-  word-altered A Output FlagWrong = refl
-  word-altered B Input FlagWrong = refl
-  word-altered B Output FlagWrong = refl
-  word-altered g s LineLow = refl
-  word-altered g s OwnCycle = refl
-  word-altered g s High = refl
+  word_altered : (g : Group) (s : Side) (r : Reason) → (altered c g s r).core.word ≡ c.core.word
+  word_altered g s EnableOff = refl
+  word_altered A Input FlagWrong = refl
+  word_altered A Output FlagWrong = refl
+  word_altered B Input FlagWrong = refl
+  word_altered B Output FlagWrong = refl
+  word_altered g s LineLow = refl
+  word_altered g s OwnCycle = refl
+  word_altered g s High = refl
 
-  enable-set : (g : Group) (s : Side) → holds (altered c g s EnableOff) g s EnableOff ≡ false
-  enable-set A Input = refl
-  enable-set A Output = refl
-  enable-set B s = refl
+  enable_set : (g : Group) (s : Side) → holds (altered c g s EnableOff) g s EnableOff ≡ false
+  enable_set A Input = refl
+  enable_set A Output = refl
+  enable_set B s = refl
 
-  flag-beside-enable : (g : Group) (s : Side) → holds (altered c g s EnableOff) g s FlagWrong ≡ holds c g s FlagWrong
-  flag-beside-enable A s = refl
-  flag-beside-enable B s = refl
+  flag_beside_enable : (g : Group) (s : Side) → holds (altered c g s EnableOff) g s FlagWrong ≡ holds c g s FlagWrong
+  flag_beside_enable A s = refl
+  flag_beside_enable B s = refl
 
-  flag-right : (g : Group) (s : Side) → holds (altered c g s FlagWrong) g s FlagWrong ≡ false
+  flag_right : (g : Group) (s : Side) → holds (altered c g s FlagWrong) g s FlagWrong ≡ false
   unfolding flag_of
-  flag-right A Input = refl
-  flag-right A Output = refl
-  flag-right B Input = refl
-  flag-right B Output = refl
+  flag_right A Input = refl
+  flag_right A Output = refl
+  flag_right B Input = refl
+  flag_right B Output = refl
 
-  enable-beside-flag : (g : Group) (s : Side) → holds (altered c g s FlagWrong) g s EnableOff ≡ holds c g s EnableOff
-  enable-beside-flag A Input = refl
-  enable-beside-flag A Output = refl
-  enable-beside-flag B Input = refl
-  enable-beside-flag B Output = refl
+  enable_beside_flag : (g : Group) (s : Side) → holds (altered c g s FlagWrong) g s EnableOff ≡ holds c g s EnableOff
+  enable_beside_flag A Input = refl
+  enable_beside_flag A Output = refl
+  enable_beside_flag B Input = refl
+  enable_beside_flag B Output = refl
 
-  line-beside-flag : (g : Group) (s : Side) → holds (altered c g s FlagWrong) g s LineLow ≡ holds c g s LineLow
-  line-beside-flag A Input = refl
-  line-beside-flag A Output = refl
-  line-beside-flag B Input = refl
-  line-beside-flag B Output = refl
+  line_beside_flag : (g : Group) (s : Side) → holds (altered c g s FlagWrong) g s LineLow ≡ holds c g s LineLow
+  line_beside_flag A Input = refl
+  line_beside_flag A Output = refl
+  line_beside_flag B Input = refl
+  line_beside_flag B Output = refl
 
-  line-raised : (g : Group) (s : Side) → holds (altered c g s LineLow) g s LineLow ≡ false
-  line-raised A Input = ap not (bit-of-with c.core.c.outside 4 true 4 (lit< tt))
-  line-raised A Output = ap not (bit-of-with c.core.c.outside 6 true 6 (lit< tt))
-  line-raised B s = ap not (bit-of-with c.core.c.outside 2 true 2 (lit< tt))
+  line_raised_lem : (g : Group) (s : Side) → holds (altered c g s LineLow) g s LineLow ≡ false
+  line_raised_lem A Input = ap not (bit_of_with c.core.c.outside 4 true 4 (lit< tt))
+  line_raised_lem A Output = ap not (bit_of_with c.core.c.outside 6 true 6 (lit< tt))
+  line_raised_lem B s = ap not (bit_of_with c.core.c.outside 2 true 2 (lit< tt))
 
-  flag-beside-line : (g : Group) (s : Side) → holds (altered c g s LineLow) g s FlagWrong ≡ holds c g s FlagWrong
-  flag-beside-line A s = refl
-  flag-beside-line B s = refl
+  flag_beside_line : (g : Group) (s : Side) → holds (altered c g s LineLow) g s FlagWrong ≡ holds c g s FlagWrong
+  flag_beside_line A s = refl
+  flag_beside_line B s = refl
 
 -- A half that is there, of which no reason holds, is high.
-high-where : (c : Chip) (g : Group) (s : Side) → strobed c.core.word g s ≡ true → NoneHolds c g s → HalfHigh c g s
-high-where c g s there none =
-    let asks = none-asks c g s there none in
-    record { asks = asks; named = none_named c g s none; shown = asked-seen c g s there asks }
+high_where : (c : Chip) (g : Group) (s : Side) → strobed c.core.word g s ≡ true → NoneHolds c g s → HalfHigh c g s
+high_where c g s there none =
+    let asks = none_asks c g s there none in
+    record { asks = asks; named = none_named c g s none; shown = asked_seen c g s there asks }
 
 -- Where no reason behind the one that is given is seen, the half is high in the state with that one cause altered.
-pub would-be-high : (c : Chip) (g : Group) (s : Side) → strobed c.core.word g s ≡ true
+pub would_be_high : (c : Chip) (g : Group) (s : Side) → strobed c.core.word g s ≡ true
     → NoneSeen c g s (later (reason_of c g s)) → HalfHigh (altered c g s (reason_of c g s)) g s
-would-be-high c g s there =
-    by-reason c g s (λ r. NoneSeen c g s (later r) → HalfHigh (altered c g s r) g s)
-    (λ off none. high-where _ g s (still EnableOff) (record {
-      on = enable-set c g s;
-      right = flag-beside-enable c g s ∙ sym (wrong-seen c g s there) ∙ none.0;
-      up = sym (low-seen c g s there) ∙ none.1.0;
+would_be_high c g s there =
+    by_reason c g s (λ r. NoneSeen c g s (later r) → HalfHigh (altered c g s r) g s)
+    (λ off none. high_where _ g s (still EnableOff) (record {
+      on = enable_set c g s;
+      right = flag_beside_enable c g s ∙ sym (wrong_seen c g s there) ∙ none.0;
+      up = sym (low_seen c g s there) ∙ none.1.0;
       idle = none.1.1.0;
     }))
-    (λ on wrong none. high-where _ g s (still FlagWrong) (record {
-      on = enable-beside-flag c g s ∙ on;
-      right = flag-right c g s;
-      up = line-beside-flag c g s ∙ sym (low-seen c g s there) ∙ none.0;
+    (λ on wrong none. high_where _ g s (still FlagWrong) (record {
+      on = enable_beside_flag c g s ∙ on;
+      right = flag_right c g s;
+      up = line_beside_flag c g s ∙ sym (low_seen c g s there) ∙ none.0;
       idle = none.1.0;
     }))
-    (λ on right low none. high-where _ g s (still LineLow) (record {
+    (λ on right low none. high_where _ g s (still LineLow) (record {
       on = on;
-      right = flag-beside-line c g s ∙ right;
-      up = line-raised c g s;
+      right = flag_beside_line c g s ∙ right;
+      up = line_raised_lem c g s;
       idle = none.0;
     }))
-    (λ on right up runs none. high-where _ g s there (record { on = on; right = right; up = up; idle = none_runs g s }))
-    (λ none later. high-where c g s there none)
+    (λ on right up runs none. high_where _ g s there (record { on = on; right = right; up = up; idle = none_runs g s }))
+    (λ none later. high_where c g s there none)
   where
     still : (r : Reason) → strobed (altered c g s r).core.word g s ≡ true
-    still r = rw (word-altered c g s r) there
+    still r = rw (word_altered c g s r) there

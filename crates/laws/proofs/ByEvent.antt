@@ -16,13 +16,13 @@ use Rattle.chip.specs.ModeWord.{after_mode_word}
 use Rattle.chip.specs.ControlWord.{after_control_word}
 use Rattle.chip.specs.Read.{after_read_begins, after_read_ends}
 use Rattle.chip.specs.Write.{latch_written}
-use Rattle.chip.proofs.WritesAfter.{Stored, by-write}
+use Rattle.chip.proofs.WritesAfter.{Stored, by_write}
 use Rattle.chip.specs.Levels.{after_levels}
 use Rattle.chip.specs.Step.{limits, on_bus, step_of}
-use Rattle.chip.proofs.Ends.{by-phase}
-use Rattle.chip.proofs.Outcome.{step-either}
+use Rattle.chip.proofs.Ends.{by_phase}
+use Rattle.chip.proofs.Outcome.{step_either}
 use Rattle.laws.specs.Seen.{makes_anew}
-use Rattle.laws.proofs.Cycles.{no-kind-refused}
+use Rattle.laws.proofs.Cycles.{no_kind_refused}
 
 -- What is so of the chip that the end of each cycle leaves: of a read, and of a write of a mode word, of bit set/reset, to port C, and to any other
 -- address.
@@ -36,10 +36,10 @@ pub record Ended (P : Chip → Type 0) (c : Chip) : Type 0 where
 -- It is so after the end of any cycle, and where there is none to end, if it is so of the chip as it is.
 pub by_end : (P : Chip → Type 0) (c : Chip) (x d : ℕ) → P c → Ended P c → P (step_of c 2 x d).chip
 by_end P c x d stays e =
-    by-phase P c x d
+    by_phase P c x d
     (λ idle. stays)
     e.read
-    (λ a b phase. by-write (λ c'. P (on_bus Idle c.edition c')) c.core a b (record {
+    (λ a b phase. by_write (λ c'. P (on_bus Idle c.edition c')) c.core a b (record {
       mode_word = λ three seven. e.mode_word b (phase ∙ ap (λ a. Writing a b) three) seven;
       bit_word = λ three seven. e.bit_word b (phase ∙ ap (λ a. Writing a b) three) seven;
       lines = λ two. e.lines b (phase ∙ ap (λ a. Writing a b) two);
@@ -47,8 +47,8 @@ by_end P c x d stays e =
     }))
 
 -- Where no mode word is written, there is nothing to show of one.
-pub not-anew : {X : Type 0} {ph : Phase} {w : ℕ} → makes_anew ph ≡ false → ph ≡ Writing 3 w → bit_of w 7 ≡ true → X
-not-anew {ph = ph} other phase seven = absurd (contrary (makes_anew ph) other (ap makes_anew phase ∙ seven))
+pub not_anew : {X : Type 0} {ph : Phase} {w : ℕ} → makes_anew ph ≡ false → ph ≡ Writing 3 w → bit_of w 7 ≡ true → X
+not_anew {ph = ph} other phase seven = absurd (contrary (makes_anew ph) other (ap makes_anew phase ∙ seven))
 
 -- What is so of the chip as it is, and of what each kind of event leaves of it where it is accepted.
 pub record Through (P : Chip → Type 0) (c : Chip) (k x d : ℕ) : Type 0 where
@@ -60,13 +60,13 @@ pub record Through (P : Chip → Type 0) (c : Chip) (k x d : ℕ) : Type 0 where
   pub levels : k ≡ 5 → number_of (limits c.edition) c.phase 5 x ≡ 0 → P (on_bus c.phase c.edition (after_levels c.core x d))
 
 -- It is so after any event.
-pub by-event : (P : Chip → Type 0) (c : Chip) (k x d : ℕ) → Through P c k x d → P (step_of c k x d).chip
-by-event P c k x d =
+pub by_event : (P : Chip → Type 0) (c : Chip) (k x d : ℕ) → Through P c k x d → P (step_of c k x d).chip
+by_event P c k x d =
     by_kind (λ k. Through P c k x d → P (step_of c k x d).chip)
-    (λ t. step-either P c 0 x d t.stays (λ ok. t.reset refl))
-    (λ t. step-either P c 1 x d t.stays (t.read_begins refl))
+    (λ t. step_either P c 0 x d t.stays (λ ok. t.reset refl))
+    (λ t. step_either P c 1 x d t.stays (t.read_begins refl))
     (λ t. by_end P c x d t.stays (t.ends refl))
-    (λ t. step-either P c 3 x d t.stays (t.write_begins refl))
-    (λ t. step-either P c 5 x d t.stays (t.levels refl))
-    (λ k none t. rw (no-kind-refused c k x d none) t.stays)
+    (λ t. step_either P c 3 x d t.stays (t.write_begins refl))
+    (λ t. step_either P c 5 x d t.stays (t.levels refl))
+    (λ k none t. rw (no_kind_refused c k x d none) t.stays)
     k

@@ -15,31 +15,31 @@ use Rattle.chip.specs.declared.Edition.TheVariants.{Older, Newer}
 use Rattle.chip.specs.declared.Chip.{Chip}
 use Rattle.chip.specs.Reads.{read_of}
 use Rattle.chip.specs.Step.{limits, device, as_stepped, refused, step_of}
-use Rattle.chip.proofs.Outcome.{step-refuses, step-number}
+use Rattle.chip.proofs.Outcome.{step_refuses, step_number}
 use Rattle.laws.specs.Editions.{addresses_read}
 
 -- There are four addresses and three ports; of the addresses three can be read, and of the newer edition all.
-in-numbers : (ed : Edition) → limits ed ≡ limits_of 4 (addresses_read ed) 3
-in-numbers Older = refl
-in-numbers Newer = refl
+in_numbers : (ed : Edition) → limits ed ≡ limits_of 4 (addresses_read ed) 3
+in_numbers Older = refl
+in_numbers Newer = refl
 
 pub facts : (c : Chip) → Facts device (limits_of 4 (addresses_read c.edition) 3) c
-facts c = bus.facts device (limits_of 4 (addresses_read c.edition) 3) c (in-numbers c.edition)
+facts c = bus.facts device (limits_of 4 (addresses_read c.edition) 3) c (in_numbers c.edition)
 
 -- In the step's own words: a refused event leaves the state as it was, and its byte is 00.
-pub refusal-changes-nothing : (c : Chip) (k x d : ℕ) → ¬ ((step_of c k x d).number ≡ 0) → step_of c k x d ≡ refused c (number_of (limits c.edition) c.phase k x)
-refusal-changes-nothing c k x d h = step-refuses c k x d (λ e. h (step-number c k x d ∙ e))
+pub refusal_changes_nothing : (c : Chip) (k x d : ℕ) → ¬ ((step_of c k x d).number ≡ 0) → step_of c k x d ≡ refused c (number_of (limits c.edition) c.phase k x)
+refusal_changes_nothing c k x d h = step_refuses c k x d (λ e. h (step_number c k x d ∙ e))
 
 -- A read that is accepted answers what a read there would have answered before it.
-pub read-answers : (c : Chip) (x d : ℕ) → (step_of c 1 x d).number ≡ 0 → (step_of c 1 x d).byte ≡ read_of c x
+pub read_answers_lem : (c : Chip) (x d : ℕ) → (step_of c 1 x d).number ≡ 0 → (step_of c 1 x d).byte ≡ read_of c x
 unfolding step_of
-read-answers c x d = ((facts c).begins x d).read_answers
+read_answers_lem c x d = ((facts c).begins x d).read_answers
 
 -- An event that any row speaks of is refused.
-pub row-refuses : (ed : Edition) (ph : Phase) (k x j : ℕ) → (get_or (rows (limits ed) ph k x) j (row 0 false)).applies ≡ true → ¬ (number_of (limits ed) ph k x ≡ 0)
-row-refuses ed = numbering.row-refuses (limits ed)
+pub row_refuses : (ed : Edition) (ph : Phase) (k x j : ℕ) → (get_or (rows (limits ed) ph k x) j (row 0 false)).applies ≡ true → ¬ (number_of (limits ed) ph k x ≡ 0)
+row_refuses ed = numbering.row_refuses (limits ed)
 
 -- What is no kind is refused with 1, whatever its operands.
-pub no-kind-refused : (c : Chip) (k x d : ℕ) → no_kind k ≡ true → step_of c k x d ≡ refused c 1
+pub no_kind_refused : (c : Chip) (k x d : ℕ) → no_kind k ≡ true → step_of c k x d ≡ refused c 1
 unfolding step_of
-no-kind-refused c k x d none = ap as_stepped (numbering.no-kind-refused device c k x d none)
+no_kind_refused c k x d none = ap as_stepped (numbering.no_kind_refused device c k x d none)

@@ -7,7 +7,7 @@ use native.Mathlib.Omega.{arith}
 use lib.Dec.{eqb, ltb}
 use borrow.Author.Tests.{eqb-true, eqb-false, lt-ltb, ltb-true}
 use Rattle.bus.specs.Kinds.{is_kind}
-use Rattle.bus.proofs.ByKind.{by_kind, no-kind-differs}
+use Rattle.bus.proofs.ByKind.{by_kind, no_kind_differs}
 use Rattle.bus.specs.declared.Phase.{Phase}
 use Rattle.bus.specs.Refusals.{is_busy, number_of}
 use Rattle.bus.specs.Device.{after_in, byte_in}
@@ -15,7 +15,7 @@ use Rattle.chip.specs.declared.Edition.{Edition}
 use Rattle.chip.specs.declared.Edition.TheVariants.{Older, Newer}
 use Rattle.chip.specs.declared.Chip.{Chip}
 use Rattle.chip.specs.Step.{readable, limits, device, step_of}
-use Rattle.chip.proofs.Outcome.{step-accepts, step-refuses, step-either}
+use Rattle.chip.proofs.Outcome.{step_accepts, step_refuses, step_either}
 use Rattle.laws.specs.Editions.{as_edition, given_as, reads_control, ShowsAlike}
 use Rattle.laws.proofs.ShowsAlike.{shows_alike, read_same}
 
@@ -24,9 +24,9 @@ abbrev read_number : Bool → Bool → Bool → ℕ
 read_number there can busy = cond (not there || false) 2 (cond (not can) 3 (cond busy 4 0))
 
 -- An address other than control can be read in the one edition where it can in the other, if it is there at all.
-same-readable : (ed other : Edition) (x : ℕ) (busy : Bool) → eqb x 3 ≡ false
+same_readable : (ed other : Edition) (x : ℕ) (busy : Bool) → eqb x 3 ≡ false
     → read_number (ltb x 4) (ltb x (readable ed)) busy ≡ read_number (ltb x 4) (ltb x (readable other)) busy
-same-readable ed other x busy elsewhere = go (ltb x 4) refl
+same_readable ed other x busy elsewhere = go (ltb x 4) refl
   where
     among : (ed : Edition) → ltb x 4 ≡ true → ltb x (readable ed) ≡ true
     among Older there = let below = ltb-true x 4 there in let off = eqb-false x 3 elsewhere in lt-ltb x 3 (omega (arith, below, off))
@@ -42,7 +42,7 @@ unfolding number_of is_kind
 same_number ed other ph k x =
     by_kind (λ k. reads_control k x ≡ false → number_of (limits ed) ph k x ≡ number_of (limits other) ph k x)
     (λ elsewhere. refl)
-    (λ elsewhere. same-readable ed other x (is_busy ph) elsewhere)
+    (λ elsewhere. same_readable ed other x (is_busy ph) elsewhere)
     (λ elsewhere. refl)
     (λ elsewhere. refl)
     (λ elsewhere. refl)
@@ -59,16 +59,16 @@ same_after ed c k x d =
     refl
     refl
     refl
-    (λ k none. rw (no-kind-differs k 0 none refl, no-kind-differs k 1 none refl, no-kind-differs k 2 none refl, no-kind-differs k 3 none refl))
+    (λ k none. rw (no_kind_differs k 0 none refl, no_kind_differs k 1 none refl, no_kind_differs k 2 none refl, no_kind_differs k 3 none refl))
     k
 
 same_byte : (ed : Edition) (c : Chip) (k x : ℕ) → byte_in device (as_edition ed c) k x ≡ byte_in device c k x
 same_byte ed c k x = ap (λ (b : ℕ). cond (eqb k 1) b 0) (read_same c.core c.phase c.phase ed c.edition (λ g s. refl) x)
 
 -- In the one edition any event but the read of control gives what it gives in the other.
-pub editions-alike : (ed : Edition) (c : Chip) (k x d : ℕ) → reads_control k x ≡ false
+pub editions_alike : (ed : Edition) (c : Chip) (k x d : ℕ) → reads_control k x ≡ false
     → step_of (as_edition ed c) k x d ≡ given_as ed (step_of c k x d)
-editions-alike ed c k x d elsewhere = go (eqb (number_of (limits c.edition) c.phase k x) 0) refl
+editions_alike ed c k x d elsewhere = go (eqb (number_of (limits c.edition) c.phase k x) 0) refl
   where
     same : number_of (limits ed) c.phase k x ≡ number_of (limits c.edition) c.phase k x
     same = same_number ed c.edition c.phase k x elsewhere
@@ -76,17 +76,17 @@ editions-alike ed c k x d elsewhere = go (eqb (number_of (limits c.edition) c.ph
     go : (ok : Bool) → eqb (number_of (limits c.edition) c.phase k x) 0 ≡ ok → step_of (as_edition ed c) k x d ≡ given_as ed (step_of c k x d)
     go true ok =
         let zero = eqb-true _ _ ok in
-        rw (step-accepts (as_edition ed c) k x d (same ∙ zero), step-accepts c k x d zero, same_after ed c k x d, same_byte ed c k x)
+        rw (step_accepts (as_edition ed c) k x d (same ∙ zero), step_accepts c k x d zero, same_after ed c k x d, same_byte ed c k x)
     go false ok =
-        rw (step-refuses (as_edition ed c) k x d (λ e. eqb-false _ _ ok (sym same ∙ e)), step-refuses c k x d (eqb-false _ _ ok), same)
+        rw (step_refuses (as_edition ed c) k x d (λ e. eqb-false _ _ ok (sym same ∙ e)), step_refuses c k x d (eqb-false _ _ ok), same)
 
 -- Nor is the edition seen at the pins, in the answers, in the tallies or in what is said of the interrupts.
-pub edition-unseen : (ed : Edition) (c : Chip) → ShowsAlike (as_edition ed c) c
-edition-unseen ed c = shows_alike c.core c.phase c.phase ed c.edition (λ g s. refl)
+pub edition_unseen : (ed : Edition) (c : Chip) → ShowsAlike (as_edition ed c) c
+edition_unseen ed c = shows_alike c.core c.phase c.phase ed c.edition (λ g s. refl)
 
 -- No event changes it.
-pub edition-stays : (c : Chip) (k x d : ℕ) → (step_of c k x d).chip.edition ≡ c.edition
-edition-stays c k x d = step-either (λ c'. c'.edition ≡ c.edition) c k x d refl (λ ok. kept)
+pub edition_stays : (c : Chip) (k x d : ℕ) → (step_of c k x d).chip.edition ≡ c.edition
+edition_stays c k x d = step_either (λ c'. c'.edition ≡ c.edition) c k x d refl (λ ok. kept)
   where
     kept : (after_in device c k x d).edition ≡ c.edition
     kept = ap (λ (c' : Chip). c'.edition) (same_after c.edition c k x d)

@@ -5,24 +5,24 @@ use mathlib.Core.Bool.{false}
 use Prim.Native.Nat.{ℕ}
 use Rattle.bits.proofs.Logic.{contrary}
 use Rattle.chip.specs.declared.Chip.{Chip}
-use Rattle.chip.proofs.ReadsAfter.{begun-enables, ended-enables}
-use Rattle.chip.proofs.LevelsAfter.{levels-enables}
+use Rattle.chip.proofs.ReadsAfter.{begun_enables, ended_enables}
+use Rattle.chip.proofs.LevelsAfter.{levels_enables}
 use Rattle.chip.specs.Step.{step_of}
 use Rattle.laws.specs.Seen.{commands}
-use Rattle.laws.proofs.ByEvent.{by-event}
+use Rattle.laws.proofs.ByEvent.{by_event}
 
-pub enables-stay : (c : Chip) (k x d : ℕ) → ¬ (k ≡ 0) → (k ≡ 2 → commands c.phase ≡ false) → (step_of c k x d).chip.core.inte ≡ c.core.inte
-enables-stay c k x d reset command = by-event (λ c'. c'.core.inte ≡ c.core.inte) c k x d (record {
+pub enables_stay : (c : Chip) (k x d : ℕ) → ¬ (k ≡ 0) → (k ≡ 2 → commands c.phase ≡ false) → (step_of c k x d).chip.core.inte ≡ c.core.inte
+enables_stay c k x d reset command = by_event (λ c'. c'.core.inte ≡ c.core.inte) c k x d (record {
   stays = refl;
   reset = λ zero. absurd (reset zero);
-  read_begins = λ one ok. begun-enables c.core x;
+  read_begins = λ one ok. begun_enables c.core x;
   ends = λ two. record {
-    read = λ p phase. ended-enables c.core p;
+    read = λ p phase. ended_enables c.core p;
     mode_word = λ w phase seven. absurd (contrary (commands c.phase) (command two) (ap commands phase));
     bit_word = λ w phase seven. absurd (contrary (commands c.phase) (command two) (ap commands phase));
     lines = λ b phase. refl;
     port = λ a b phase c' stored. stored.enables;
   };
   write_begins = λ three ok. refl;
-  levels = λ five ok. levels-enables c.core x d;
+  levels = λ five ok. levels_enables c.core x d;
 })

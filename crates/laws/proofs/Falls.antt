@@ -12,15 +12,15 @@ use Rattle.chip.specs.declared.channel.Side.TheVariants.{Input, Output}
 use Rattle.chip.specs.declared.channel.Fill.TheVariants.{Empty}
 use Rattle.chip.specs.declared.channel.Channel.{Channel}
 use Rattle.chip.specs.Moves.{after_follow, after_hand_over}
-use Rattle.chip.proofs.ConditionsLeft.{follow-stays, follow-counts, hand-over-keeps}
+use Rattle.chip.proofs.ConditionsLeft.{follow_stays, follow_counts, hand_over_keeps}
 use Rattle.chip.specs.declared.Core.{Core}
 use Rattle.chip.specs.declared.Chip.{Chip}
 use Rattle.chip.specs.State.{channel_of}
 use Rattle.chip.specs.Handshakes.{strobed, line_pin, own_address}
 use Rattle.chip.specs.Levels.{fallen, line_falls, lets_through, after_levels}
-use Rattle.chip.proofs.LevelsAfter.{levels-input, levels-output}
+use Rattle.chip.proofs.LevelsAfter.{levels_input, levels_output}
 use Rattle.chip.specs.Step.{step_of}
-use Rattle.chip.proofs.Outcome.{step-either}
+use Rattle.chip.proofs.Outcome.{step_either}
 use Rattle.laws.specs.Kept.{Kept}
 
 -- A channel that is the same is kept.
@@ -28,39 +28,39 @@ pub kept : {before after : Channel} → after ≡ before → Kept before after
 kept same = record { fill = ap (λ ch. ch.fill) same; tally = ap (λ ch. ch.tally) same }
 
 -- So is one whose line does not fall, whether or not its latch follows.
-pub levels-kept : (c : Core) (g : Group) (s : Side) (x d : ℕ) → (eqb x 2 && line_falls c d g s) ≡ false
+pub levels_kept : (c : Core) (g : Group) (s : Side) (x d : ℕ) → (eqb x 2 && line_falls c d g s) ≡ false
     → Kept (channel_of c g s) (channel_of (after_levels c x d) g s)
-levels-kept c g Input x d still = rw (levels-input c x d g, still) (go (own_address x g && lets_through c g))
+levels_kept c g Input x d still = rw (levels_input c x d g, still) (go (own_address x g && lets_through c g))
   where
     channel : Channel
     channel = channel_of c g Input
 
     go : (through : Bool) → Kept channel (cond through (after_follow channel d) channel)
-    go true = record { fill = follow-stays channel d; tally = follow-counts channel d }
+    go true = record { fill = follow_stays channel d; tally = follow_counts channel d }
     go false = kept refl
-levels-kept c g Output x d still = kept (levels-output c x d g ∙ rw (still))
+levels_kept c g Output x d still = kept (levels_output c x d g ∙ rw (still))
 
 -- Where there is no fall there is none that a handshake would see.
 unless : (lines on fell : Bool) → (lines && fell) ≡ false → (lines && (on && fell)) ≡ false
 unless true on fell still = rw (still) (and-false on)
 unless false on fell still = refl
 
-pub only-a-fall : (c : Chip) (g : Group) (s : Side) (x d : ℕ) → (eqb x 2 && fallen c.core.c.outside d (line_pin g s)) ≡ false
+pub only_a_fall : (c : Chip) (g : Group) (s : Side) (x d : ℕ) → (eqb x 2 && fallen c.core.c.outside d (line_pin g s)) ≡ false
     → Kept (channel_of c.core g s) (channel_of (step_of c 5 x d).chip.core g s)
-only-a-fall c g s x d still =
-    step-either (λ c'. Kept (channel_of c.core g s) (channel_of c'.core g s)) c 5 x d (kept refl)
-    (λ ok. levels-kept c.core g s x d (unless (eqb x 2) (strobed c.core.word g s) (fallen c.core.c.outside d (line_pin g s)) still))
+only_a_fall c g s x d still =
+    step_either (λ c'. Kept (channel_of c.core g s) (channel_of c'.core g s)) c 5 x d (kept refl)
+    (λ ok. levels_kept c.core g s x d (unless (eqb x 2) (strobed c.core.word g s) (fallen c.core.c.outside d (line_pin g s)) still))
 
 -- No levels touch an output's latch, nor does the fall of ACK.
-pub given-latch : (c : Core) (g : Group) (x d : ℕ) → (channel_of (after_levels c x d) g Output).latch ≡ (channel_of c g Output).latch
-given-latch c g x d =
+pub given_latch : (c : Core) (g : Group) (x d : ℕ) → (channel_of (after_levels c x d) g Output).latch ≡ (channel_of c g Output).latch
+given_latch c g x d =
     let channel = channel_of c g Output in
-    ap (λ ch. ch.latch) (levels-output c x d g)
+    ap (λ ch. ch.latch) (levels_output c x d g)
     ∙ either_way (λ ch. ch.latch) channel.latch (eqb x 2 && line_falls c d g Output) (after_hand_over channel Empty) channel
-    (hand-over-keeps channel Empty) refl
+    (hand_over_keeps channel Empty) refl
 
-pub output-latch-stays : (c : Chip) (g : Group) (x d : ℕ)
+pub output_latch_stays : (c : Chip) (g : Group) (x d : ℕ)
     → (channel_of (step_of c 5 x d).chip.core g Output).latch ≡ (channel_of c.core g Output).latch
-output-latch-stays c g x d =
-    step-either (λ c'. (channel_of c'.core g Output).latch ≡ (channel_of c.core g Output).latch) c 5 x d refl
-    (λ ok. given-latch c.core g x d)
+output_latch_stays c g x d =
+    step_either (λ c'. (channel_of c'.core g Output).latch ≡ (channel_of c.core g Output).latch) c 5 x d refl
+    (λ ok. given_latch c.core g x d)

@@ -18,25 +18,25 @@ use Rattle.chip.specs.Status.{flag_at}
 use Rattle.chip.specs.Levels.{fallen, line_falls}
 use Rattle.chip.specs.Step.{limits}
 use Rattle.laws.specs.Seen.{pin, lowers}
-use Rattle.laws.proofs.ChannelPins.{flag-pin, line-pin}
+use Rattle.laws.proofs.ChannelPins.{flag_pin_lem, line_pin_lem}
 
 -- The flag of a chip whose mode word is that of another, which strobes the channel.
-pub flag-under : (c c' : Chip) (g : Group) (s : Side) → strobed c.core.word g s ≡ true
+pub flag_under : (c c' : Chip) (g : Group) (s : Side) → strobed c.core.word g s ≡ true
     → c'.core.word ≡ c.core.word → pin c' (flag_pin g s) ≡ flag_at c'.core g s
-flag-under c c' g s on same =
-    flag-pin c' g s (subst (λ (w : ℕ). strobed w g s ≡ true) (sym same) on)
+flag_under c c' g s on same =
+    flag_pin_lem c' g s (subst (λ (w : ℕ). strobed w g s ≡ true) (sym same) on)
 
 -- A line that falls, as the pins show it.
-pub line-falls : (c : Chip) (g : Group) (s : Side) (d : ℕ) → strobed c.core.word g s ≡ true
+pub line_falls_lem : (c : Chip) (g : Group) (s : Side) (d : ℕ) → strobed c.core.word g s ≡ true
     → pin c (line_pin g s) ≡ true → bit_of d (line_pin g s) ≡ false → line_falls c.core d g s ≡ true
 unfolding fallen
-line-falls c g s d on high low = rw (on, sym (line-pin c g s on) ∙ high, low)
+line_falls_lem c g s d on high low = rw (on, sym (line_pin_lem c g s on) ∙ high, low)
 
-pub seen-falls : (c : Chip) (g : Group) (s : Side) (x d : ℕ) → strobed c.core.word g s ≡ true
+pub seen_falls : (c : Chip) (g : Group) (s : Side) (x d : ℕ) → strobed c.core.word g s ≡ true
     → (eqb x 2 && line_falls c.core d g s) ≡ lowers c g s x d
 unfolding fallen
-seen-falls c g s x d on = rw (on, line-pin c g s on)
+seen_falls c g s x d on = rw (on, line_pin_lem c g s on)
 
-pub levels-accepted : (ed : Edition) (ph : Phase) → number_of (limits ed) ph 5 2 ≡ 0
+pub levels_accepted : (ed : Edition) (ph : Phase) → number_of (limits ed) ph 5 2 ≡ 0
 unfolding number_of is_kind
-levels-accepted ed ph = refl
+levels_accepted ed ph = refl

@@ -15,39 +15,39 @@ use Rattle.chip.specs.declared.channel.Fill.TheVariants.{Empty, Waiting, Fetchin
 use Rattle.chip.specs.declared.channel.Channel.{Channel}
 use Rattle.chip.specs.Channel.{flag_of, has_room}
 use Rattle.chip.specs.Moves.{after_plant, after_strike, after_force}
-use Rattle.chip.proofs.ConditionsLeft.{forced_to, force-leaves, force-keeps}
+use Rattle.chip.proofs.ConditionsLeft.{forced_to, force_leaves, force_keeps}
 use Rattle.chip.specs.declared.Chip.{Chip}
 use Rattle.chip.specs.State.{channel_of}
 use Rattle.chip.specs.Handshakes.{strobed, flag_pin}
 use Rattle.chip.specs.ControlWord.{after_control_word}
-use Rattle.chip.proofs.SettingsAfter.{bit-put}
+use Rattle.chip.proofs.SettingsAfter.{bit_put}
 use Rattle.chip.specs.Write.{after_write_ends}
 use Rattle.chip.specs.Step.{step_of}
-use Rattle.chip.proofs.Ends.{write-ends}
+use Rattle.chip.proofs.Ends.{write_ends}
 use Rattle.laws.specs.Forcing.{forced_level, counted_by_flag, Forced}
-use Rattle.laws.proofs.ChannelPins.{flag-pin}
-use Rattle.laws.proofs.FlagAfter.{flag-under}
+use Rattle.laws.proofs.ChannelPins.{flag_pin_lem}
+use Rattle.laws.proofs.FlagAfter.{flag_under}
 
 -- The flag of a channel that was forced, by the condition that it had.
-pub forced-flag : (s : Side) (v : Bool) (f : Fill) → flag_of s (forced_to s v f) ≡ forced_level s v f
+pub forced_flag : (s : Side) (v : Bool) (f : Fill) → flag_of s (forced_to s v f) ≡ forced_level s v f
 unfolding flag_of
-forced-flag Input true Empty = refl
-forced-flag Input true Waiting = refl
-forced-flag Input true Fetching = refl
-forced-flag Input false Empty = refl
-forced-flag Input false Waiting = refl
-forced-flag Input false Fetching = refl
-forced-flag Output true Empty = refl
-forced-flag Output true Waiting = refl
-forced-flag Output true Fetching = refl
-forced-flag Output false Empty = refl
-forced-flag Output false Waiting = refl
-forced-flag Output false Fetching = refl
+forced_flag Input true Empty = refl
+forced_flag Input true Waiting = refl
+forced_flag Input true Fetching = refl
+forced_flag Input false Empty = refl
+forced_flag Input false Waiting = refl
+forced_flag Input false Fetching = refl
+forced_flag Output true Empty = refl
+forced_flag Output true Waiting = refl
+forced_flag Output true Fetching = refl
+forced_flag Output false Empty = refl
+forced_flag Output false Waiting = refl
+forced_flag Output false Fetching = refl
 
 -- What it counts.
-forced-counts : (s : Side) (v : Bool) (ch : Channel) → (after_force s v ch).tally ≡ counted_by_flag s (flag_of s ch.fill) (flag_of s (after_force s v ch).fill) ch.tally
+forced_counts : (s : Side) (v : Bool) (ch : Channel) → (after_force s v ch).tally ≡ counted_by_flag s (flag_of s ch.fill) (flag_of s (after_force s v ch).fill) ch.tally
 unfolding after_force after_plant after_strike has_room flag_of
-forced-counts s v ch = go s v ch.fill refl
+forced_counts s v ch = go s v ch.fill refl
   where
     Counts : Side → Bool → Type 0
     Counts s v = (after_force s v ch).tally ≡ counted_by_flag s (flag_of s ch.fill) (flag_of s (after_force s v ch).fill) ch.tally
@@ -75,11 +75,11 @@ module _ (c : Chip) (g : Group) (s : Side) (on : strobed c.core.word g s ≡ tru
       → Forced c (step_of c 2 x d).chip g s (bit_of b 0)
   unfolding after_write_ends
   forced b x d phase seven named =
-      let k = bit-put c.core b seven in
+      let k = bit_put c.core b seven in
       let here : channel_of (after_control_word c.core b) g s ≡ after_force s (bit_of b 0) channel = k.channel g s ∙ rw (on, named) in
-      let shown = flag-under c _ g s on k.surroundings.word ∙ ap (λ (ch : Channel). flag_of s ch.fill) here in
-      rw (write-ends c 3 b x d phase) (record {
-        shows = shown ∙ ap (flag_of s) (force-leaves s (bit_of b 0) channel) ∙ forced-flag s (bit_of b 0) channel.fill;
-        counts = rw (shown, flag-pin c g s on) (ap (λ (ch : Channel). ch.tally) here ∙ forced-counts s (bit_of b 0) channel);
-        latch = ap (λ (ch : Channel). ch.latch) here ∙ force-keeps s (bit_of b 0) channel;
+      let shown = flag_under c _ g s on k.surroundings.word ∙ ap (λ (ch : Channel). flag_of s ch.fill) here in
+      rw (write_ends c 3 b x d phase) (record {
+        shows = shown ∙ ap (flag_of s) (force_leaves s (bit_of b 0) channel) ∙ forced_flag s (bit_of b 0) channel.fill;
+        counts = rw (shown, flag_pin_lem c g s on) (ap (λ (ch : Channel). ch.tally) here ∙ forced_counts s (bit_of b 0) channel);
+        latch = ap (λ (ch : Channel). ch.latch) here ∙ force_keeps s (bit_of b 0) channel;
       })

@@ -19,17 +19,17 @@ use Rattle.chip.specs.declared.Edition.{Edition}
 use Rattle.chip.specs.declared.Chip.{Chip}
 use Rattle.chip.specs.State.{channel_of}
 use Rattle.chip.specs.Handshakes.{own_address, running}
-use Rattle.chip.proofs.Surrounded.{Surrounded, latch-spares, spared-channel, spared-surrounded}
+use Rattle.chip.proofs.Surrounded.{Surrounded, latch_spares, spared_channel, spared_surrounded}
 use Rattle.chip.specs.Status.{request_of, intr_of}
-use Rattle.chip.proofs.ReadsAfter.{begun-surrounded, begun-enables, ended-surrounded, ended-enables}
+use Rattle.chip.proofs.ReadsAfter.{begun_surrounded, begun_enables, ended_surrounded, ended_enables}
 use Rattle.chip.specs.Step.{Stepped, limits, device, step_of}
-use Rattle.chip.proofs.Outcome.{step-accepts, step-number, step-either}
+use Rattle.chip.proofs.Outcome.{step_accepts, step_number, step_either}
 use Rattle.laws.specs.Seen.{commands}
 use Rattle.laws.specs.Halves.{spares, HalfAfter, IntrAfter}
-use Rattle.laws.proofs.Cycles.{row-refuses}
+use Rattle.laws.proofs.Cycles.{row_refuses}
 use Rattle.laws.proofs.ByEvent.{by_end}
-use Rattle.laws.proofs.FillAfter.{begun, after-begin, after_read, after_store}
-use Rattle.laws.proofs.Interrupts.{cycle-drops-half, none_runs}
+use Rattle.laws.proofs.FillAfter.{begun, after_begin_lem, after_read, after_store}
+use Rattle.laws.proofs.Interrupts.{cycle_drops_half, none_runs}
 
 -- A half is the same where all that it is told by is the same.
 same_half : (c c' : Chip) (g : Group) (s : Side) → Surrounded c'.core c.core → c'.core.inte ≡ c.core.inte
@@ -38,23 +38,23 @@ same_half : (c c' : Chip) (g : Group) (s : Side) → Surrounded c'.core c.core �
 unfolding request_of
 same_half c c' g s surroundings enables fill runs = rw (fill, surroundings.word, enables, surroundings.lines, runs)
 
-begun-same : (f : Fill) (g : Group) (s : Side) (x : ℕ) → running (Reading x) g s ≡ false → own_address x g ≡ true → begun s f ≡ f
-begun-same f g Input x other own = absurd (contrary (own_address x g) other own)
-begun-same f g Output x other own = refl
+begun_same : (f : Fill) (g : Group) (s : Side) (x : ℕ) → running (Reading x) g s ≡ false → own_address x g ≡ true → begun s f ≡ f
+begun_same f g Input x other own = absurd (contrary (own_address x g) other own)
+begun_same f g Output x other own = refl
 
 -- What a cycle does not spare is its own.
-own-or-spared : (ph : Phase) (g : Group) (s : Side) → spares ph g s ≡ not (running ph g s)
-own-or-spared Idle g Input = refl
-own-or-spared Idle g Output = refl
-own-or-spared (Reading p) g Input = refl
-own-or-spared (Reading p) g Output = refl
-own-or-spared (Writing a d) g Input = refl
-own-or-spared (Writing a d) g Output = refl
+own_or_spared : (ph : Phase) (g : Group) (s : Side) → spares ph g s ≡ not (running ph g s)
+own_or_spared Idle g Input = refl
+own_or_spared Idle g Output = refl
+own_or_spared (Reading p) g Input = refl
+own_or_spared (Reading p) g Output = refl
+own_or_spared (Writing a d) g Input = refl
+own_or_spared (Writing a d) g Output = refl
 
-begins-idle : (ed : Edition) (ph : Phase) (k x : ℕ) → begins k ≡ true → number_of (limits ed) ph k x ≡ 0 → ph ≡ Idle
-begins-idle ed Idle k x b ok = refl
-begins-idle ed (Reading p) k x b ok = absurd (row-refuses ed (Reading p) k x 3 (rw (b)) ok)
-begins-idle ed (Writing a d) k x b ok = absurd (row-refuses ed (Writing a d) k x 3 (rw (b)) ok)
+begins_idle : (ed : Edition) (ph : Phase) (k x : ℕ) → begins k ≡ true → number_of (limits ed) ph k x ≡ 0 → ph ≡ Idle
+begins_idle ed Idle k x b ok = refl
+begins_idle ed (Reading p) k x b ok = absurd (row_refuses ed (Reading p) k x 3 (rw (b)) ok)
+begins_idle ed (Writing a d) k x b ok = absurd (row_refuses ed (Writing a d) k x 3 (rw (b)) ok)
 
 -- A cycle that is not a half's own leaves it.
 module _ (c : Chip) (g : Group) (s : Side) where
@@ -64,19 +64,19 @@ module _ (c : Chip) (g : Group) (s : Side) where
   abbrev SameFill : Fill → Type 0
   SameFill f = f ≡ (channel_of c.core g s).fill
 
-  idle-runs : (k x : ℕ) → begins k ≡ true → number_of (limits c.edition) c.phase k x ≡ 0 → running c.phase g s ≡ false
-  idle-runs k x b ok = rw (begins-idle c.edition c.phase k x b ok) (none_runs g s)
+  idle_runs : (k x : ℕ) → begins k ≡ true → number_of (limits c.edition) c.phase k x ≡ 0 → running c.phase g s ≡ false
+  idle_runs k x b ok = rw (begins_idle c.edition c.phase k x b ok) (none_runs g s)
 
-  read-leaves : (x d : ℕ) → running (Reading x) g s ≡ false → Same (step_of c 1 x d).chip
-  read-leaves x d none =
-      step-either Same c 1 x d refl
-      (λ ok. same_half c _ g s (begun-surrounded c.core x) (begun-enables c.core x)
-      (after-begin SameFill c.core g s x refl (begun-same (channel_of c.core g s).fill g s x none)) (none ∙ sym (idle-runs 1 x refl ok)))
+  read_leaves : (x d : ℕ) → running (Reading x) g s ≡ false → Same (step_of c 1 x d).chip
+  read_leaves x d none =
+      step_either Same c 1 x d refl
+      (λ ok. same_half c _ g s (begun_surrounded c.core x) (begun_enables c.core x)
+      (after_begin_lem SameFill c.core g s x refl (begun_same (channel_of c.core g s).fill g s x none)) (none ∙ sym (idle_runs 1 x refl ok)))
 
-  write-leaves : (x d : ℕ) → running (Writing x d) g s ≡ false → Same (step_of c 3 x d).chip
-  write-leaves x d none =
-      step-either Same c 3 x d refl
-      (λ ok. same_half c _ g s (record { word = refl; ports = λ g. refl; lines = refl }) refl refl (none ∙ sym (idle-runs 3 x refl ok)))
+  write_leaves : (x d : ℕ) → running (Writing x d) g s ≡ false → Same (step_of c 3 x d).chip
+  write_leaves x d none =
+      step_either Same c 3 x d refl
+      (λ ok. same_half c _ g s (record { word = refl; ports = λ g. refl; lines = refl }) refl refl (none ∙ sym (idle_runs 3 x refl ok)))
 
   elsewhere : {X : Type 0} → running c.phase g s ≡ false → (ph : Phase) → c.phase ≡ ph → running ph g s ≡ true → X
   elsewhere none ph phase own = absurd (contrary _ none (ap (λ ph. running ph g s) phase ∙ own))
@@ -85,40 +85,40 @@ module _ (c : Chip) (g : Group) (s : Side) where
   end_leaves x d none other =
       let idle = none_runs g s ∙ sym none in
       by_end Same c x d refl (record {
-        read = λ p phase. same_half c _ g s (ended-surrounded c.core p) (ended-enables c.core p)
+        read = λ p phase. same_half c _ g s (ended_surrounded c.core p) (ended_enables c.core p)
             (after_read SameFill c.core g s p refl (elsewhere none (Reading p) phase)) idle;
         mode_word = λ w phase seven. absurd (contrary (commands c.phase) other (ap commands phase));
         bit_word = λ w phase seven. absurd (contrary (commands c.phase) other (ap commands phase));
-        lines = λ b phase. let k = latch-spares c.core _ in
-            same_half c _ g s (spared-surrounded k) refl (ap (λ ch. ch.fill) (spared-channel k g s)) idle;
+        lines = λ b phase. let k = latch_spares c.core _ in
+            same_half c _ g s (spared_surrounded k) refl (ap (λ ch. ch.fill) (spared_channel k g s)) idle;
         port = λ a b phase c' k. same_half c _ g s k.surroundings k.enables
             (after_store SameFill c.core g s a b c' k refl (elsewhere none (Writing a b) phase)) idle;
       })
 
   -- One that is its own drops it as it begins.
-  begun-half : (k x d : ℕ) (ph : Phase) → (step_of c k x d).chip.phase ≡ ph → (running ph g s ≡ false → Same (step_of c k x d).chip)
+  begun_half : (k x d : ℕ) (ph : Phase) → (step_of c k x d).chip.phase ≡ ph → (running ph g s ≡ false → Same (step_of c k x d).chip)
       → request_of (step_of c k x d).chip g s ≡ (spares ph g s && request_of c g s)
-  begun-half k x d ph phase leaves = rw (own-or-spared ph g s) (go (running ph g s) refl)
+  begun_half k x d ph phase leaves = rw (own_or_spared ph g s) (go (running ph g s) refl)
     where
       go : (own : Bool) → running ph g s ≡ own → request_of (step_of c k x d).chip g s ≡ (not own && request_of c g s)
-      go true own = cycle-drops-half (step_of c k x d).chip g s (ap (λ ph. running ph g s) phase ∙ own)
+      go true own = cycle_drops_half (step_of c k x d).chip g s (ap (λ ph. running ph g s) phase ∙ own)
       go false none = leaves none
 
-pub half-after : (c : Chip) (g : Group) (s : Side) (x d : ℕ) → HalfAfter c g s x d
-half-after c g s x d = record {
-  read_begins = λ ok. begun-half c g s 1 x d (Reading x) (accepted-phase 1 ok) (read-leaves c g s x d);
-  write_begins = λ ok. begun-half c g s 3 x d (Writing x d) (accepted-phase 3 ok) (write-leaves c g s x d);
-  cycle_ends = λ spared. end_leaves c g s x d (not-true (running c.phase g s) (sym (own-or-spared c.phase g s) ∙ spared));
+pub half_after : (c : Chip) (g : Group) (s : Side) (x d : ℕ) → HalfAfter c g s x d
+half_after c g s x d = record {
+  read_begins = λ ok. begun_half c g s 1 x d (Reading x) (accepted_phase 1 ok) (read_leaves c g s x d);
+  write_begins = λ ok. begun_half c g s 3 x d (Writing x d) (accepted_phase 3 ok) (write_leaves c g s x d);
+  cycle_ends = λ spared. end_leaves c g s x d (not-true (running c.phase g s) (sym (own_or_spared c.phase g s) ∙ spared));
 }
   where
-    accepted-phase : (k : ℕ) → (step_of c k x d).number ≡ 0 → (step_of c k x d).chip.phase ≡ (after_in device c k x d).phase
-    accepted-phase k ok = ap (λ (r : Stepped). r.chip.phase) (step-accepts c k x d (sym (step-number c k x d) ∙ ok))
+    accepted_phase : (k : ℕ) → (step_of c k x d).number ≡ 0 → (step_of c k x d).chip.phase ≡ (after_in device c k x d).phase
+    accepted_phase k ok = ap (λ (r : Stepped). r.chip.phase) (step_accepts c k x d (sym (step_number c k x d) ∙ ok))
 
-pub intr-after : (c : Chip) (g : Group) (x d : ℕ) → IntrAfter c g x d
+pub intr_after : (c : Chip) (g : Group) (x d : ℕ) → IntrAfter c g x d
 unfolding intr_of
-intr-after c g x d = record {
-  read_begins = λ other. ap₂ (λ (i o : Bool). i || o) (read-leaves c g Input x d other) (read-leaves c g Output x d refl);
-  write_begins = λ other. ap₂ (λ (i o : Bool). i || o) (write-leaves c g Input x d refl) (write-leaves c g Output x d other);
+intr_after c g x d = record {
+  read_begins = λ other. ap₂ (λ (i o : Bool). i || o) (read_leaves c g Input x d other) (read_leaves c g Output x d refl);
+  write_begins = λ other. ap₂ (λ (i o : Bool). i || o) (write_leaves c g Input x d refl) (write_leaves c g Output x d other);
   cycle_ends = λ spared other.
-      ap₂ (λ (i o : Bool). i || o) ((half-after c g Input x d).cycle_ends (spared Input) other) ((half-after c g Output x d).cycle_ends (spared Output) other);
+      ap₂ (λ (i o : Bool). i || o) ((half_after c g Input x d).cycle_ends (spared Input) other) ((half_after c g Output x d).cycle_ends (spared Output) other);
 }

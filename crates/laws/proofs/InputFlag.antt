@@ -14,33 +14,33 @@ use Rattle.chip.specs.declared.channel.Side.TheVariants.{Input}
 use Rattle.chip.specs.declared.channel.Fill.{Fill}
 use Rattle.chip.specs.declared.channel.Fill.TheVariants.{Empty, Waiting, Fetching}
 use Rattle.chip.specs.Channel.{flag_of}
-use Rattle.chip.proofs.ConditionsLeft.{leaves, forced_to, offer-waits, end-read-empties}
+use Rattle.chip.proofs.ConditionsLeft.{leaves, forced_to, offer_waits, end_read_empties}
 use Rattle.chip.specs.declared.Core.{Core}
 use Rattle.chip.specs.declared.Chip.{Chip}
 use Rattle.chip.specs.State.{port_of, channel_of}
 use Rattle.chip.specs.Handshakes.{strobed, line_pin, own_address, reading, flag_pin}
 use Rattle.chip.specs.Status.{flag_at}
 use Rattle.chip.specs.Read.{after_read_ends}
-use Rattle.chip.proofs.ReadsAfter.{begun-surrounded, ended-input, ended-surrounded}
+use Rattle.chip.proofs.ReadsAfter.{begun_surrounded, ended_input, ended_surrounded}
 use Rattle.chip.specs.Levels.{line_falls, after_levels}
-use Rattle.chip.proofs.LevelsAfter.{levels-input, levels-word}
+use Rattle.chip.proofs.LevelsAfter.{levels_input, levels_word}
 use Rattle.chip.specs.Step.{step_of}
-use Rattle.chip.proofs.Ends.{read-ends}
-use Rattle.chip.proofs.Outcome.{step-accepts, step-either}
+use Rattle.chip.proofs.Ends.{read_ends_lem}
+use Rattle.chip.proofs.Outcome.{step_accepts, step_either}
 use Rattle.laws.specs.Seen.{pin, makes_anew, puts}
 use Rattle.laws.specs.Flags.{moves_ibf}
-use Rattle.laws.proofs.ChannelPins.{flag-pin}
-use Rattle.laws.proofs.FillAfter.{fill-by-event}
-use Rattle.laws.proofs.Forcing.{forced-flag}
-use Rattle.laws.proofs.FlagAfter.{flag-under, line-falls, seen-falls, levels-accepted}
+use Rattle.laws.proofs.ChannelPins.{flag_pin_lem}
+use Rattle.laws.proofs.FillAfter.{fill_by_event}
+use Rattle.laws.proofs.Forcing.{forced_flag}
+use Rattle.laws.proofs.FlagAfter.{flag_under, line_falls_lem, seen_falls, levels_accepted}
 
-strobe-sets : (c : Core) (d : ℕ) (g : Group) → line_falls c d g Input ≡ true → flag_at (after_levels c 2 d) g Input ≡ true
+strobe_sets : (c : Core) (d : ℕ) (g : Group) → line_falls c d g Input ≡ true → flag_at (after_levels c 2 d) g Input ≡ true
 unfolding flag_of
-strobe-sets c d g fell = rw (levels-input c 2 d g, fell, offer-waits (channel_of c g Input) (port_of c g).outside)
+strobe_sets c d g fell = rw (levels_input c 2 d g, fell, offer_waits (channel_of c g Input) (port_of c g).outside)
 
-done-resets : (c : Core) (x : ℕ) (g : Group) → strobed_input c.word g ≡ true → own_address x g ≡ true → flag_at (after_read_ends c x) g Input ≡ false
+done_resets : (c : Core) (x : ℕ) (g : Group) → strobed_input c.word g ≡ true → own_address x g ≡ true → flag_at (after_read_ends c x) g Input ≡ false
 unfolding flag_of
-done-resets c x g on own = rw (ended-input c x g, on, own, end-read-empties (channel_of c g Input))
+done_resets c x g on own = rw (ended_input c x g, on, own, end_read_empties (channel_of c g Input))
 
 -- A read that begins leaves IBF as it was: a byte that waited is fetched from now on.
 fetching : (f : Fill) → flag_of Input (leaves f Fetching) ≡ flag_of Input f
@@ -50,64 +50,64 @@ fetching Waiting = refl
 fetching Fetching = refl
 
 -- IBF forced high is high, and so it is where it was high and is not forced low; low it stays where it is not forced high.
-forced-high : (f : Fill) (v : Bool) → (v ≡ false → ⊥) → flag_of Input (forced_to Input v f) ≡ true
-forced-high f true none = forced-flag Input true f
-forced-high f false none = absurd (none refl)
+forced_high : (f : Fill) (v : Bool) → (v ≡ false → ⊥) → flag_of Input (forced_to Input v f) ≡ true
+forced_high f true none = forced_flag Input true f
+forced_high f false none = absurd (none refl)
 
-forced-low : (f : Fill) (v : Bool) → flag_of Input f ≡ false → (v ≡ true → ⊥) → flag_of Input (forced_to Input v f) ≡ false
+forced_low : (f : Fill) (v : Bool) → flag_of Input f ≡ false → (v ≡ true → ⊥) → flag_of Input (forced_to Input v f) ≡ false
 unfolding flag_of
-forced-low f true low none = absurd (none refl)
-forced-low Empty false low none = refl
-forced-low Waiting false low none = refl
-forced-low Fetching false low none = low
+forced_low f true low none = absurd (none refl)
+forced_low Empty false low none = refl
+forced_low Waiting false low none = refl
+forced_low Fetching false low none = low
 
 module _ (c : Chip) (g : Group) (on : strobed c.core.word g Input ≡ true) where
   -- The fall of STB sets IBF.
-  pub strobe-sets-ibf : (d : ℕ) → pin c (line_pin g Input) ≡ true → bit_of d (line_pin g Input) ≡ false → pin (step_of c 5 2 d).chip (flag_pin g Input) ≡ true
-  strobe-sets-ibf d high low =
-      rw (step-accepts c 5 2 d (levels-accepted c.edition c.phase))
-      (flag-under c _ g Input on (levels-word c.core 2 d) ∙ strobe-sets c.core d g (line-falls c g Input d on high low))
+  pub strobe_sets_ibf : (d : ℕ) → pin c (line_pin g Input) ≡ true → bit_of d (line_pin g Input) ≡ false → pin (step_of c 5 2 d).chip (flag_pin g Input) ≡ true
+  strobe_sets_ibf d high low =
+      rw (step_accepts c 5 2 d (levels_accepted c.edition c.phase))
+      (flag_under c _ g Input on (levels_word c.core 2 d) ∙ strobe_sets c.core d g (line_falls_lem c g Input d on high low))
 
   -- The end of the read resets IBF.
-  pub end-resets-ibf : (p x d : ℕ) → c.phase ≡ Reading p → own_address p g ≡ true → pin (step_of c 2 x d).chip (flag_pin g Input) ≡ false
-  end-resets-ibf p x d phase own =
-      rw (read-ends c p x d phase) (flag-under c _ g Input on (ended-surrounded c.core p).word ∙ done-resets c.core p g on own)
+  pub end_resets_ibf : (p x d : ℕ) → c.phase ≡ Reading p → own_address p g ≡ true → pin (step_of c 2 x d).chip (flag_pin g Input) ≡ false
+  end_resets_ibf p x d phase own =
+      rw (read_ends_lem c p x d phase) (flag_under c _ g Input on (ended_surrounded c.core p).word ∙ done_resets c.core p g on own)
 
   -- As long as the word strobes the channel, IBF stays as it is through every event but those that are named to move it.
-  pub ibf-held : (v : Bool) → pin c (flag_pin g Input) ≡ v → (k x d : ℕ) → moves_ibf c g v k x d ≡ false
+  pub ibf_held : (v : Bool) → pin c (flag_pin g Input) ≡ v → (k x d : ℕ) → moves_ibf c g v k x d ≡ false
       → strobed (step_of c k x d).chip.core.word g Input ≡ true → pin (step_of c k x d).chip (flag_pin g Input) ≡ v
   unfolding flag_of
-  ibf-held true set k x d none still =
+  ibf_held true set k x d none still =
       let unmoved = contrary (moves_ibf c g true k x d) none in
-      let here = sym (flag-pin c g Input on) ∙ set in
-      flag-pin _ g Input still ∙ fill-by-event (λ f. flag_of Input f ≡ true) c g Input k x d (record {
+      let here = sym (flag_pin_lem c g Input on) ∙ set in
+      flag_pin_lem _ g Input still ∙ fill_by_event (λ f. flag_of Input f ≡ true) c g Input k x d (record {
         stays = here;
         reset = λ zero. absurd (unmoved (rw (zero)));
         renewal = λ two anew. absurd (unmoved (rw (two, anew)));
         begins = λ one own. fetching (channel_of c.core g Input).fill ∙ here;
         ends = λ two runs. absurd (unmoved (rw (two, runs) (or-true (makes_anew c.phase))));
-        forced = λ two v said. forced-high (channel_of c.core g Input).fill v (λ low.
+        forced = λ two v said. forced_high (channel_of c.core g Input).fill v (λ low.
             let reset = subst (λ (v : Bool). puts c.phase (flag_pin g Input) v ≡ true) low said in
             unmoved (rw (two, reset, or-true (reading c.phase g)) (or-true (makes_anew c.phase))));
         falls = λ five fell. refl;
       })
-  ibf-held false low k x d none still =
+  ibf_held false low k x d none still =
       let unmoved = contrary (moves_ibf c g false k x d) none in
-      let here = sym (flag-pin c g Input on) ∙ low in
-      flag-pin _ g Input still ∙ fill-by-event (λ f. flag_of Input f ≡ false) c g Input k x d (record {
+      let here = sym (flag_pin_lem c g Input on) ∙ low in
+      flag_pin_lem _ g Input still ∙ fill_by_event (λ f. flag_of Input f ≡ false) c g Input k x d (record {
         stays = here;
         reset = λ zero. refl;
         renewal = λ two anew. refl;
         begins = λ one own. fetching (channel_of c.core g Input).fill ∙ here;
         ends = λ two runs. refl;
-        forced = λ two v said. forced-low (channel_of c.core g Input).fill v here (λ high.
+        forced = λ two v said. forced_low (channel_of c.core g Input).fill v here (λ high.
             let set = subst (λ (v : Bool). puts c.phase (flag_pin g Input) v ≡ true) high said in
             unmoved (rw (two, set)));
-        falls = λ five fell. absurd (unmoved (rw (five, ← seen-falls c g Input x d on, fell)));
+        falls = λ five fell. absurd (unmoved (rw (five, ← seen_falls c g Input x d on, fell)));
       })
 
   -- The beginning of a read, of this port or any other, leaves IBF set.
-  pub begin-keeps-ibf : (x d : ℕ) → pin c (flag_pin g Input) ≡ true → pin (step_of c 1 x d).chip (flag_pin g Input) ≡ true
-  begin-keeps-ibf x d set =
-      ibf-held true set 1 x d refl
-      (step-either (λ c. strobed c.core.word g Input ≡ true) c 1 x d on (λ ok. rw (begun-surrounded c.core x).word (on)))
+  pub begin_keeps_ibf : (x d : ℕ) → pin c (flag_pin g Input) ≡ true → pin (step_of c 1 x d).chip (flag_pin g Input) ≡ true
+  begin_keeps_ibf x d set =
+      ibf_held true set 1 x d refl
+      (step_either (λ c. strobed c.core.word g Input ≡ true) c 1 x d on (λ ok. rw (begun_surrounded c.core x).word (on)))

@@ -1,5 +1,5 @@
 -- The five errors seen in other models, each forbidden in every state. IBF lowered as the read begins: begin-keeps-ibf in InputFlag.
--- A mode word equal to the last one taken for no change: same-word-renews in ModeWords. The other three are here.
+-- A mode word equal to the last one taken for no change: same_word_renews in ModeWords. The other three are here.
 -- Rests on ChannelPins, PortC, Halves, and chip's Ends.
 use mathlib.Core.Path.{◌≡◌, ◌∙◌, refl, sym}
 use mathlib.Core.Bool.{true, false, not, ◌||◌, and-false}
@@ -21,60 +21,60 @@ use Rattle.chip.specs.Status.{flag_at, request_of, intr_of}
 use Rattle.chip.specs.Write.{latch_written, after_write_ends}
 use Rattle.chip.specs.Pins.{level_as}
 use Rattle.chip.specs.Step.{on_bus, step_of}
-use Rattle.chip.proofs.Ends.{write-ends}
+use Rattle.chip.proofs.Ends.{write_ends}
 use Rattle.laws.specs.Seen.{pin, told}
 use Rattle.laws.specs.PlainBits.{handshake, free_output}
-use Rattle.laws.proofs.ChannelPins.{told-enable, pin-by-role}
-use Rattle.laws.proofs.PortC.{bits-written}
-use Rattle.laws.proofs.Halves.{intr-after}
+use Rattle.laws.proofs.ChannelPins.{told_enable, pin_by_role}
+use Rattle.laws.proofs.PortC.{bits_written}
+use Rattle.laws.proofs.Halves.{intr_after}
 
 -- A port C read tells the enable, whatever level STB or ACK has.
-pub read-tells-enable : (c : Chip) (g : Group) (s : Side) → strobed c.core.word g s ≡ true
+pub read_tells_enable : (c : Chip) (g : Group) (s : Side) → strobed c.core.word g s ≡ true
     → told c (line_pin g s) ≡ enable_of c.core.inte g s
-read-tells-enable c g s on = told-enable c g s on
+read_tells_enable c g s on = told_enable c g s on
 
 -- A port C write beside a handshake of group A leaves bits 7 to 4 of the latch.
-upper-stays : (w x d n : ℕ) → handshake w A ≡ true → 4 ≤ n → n < 8 → bit_of (latch_written w x d) n ≡ bit_of x n
-upper-stays w x d n beside above below =
+upper_stays : (w x d n : ℕ) → handshake w A ≡ true → 4 ≤ n → n < 8 → bit_of (latch_written w x d) n ≡ bit_of x n
+upper_stays w x d n beside above below =
     let none : (ltb n 4 || not (handshake w A)) ≡ false = rw (le-ltb _ _ above, beside) in
-    bits-written w x d n below ∙ rw (none, and-false (free_output w n))
+    bits_written w x d n below ∙ rw (none, and-false (free_output w n))
 
-pub write-leaves-upper : (c : Chip) (b x d n : ℕ) → c.phase ≡ Writing 2 b → handshake c.core.word A ≡ true → 4 ≤ n → n < 8
+pub write_leaves_upper : (c : Chip) (b x d n : ℕ) → c.phase ≡ Writing 2 b → handshake c.core.word A ≡ true → 4 ≤ n → n < 8
     → bit_of (step_of c 2 x d).chip.core.c.latch n ≡ bit_of c.core.c.latch n
 unfolding after_write_ends
-write-leaves-upper c b x d n phase beside above below =
-    rw (write-ends c 2 b x d phase) (upper-stays c.core.word c.core.c.latch b n beside above below)
+write_leaves_upper c b x d n phase beside above below =
+    rw (write_ends c 2 b x d phase) (upper_stays c.core.word c.core.c.latch b n beside above below)
 
 -- So do the pins that show them.
 flag_same : (c : Core) (x : ℕ) (g : Group) (s : Side) → flag_at (with_latch c x) g s ≡ flag_at c g s
 flag_same c x A s = refl
 flag_same c x B s = refl
 
-intr-same : (c : Chip) (b x : ℕ) (g : Group) → c.phase ≡ Writing 2 b → intr_of (on_bus Idle c.edition (with_latch c.core x)) g ≡ intr_of c g
+intr_same : (c : Chip) (b x : ℕ) (g : Group) → c.phase ≡ Writing 2 b → intr_of (on_bus Idle c.edition (with_latch c.core x)) g ≡ intr_of c g
 unfolding intr_of request_of
-intr-same c b x A phase = rw (phase)
-intr-same c b x B phase = rw (phase)
+intr_same c b x A phase = rw (phase)
+intr_same c b x B phase = rw (phase)
 
-level-same : (c : Chip) (b x n : ℕ) (r : Role) → c.phase ≡ Writing 2 b → bit_of x n ≡ bit_of c.core.c.latch n
+level_same : (c : Chip) (b x n : ℕ) (r : Role) → c.phase ≡ Writing 2 b → bit_of x n ≡ bit_of c.core.c.latch n
     → level_as (on_bus Idle c.edition (with_latch c.core x)) n r ≡ level_as c n r
-level-same c b x n input phase same = refl
-level-same c b x n output phase same = same
-level-same c b x n INTR phase same = intr-same c b x (group_at n) phase
-level-same c b x n IBF phase same = flag_same c.core x (group_at n) Input
-level-same c b x n OBF phase same = flag_same c.core x (group_at n) Output
-level-same c b x n STB phase same = refl
-level-same c b x n ACK phase same = refl
+level_same c b x n input phase same = refl
+level_same c b x n output phase same = same
+level_same c b x n INTR phase same = intr_same c b x (group_at n) phase
+level_same c b x n IBF phase same = flag_same c.core x (group_at n) Input
+level_same c b x n OBF phase same = flag_same c.core x (group_at n) Output
+level_same c b x n STB phase same = refl
+level_same c b x n ACK phase same = refl
 
-pub write-leaves-upper-pins : (c : Chip) (b x d n : ℕ) → c.phase ≡ Writing 2 b → handshake c.core.word A ≡ true → 4 ≤ n → n < 8
+pub write_leaves_upper_pins : (c : Chip) (b x d n : ℕ) → c.phase ≡ Writing 2 b → handshake c.core.word A ≡ true → 4 ≤ n → n < 8
     → pin (step_of c 2 x d).chip n ≡ pin c n
 unfolding after_write_ends
-write-leaves-upper-pins c b x d n phase beside above below =
+write_leaves_upper_pins c b x d n phase beside above below =
     let latch = latch_written c.core.word c.core.c.latch b in
-    rw (write-ends c 2 b x d phase)
-    (pin-by-role (on_bus Idle c.edition (with_latch c.core latch)) n below
-    ∙ level-same c b latch n (role_of c.core.word n) phase (upper-stays c.core.word c.core.c.latch b n beside above below)
-    ∙ sym (pin-by-role c n below))
+    rw (write_ends c 2 b x d phase)
+    (pin_by_role (on_bus Idle c.edition (with_latch c.core latch)) n below
+    ∙ level_same c b latch n (role_of c.core.word n) phase (upper_stays c.core.word c.core.c.latch b n beside above below)
+    ∙ sym (pin_by_role c n below))
 
 -- A read of another port leaves a group's INTR as it was: of reads, only the own port's drops it. What every cycle leaves is in Halves.
-pub read-elsewhere-keeps-intr : (c : Chip) (g : Group) (x d : ℕ) → own_address x g ≡ false → intr_of (step_of c 1 x d).chip g ≡ intr_of c g
-read-elsewhere-keeps-intr c g x d = (intr-after c g x d).read_begins
+pub read_elsewhere_keeps_intr : (c : Chip) (g : Group) (x d : ℕ) → own_address x g ≡ false → intr_of (step_of c 1 x d).chip g ≡ intr_of c g
+read_elsewhere_keeps_intr c g x d = (intr_after c g x d).read_begins

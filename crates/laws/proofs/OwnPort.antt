@@ -17,15 +17,15 @@ use Rattle.chip.specs.Reads.{read_port, read_of}
 use Rattle.chip.specs.Pins.{drives_port, pins_of_port, pins_of}
 use Rattle.chip.specs.Step.{limits}
 
-pub own-accepted : (ed : Edition) (ph : Phase) (a : ℕ) (g : Group) → own_address a g ≡ true → number_of (limits ed) ph 5 a ≡ 0
+pub own_accepted : (ed : Edition) (ph : Phase) (a : ℕ) (g : Group) → own_address a g ≡ true → number_of (limits ed) ph 5 a ≡ 0
 unfolding number_of is_kind
-own-accepted ed ph a A own = rw (eqb-true a 0 own)
-own-accepted ed ph a B own = rw (eqb-true a 1 own)
+own_accepted ed ph a A own = rw (eqb-true a 0 own)
+own_accepted ed ph a B own = rw (eqb-true a 1 own)
 
-pub own-pins : (c : Chip) (a : ℕ) (g : Group) → own_address a g ≡ true → pins_of c a ≡ pins_of_port (port_of c.core g) (drives_port c.core g)
+pub own_pins : (c : Chip) (a : ℕ) (g : Group) → own_address a g ≡ true → pins_of c a ≡ pins_of_port (port_of c.core g) (drives_port c.core g)
 unfolding pins_of
-own-pins c a A own = rw (eqb-true a 0 own)
-own-pins c a B own = rw (eqb-true a 1 own)
+own_pins c a A own = rw (eqb-true a 0 own)
+own_pins c a B own = rw (eqb-true a 1 own)
 
 pub own_read : (c : Chip) (a : ℕ) (g : Group) → own_address a g ≡ true → read_of c a ≡ read_port c.core.word g (port_of c.core g)
 unfolding read_of

@@ -6,7 +6,7 @@ use mathlib.Core.Bool.{Bool, true, false, cond, not, ◌&&◌, ◌||◌}
 use Prim.Native.Nat.{ℕ, ◌<◌}
 use Rattle.bits.specs.Bit.{bit_of}
 use Rattle.bits.proofs.Tested.{bits}
-use Rattle.bits.proofs.BitLaws.{bit-of-assembled}
+use Rattle.bits.proofs.BitLaws.{bit_of_assembled}
 use Rattle.bus.specs.declared.Phase.TheVariants.{Writing}
 use Rattle.control.specs.Role.{input, output, role_of}
 use Rattle.control.specs.Pins.{is_output, handshake_role}
@@ -14,25 +14,25 @@ use Rattle.chip.specs.declared.Chip.{Chip}
 use Rattle.chip.specs.Write.{writable, latch_written, after_write_ends}
 use Rattle.chip.specs.Pins.{is_driven, pins_of_lines, pins_of}
 use Rattle.chip.specs.Step.{step_of}
-use Rattle.chip.proofs.Ends.{write-ends}
+use Rattle.chip.proofs.Ends.{write_ends}
 use Rattle.laws.specs.Seen.{driven}
 use Rattle.laws.specs.PlainBits.{used, into_c, free_output, is_line_pin}
 use Rattle.laws.specs.PortC.{reached, LinesWritten, driven_by, LineShown}
-use Rattle.laws.proofs.PlainBits.{zero-by-bits, role-by-bits}
-use Rattle.laws.proofs.ChannelPins.{pin-by-role, told-by-role}
+use Rattle.laws.proofs.PlainBits.{zero_by_bits, role_by_bits}
+use Rattle.laws.proofs.ChannelPins.{pin_by_role, told_by_role}
 
 -- No role of a handshake is free output, and all but those on pins 2, 4 and 6 are driven.
 not_free : (taking : Bool) (n : ℕ) → n < 8 → is_output (handshake_role taking n) ≡ false
 not_free true = bits 8 (λ n. is_output (handshake_role true n)) (λ n. false) tt
 not_free false = bits 8 (λ n. is_output (handshake_role false n)) (λ n. false) tt
 
-but-lines : (taking : Bool) (n : ℕ) → n < 8 → is_driven (handshake_role taking n) ≡ not (is_line_pin n)
-but-lines true = bits 8 (λ n. is_driven (handshake_role true n)) (λ n. not (is_line_pin n)) tt
-but-lines false = bits 8 (λ n. is_driven (handshake_role false n)) (λ n. not (is_line_pin n)) tt
+but_lines : (taking : Bool) (n : ℕ) → n < 8 → is_driven (handshake_role taking n) ≡ not (is_line_pin n)
+but_lines true = bits 8 (λ n. is_driven (handshake_role true n)) (λ n. not (is_line_pin n)) tt
+but_lines false = bits 8 (λ n. is_driven (handshake_role false n)) (λ n. not (is_line_pin n)) tt
 
 module _ (w n : ℕ) (below : n < 8) where
-  free-by-bits : is_output (role_of w n) ≡ free_output w n
-  free-by-bits = ap is_output (role-by-bits w n below) ∙ go (used w n) (into_c w n)
+  free_by_bits : is_output (role_of w n) ≡ free_output w n
+  free_by_bits = ap is_output (role_by_bits w n below) ∙ go (used w n) (into_c w n)
     where
       go : (in_use inward : Bool)
           → is_output (cond in_use (handshake_role (bit_of w 1) n) (cond (not in_use && inward) input output)) ≡ (not in_use && not inward)
@@ -40,26 +40,26 @@ module _ (w n : ℕ) (below : n < 8) where
       go false true = refl
       go false false = refl
 
-  driven-by-bits : is_driven (role_of w n) ≡ driven_by w n
-  driven-by-bits = ap is_driven (role-by-bits w n below) ∙ go (used w n) (into_c w n)
+  driven_by_bits : is_driven (role_of w n) ≡ driven_by w n
+  driven_by_bits = ap is_driven (role_by_bits w n below) ∙ go (used w n) (into_c w n)
     where
       go : (in_use inward : Bool)
           → is_driven (cond in_use (handshake_role (bit_of w 1) n) (cond (not in_use && inward) input output))
           ≡ not ((not in_use && inward) || (in_use && is_line_pin n))
-      go true inward = but-lines (bit_of w 1) n below
+      go true inward = but_lines (bit_of w 1) n below
       go false true = refl
       go false false = refl
 
 -- The end of a write to port C.
-pub bits-written : (w x d n : ℕ) → n < 8 → bit_of (latch_written w x d) n ≡ cond (reached w n) (bit_of d n) (bit_of x n)
+pub bits_written : (w x d n : ℕ) → n < 8 → bit_of (latch_written w x d) n ≡ cond (reached w n) (bit_of d n) (bit_of x n)
 unfolding latch_written
-bits-written w x d n below =
-    bit-of-assembled (λ n. cond (writable w n) (bit_of d n) (bit_of x n)) n below ∙ rw (free-by-bits w n below, zero-by-bits w)
+bits_written w x d n below =
+    bit_of_assembled (λ n. cond (writable w n) (bit_of d n) (bit_of x n)) n below ∙ rw (free_by_bits w n below, zero_by_bits w)
 
-pub write-to-lines : (c : Chip) (b x d : ℕ) → c.phase ≡ Writing 2 b → LinesWritten c.core b (step_of c 2 x d).chip.core
+pub write_to_lines : (c : Chip) (b x d : ℕ) → c.phase ≡ Writing 2 b → LinesWritten c.core b (step_of c 2 x d).chip.core
 unfolding after_write_ends
-write-to-lines c b x d phase = rw (write-ends c 2 b x d phase) (record {
-  bits = bits-written c.core.word c.core.c.latch b;
+write_to_lines c b x d phase = rw (write_ends c 2 b x d phase) (record {
+  bits = bits_written c.core.word c.core.c.latch b;
   word = refl;
   a = refl;
   b = refl;
@@ -68,15 +68,15 @@ write-to-lines c b x d phase = rw (write-ends c 2 b x d phase) (record {
 })
 
 -- Which pins are driven, and what each shows.
-pub driven-by-role : (c : Chip) (n : ℕ) → n < 8 → driven c n ≡ is_driven (role_of c.core.word n)
+pub driven_by_role : (c : Chip) (n : ℕ) → n < 8 → driven c n ≡ is_driven (role_of c.core.word n)
 unfolding pins_of pins_of_lines
-driven-by-role c = bit-of-assembled (λ n. is_driven (role_of c.core.word n))
+driven_by_role c = bit_of_assembled (λ n. is_driven (role_of c.core.word n))
 
-pub line-driven : (c : Chip) (n : ℕ) → n < 8 → driven c n ≡ driven_by c.core.word n
-line-driven c n below = driven-by-role c n below ∙ driven-by-bits c.core.word n below
+pub line_driven : (c : Chip) (n : ℕ) → n < 8 → driven c n ≡ driven_by c.core.word n
+line_driven c n below = driven_by_role c n below ∙ driven_by_bits c.core.word n below
 
-pub line-shown : (c : Chip) (n : ℕ) → n < 8 → LineShown c n
-line-shown c n below = record {
-  inside = λ on. told-by-role c n below ∙ sym (pin-by-role c n below ∙ rw (sym (driven-by-role c n below) ∙ on));
-  outside = λ off. pin-by-role c n below ∙ rw (sym (driven-by-role c n below) ∙ off);
+pub line_shown : (c : Chip) (n : ℕ) → n < 8 → LineShown c n
+line_shown c n below = record {
+  inside = λ on. told_by_role c n below ∙ sym (pin_by_role c n below ∙ rw (sym (driven_by_role c n below) ∙ on));
+  outside = λ off. pin_by_role c n below ∙ rw (sym (driven_by_role c n below) ∙ off);
 }

@@ -29,45 +29,45 @@ use Rattle.chip.specs.Step.{accepted, step_of}
 use Rattle.laws.specs.Anew.{Anew}
 use Rattle.laws.specs.PowerUp.{AsNamed, Starts}
 use Rattle.laws.specs.Marked.{after}
-use Rattle.laws.proofs.ChannelPins.{pin-by-role, line-pin}
-use Rattle.laws.proofs.ModeWords.{mode-word-renews, reset-roles}
+use Rattle.laws.proofs.ChannelPins.{pin_by_role, line_pin_lem}
+use Rattle.laws.proofs.ModeWords.{mode_word_renews, reset_roles}
 
 -- Each port shows the levels that were named for it, and nothing is driven.
-pub power-up-shows : (ed : Edition) (l : Levels) → AsNamed l (power_up_as ed l)
+pub power_up_shows : (ed : Edition) (l : Levels) → AsNamed l (power_up_as ed l)
 unfolding pins_of pins_of_port pins_of_lines drives_port output_of mode_of input_of role_of uses_of free_role upper_input lower_input bit_of value_of
-power-up-shows ed l = record {
+power_up_shows ed l = record {
   a = refl;
   b = refl;
-  lines = λ n small. pin-by-role (power_up_as ed l) n small ∙ ap (level_as (power_up_as ed l) n) (reset-roles n small);
+  lines = λ n small. pin_by_role (power_up_as ed l) n small ∙ ap (level_as (power_up_as ed l) n) (reset_roles n small);
   lines_driven = refl;
 }
 
 -- A reset right after a power-up changes nothing: it goes back to what the chip was then, in every field.
-pub reset-as-power-up : (ed : Edition) (l : Levels) (x d : ℕ) → (step_of (power_up_as ed l) 0 x d).chip ≡ power_up_as ed l
+pub reset_as_power_up : (ed : Edition) (l : Levels) (x d : ℕ) → (step_of (power_up_as ed l) 0 x d).chip ≡ power_up_as ed l
 unfolding step_of step_in number_of is_kind after_mode_word cleared_port after_clear
-reset-as-power-up ed l x d = refl
+reset_as_power_up ed l x d = refl
 
 -- To name levels is to put them on the ports right after a power-up under any others: in mode 0 none of them is an edge, and none goes
 -- through to a latch.
-pub named-is-put : (ed : Edition) (k l : Levels)
+pub named_is_put : (ed : Edition) (k l : Levels)
     → (after (accepted (power_up_as ed k) 0) (levels 0 l.a ++ levels 1 l.b ++ levels 2 l.c)).chip ≡ power_up_as ed l
 unfolding step_of step_in number_of is_kind after_levels after_levels_on_c port_after_levels edged strobed_input strobed_output mode_of input_of bit_of
-named-is-put ed k l = refl
+named_is_put ed k l = refl
 
 -- A mode word finds the lines as they were named, and no byte.
-no-byte-yet : (ed : Edition) (l : Levels) (g : Group) (s : Side) → channel_of (power_up_as ed l).core g s ≡ no_byte
-no-byte-yet ed l A Input = refl
-no-byte-yet ed l A Output = refl
-no-byte-yet ed l B Input = refl
-no-byte-yet ed l B Output = refl
+no_byte_yet : (ed : Edition) (l : Levels) (g : Group) (s : Side) → channel_of (power_up_as ed l).core g s ≡ no_byte
+no_byte_yet ed l A Input = refl
+no_byte_yet ed l A Output = refl
+no_byte_yet ed l B Input = refl
+no_byte_yet ed l B Output = refl
 
-starts-anew : (ed : Edition) (l : Levels) (w : ℕ) (c : Chip) → Anew (power_up_as ed l).core w c.core → Starts l w c
-starts-anew ed l w c anew = record {
+starts_anew : (ed : Edition) (l : Levels) (w : ℕ) (c : Chip) → Anew (power_up_as ed l).core w c.core → Starts l w c
+starts_anew ed l w c anew = record {
   line = λ g s on.
-      line-pin c g s (subst (λ (v : ℕ). strobed v g s ≡ true) (sym anew.word) on)
+      line_pin_lem c g s (subst (λ (v : ℕ). strobed v g s ≡ true) (sym anew.word) on)
       ∙ ap (λ (d : ℕ). bit_of d (line_pin g s)) anew.lines_levels;
   none = λ g s.
-      let tally : (channel_of c.core g s).tally ≡ no_tally = anew.tallies g s ∙ rw (no-byte-yet ed l g s) in
+      let tally : (channel_of c.core g s).tally ≡ no_tally = anew.tallies g s ∙ rw (no_byte_yet ed l g s) in
       λ i. record { fill = anew.empty g s i; latch = anew.latches g s i; tally = tally i };
 }
 
@@ -75,4 +75,4 @@ pub starts : (ed : Edition) (l : Levels) (w : ℕ) → bit_of w 7 ≡ true → S
 unfolding step_of step_in number_of is_kind
 starts ed l w set =
     let writing : Chip = record { phase = Writing 3 w; edition = ed; core = (power_up_as ed l).core } in
-    starts-anew ed l w (step_of writing 2 0 0).chip (mode-word-renews writing w 0 0 refl set).core
+    starts_anew ed l w (step_of writing 2 0 0).chip (mode_word_renews writing w 0 0 refl set).core

@@ -5,7 +5,7 @@ use mathlib.Core.Path.{◌≡◌, refl, ap}
 use mathlib.Core.Bool.{Bool, cond}
 use Prim.Native.Nat.{ℕ}
 use Rattle.bits.specs.Bit.{bit_of, assembled}
-use Rattle.bits.proofs.BitLaws.{assembled-same}
+use Rattle.bits.proofs.BitLaws.{assembled_same}
 use Rattle.bus.specs.declared.Phase.{Phase}
 use Rattle.control.specs.declared.Group.{Group}
 use Rattle.control.specs.declared.Group.TheVariants.{A, B}
@@ -30,55 +30,55 @@ module _ (core : Core) (ph ph' : Phase) (ed ed' : Edition) (same : (g : Group) (
   abbrev other : Chip
   other = on_bus ph' ed' core
 
-  request-same : (g : Group) (s : Side) → request_of one g s ≡ request_of other g s
+  request_same : (g : Group) (s : Side) → request_of one g s ≡ request_of other g s
   unfolding request_of
-  request-same g s = rw (same g s)
+  request_same g s = rw (same g s)
 
-  intr-same : (g : Group) → intr_of one g ≡ intr_of other g
+  intr_same : (g : Group) → intr_of one g ≡ intr_of other g
   unfolding intr_of
-  intr-same g = rw (request-same g Input, request-same g Output)
+  intr_same g = rw (request_same g Input, request_same g Output)
 
   told_same : (n : ℕ) (r : Role) → read_as one n r ≡ read_as other n r
   told_same n input = refl
   told_same n output = refl
-  told_same n INTR = intr-same (group_at n)
+  told_same n INTR = intr_same (group_at n)
   told_same n IBF = refl
   told_same n OBF = refl
   told_same n STB = refl
   told_same n ACK = refl
 
-  level-same : (n : ℕ) (r : Role) → level_as one n r ≡ level_as other n r
-  level-same n r = ap (λ (b : Bool). cond (is_driven r) b (bit_of core.c.outside n)) (told_same n r)
+  level_same : (n : ℕ) (r : Role) → level_as one n r ≡ level_as other n r
+  level_same n r = ap (λ (b : Bool). cond (is_driven r) b (bit_of core.c.outside n)) (told_same n r)
 
-  read-lines-same : read_lines one ≡ read_lines other
+  read_lines_same : read_lines one ≡ read_lines other
   unfolding read_lines
-  read-lines-same = assembled-same _ _ (λ n small. told_same n (role_of core.word n))
+  read_lines_same = assembled_same _ _ (λ n small. told_same n (role_of core.word n))
 
-  shown-lines-same : pins_of_lines one ≡ pins_of_lines other
+  shown_lines_same : pins_of_lines one ≡ pins_of_lines other
   unfolding pins_of_lines
-  shown-lines-same =
+  shown_lines_same =
       ap (λ (l : ℕ). record { levels = l; driven = assembled (λ n. is_driven (role_of core.word n)) })
-      (assembled-same _ _ (λ n small. level-same n (role_of core.word n)))
+      (assembled_same _ _ (λ n small. level_same n (role_of core.word n)))
 
-  pins-same : (p : ℕ) → pins_of one p ≡ pins_of other p
+  pins_same : (p : ℕ) → pins_of one p ≡ pins_of other p
   unfolding pins_of
-  pins-same p = rw (shown-lines-same)
+  pins_same p = rw (shown_lines_same)
 
   pub read_same : (p : ℕ) → read_of one p ≡ read_of other p
   unfolding read_of
-  read_same p = rw (read-lines-same)
+  read_same p = rw (read_lines_same)
 
-  reason-same : (g : Group) (s : Side) → reason_of one g s ≡ reason_of other g s
+  reason_same : (g : Group) (s : Side) → reason_of one g s ≡ reason_of other g s
   unfolding reason_of
-  reason-same g s = rw (same g s)
+  reason_same g s = rw (same g s)
 
-  explained-in-same : (g : Group) → explained_in one g ≡ explained_in other g
+  explained_in_same : (g : Group) → explained_in one g ≡ explained_in other g
   unfolding explained_in
-  explained-in-same g = rw (reason-same g Input, reason-same g Output)
+  explained_in_same g = rw (reason_same g Input, reason_same g Output)
 
-  explained-same : (n : ℕ) → explained_of one n ≡ explained_of other n
+  explained_same : (n : ℕ) → explained_of one n ≡ explained_of other n
   unfolding explained_of
-  explained-same n = rw (explained-in-same A, explained-in-same B)
+  explained_same n = rw (explained_in_same A, explained_in_same B)
 
   pub shows_alike : ShowsAlike one other
-  shows_alike = record { pins = pins-same; reads = λ p small. read_same p; tallies = λ g s. refl; explained = explained-same }
+  shows_alike = record { pins = pins_same; reads = λ p small. read_same p; tallies = λ g s. refl; explained = explained_same }

@@ -13,29 +13,29 @@ use Rattle.chip.specs.declared.Core.{Core}
 use Rattle.chip.specs.declared.Chip.{Chip}
 use Rattle.chip.specs.State.{channel_of}
 use Rattle.chip.specs.Handshakes.{strobed, own_address}
-use Rattle.chip.proofs.Surrounded.{latch-spares, spared-channel}
-use Rattle.chip.proofs.SettingsAfter.{bit-put}
+use Rattle.chip.proofs.Surrounded.{latch_spares, spared_channel}
+use Rattle.chip.proofs.SettingsAfter.{bit_put}
 use Rattle.chip.specs.Read.{after_read_begins, after_read_ends}
-use Rattle.chip.proofs.ReadsAfter.{begun-input, begun-output, ended-input, ended-output}
+use Rattle.chip.proofs.ReadsAfter.{begun_input, begun_output, ended_input, ended_output}
 use Rattle.chip.specs.Write.{stored_in, latch_written}
 use Rattle.chip.proofs.WritesAfter.{Stored}
 use Rattle.chip.specs.Step.{step_of}
 use Rattle.laws.specs.Seen.{makes_anew}
 use Rattle.laws.specs.Kept.{Kept}
-use Rattle.laws.proofs.ByEvent.{not-anew, by-event}
-use Rattle.laws.proofs.Falls.{kept, levels-kept}
+use Rattle.laws.proofs.ByEvent.{not_anew, by_event}
+use Rattle.laws.proofs.Falls.{kept, levels_kept}
 
 module _ (c : Core) (g : Group) where
   abbrev Still : Side → Core → Type 0
   Still s c' = Kept (channel_of c g s) (channel_of c' g s)
 
   begun : (s : Side) → strobed c.word g s ≡ false → (x : ℕ) → Still s (after_read_begins c x)
-  begun Input off x = kept (begun-input c x g ∙ rw (off))
-  begun Output off x = kept (begun-output c x g)
+  begun Input off x = kept (begun_input c x g ∙ rw (off))
+  begun Output off x = kept (begun_output c x g)
 
   ended : (s : Side) → strobed c.word g s ≡ false → (x : ℕ) → Still s (after_read_ends c x)
-  ended Input off x = kept (ended-input c x g ∙ rw (off))
-  ended Output off x = kept (ended-output c x g)
+  ended Input off x = kept (ended_input c x g ∙ rw (off))
+  ended Output off x = kept (ended_output c x g)
 
   written : (s : Side) → strobed c.word g s ≡ false → (x d : ℕ) (c' : Core) → Stored c' c x d → Still s c'
   written Input off x d c' k = kept (k.input g)
@@ -46,19 +46,19 @@ module _ (c : Core) (g : Group) where
       go false true = kept refl
       go out false = kept refl
 
-pub unstrobed-stays : (c : Chip) (g : Group) (s : Side) → strobed c.core.word g s ≡ false → (k x d : ℕ) → ¬ (k ≡ 0)
+pub unstrobed_stays : (c : Chip) (g : Group) (s : Side) → strobed c.core.word g s ≡ false → (k x d : ℕ) → ¬ (k ≡ 0)
     → (k ≡ 2 → makes_anew c.phase ≡ false) → Kept (channel_of c.core g s) (channel_of (step_of c k x d).chip.core g s)
-unstrobed-stays c g s off k x d reset renewal = by-event (λ c'. Still c.core g s c'.core) c k x d (record {
+unstrobed_stays c g s off k x d reset renewal = by_event (λ c'. Still c.core g s c'.core) c k x d (record {
   stays = kept refl;
   reset = λ zero. absurd (reset zero);
   read_begins = λ one ok. begun c.core g s off x;
   ends = λ two. record {
     read = λ p phase. ended c.core g s off p;
-    mode_word = λ w phase seven. not-anew (renewal two) phase seven;
-    bit_word = λ w phase seven. kept ((bit-put c.core w seven).channel g s ∙ rw (off));
-    lines = λ b phase. kept (spared-channel (latch-spares c.core (latch_written c.core.word c.core.c.latch b)) g s);
+    mode_word = λ w phase seven. not_anew (renewal two) phase seven;
+    bit_word = λ w phase seven. kept ((bit_put c.core w seven).channel g s ∙ rw (off));
+    lines = λ b phase. kept (spared_channel (latch_spares c.core (latch_written c.core.word c.core.c.latch b)) g s);
     port = λ a b phase. written c.core g s off a b;
   };
   write_begins = λ three ok. kept refl;
-  levels = λ five ok. levels-kept c.core g s x d (rw (off) (and-false (eqb x 2)));
+  levels = λ five ok. levels_kept c.core g s x d (rw (off) (and-false (eqb x 2)));
 })

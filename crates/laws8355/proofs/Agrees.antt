@@ -37,28 +37,28 @@ pub record Agrees (c : Chip8355) (a : Account) : Type 0 where
   pub phase : a.phase ≡ c.phase
   pub holds : Holds c.ports a.register a.lines
 
-pub agrees-of : (c : Chip8355) → Agrees c (account_of c)
-agrees-of c = record { phase = refl; holds = ((refl, refl), ((refl, refl), (refl, refl))) }
+pub agrees_of : (c : Chip8355) → Agrees c (account_of c)
+agrees_of c = record { phase = refl; holds = ((refl, refl), ((refl, refl), (refl, refl))) }
 
-pub agrees-opened : Agrees power_up opened
-agrees-opened = record { phase = refl; holds = ((refl, refl), ((refl, refl), (refl, refl))) }
+pub agrees_opened : Agrees power_up opened
+agrees_opened = record { phase = refl; holds = ((refl, refl), ((refl, refl), (refl, refl))) }
 
 -- Each act does to registers and lines what the device's rules do to the ports.
 module _ (s : Ports) (r l : ℕ → ℕ) (h : Holds s r l) where
   abbrev After : Act → Ports → Type 0
   After t s' = Holds s' (λ x. register_after x (r x) t) (λ p. lines_after p (l p) t)
 
-  reset-holds : After reset (after_reset s)
+  reset_holds : After reset (after_reset s)
   unfolding after_reset
-  reset-holds = (h.0, ((refl, refl), h.1.1))
+  reset_holds = (h.0, ((refl, refl), h.1.1))
 
-  written-holds : (x d : ℕ) → After (written x d) (after_write_ends s x d)
+  written_holds : (x d : ℕ) → After (written x d) (after_write_ends s x d)
   unfolding after_write_ends
-  written-holds zero d = ((refl, h.0.1), h.1)
-  written-holds (suc zero) d = ((h.0.0, refl), h.1)
-  written-holds (suc (suc zero)) d = (h.0, ((refl, h.1.0.1), h.1.1))
-  written-holds (suc (suc (suc zero))) d = (h.0, ((h.1.0.0, refl), h.1.1))
-  written-holds (suc (suc (suc (suc x)))) d =
+  written_holds zero d = ((refl, h.0.1), h.1)
+  written_holds (suc zero) d = ((h.0.0, refl), h.1)
+  written_holds (suc (suc zero)) d = (h.0, ((refl, h.1.0.1), h.1.1))
+  written_holds (suc (suc (suc zero))) d = (h.0, ((h.1.0.0, refl), h.1.1))
+  written_holds (suc (suc (suc (suc x)))) d =
       let n = suc (suc (suc (suc x))) in
       rw (
         ne_eqb n 0 (λ e. omega (arith, e)),
@@ -67,16 +67,16 @@ module _ (s : Ports) (r l : ℕ → ℕ) (h : Holds s r l) where
         ne_eqb n 3 (λ e. omega (arith, e)),
       ) h
 
-  levels-hold : (x d : ℕ) → After (levels x d) (after_levels s x d)
+  levels_hold_lem : (x d : ℕ) → After (levels x d) (after_levels s x d)
   unfolding after_levels
-  levels-hold zero d = (h.0, (h.1.0, (refl, h.1.1.1)))
-  levels-hold (suc zero) d = (h.0, (h.1.0, (h.1.1.0, refl)))
-  levels-hold (suc (suc x)) d = rw (above x 0 (lit< tt), above x 1 (lit< tt)) h
+  levels_hold_lem zero d = (h.0, (h.1.0, (refl, h.1.1.1)))
+  levels_hold_lem (suc zero) d = (h.0, (h.1.0, (h.1.1.0, refl)))
+  levels_hold_lem (suc (suc x)) d = rw (above x 0 (lit< tt), above x 1 (lit< tt)) h
 
-  ending-holds : (ph : Phase) → After (ended ph).act (after_end s ph)
-  ending-holds Idle = h
-  ending-holds (Reading x) = h
-  ending-holds (Writing x d) = written-holds x d
+  ending_holds : (ph : Phase) → After (ended ph).act (after_end s ph)
+  ending_holds Idle = h
+  ending_holds (Reading x) = h
+  ending_holds (Writing x d) = written_holds x d
 
 -- An account with the phase of the device, after an event: as the number has it.
 module _ (c : Chip8355) (r l : ℕ → ℕ) (h : Holds c.ports r l) where
@@ -91,18 +91,18 @@ module _ (c : Chip8355) (r l : ℕ → ℕ) (h : Holds c.ports r l) where
   unfolding number_of is_kind
   goes k x d =
       by_kind (λ k. number_of limits c.phase k x ≡ 0 → Agrees (after_in device c k x d) (accepted (event k x d)))
-      (λ ok. record { phase = refl; holds = reset-holds c.ports r l h })
+      (λ ok. record { phase = refl; holds = reset_holds c.ports r l h })
       (λ ok. record { phase = refl; holds = h })
-      (λ ok. record { phase = idle-after c.phase; holds = ending-holds c.ports r l h c.phase })
+      (λ ok. record { phase = idle_after c.phase; holds = ending_holds c.ports r l h c.phase })
       (λ ok. record { phase = refl; holds = h })
-      (λ ok. record { phase = refl; holds = levels-hold c.ports r l h x d })
+      (λ ok. record { phase = refl; holds = levels_hold_lem c.ports r l h x d })
       (λ k none ok. absurd (omega (arith, rw (none) at ok)))
       k
     where
-      idle-after : (ph : Phase) → (ended ph).leaves ≡ Idle
-      idle-after Idle = refl
-      idle-after (Reading x) = refl
-      idle-after (Writing x d) = refl
+      idle_after : (ph : Phase) → (ended ph).leaves ≡ Idle
+      idle_after Idle = refl
+      idle_after (Reading x) = refl
+      idle_after (Writing x d) = refl
 
   next : (k x d : ℕ) → Agrees (step_in device c k x d).state (account_next before (event k x d))
   next k x d =
@@ -111,9 +111,9 @@ module _ (c : Chip8355) (r l : ℕ → ℕ) (h : Holds c.ports r l) where
       (λ no. rw (← number_same c.phase k x d, ne_eqb _ _ no) (record { phase = refl; holds = h }))
       (λ ok. rw (← number_same c.phase k x d, ok) (goes k x d ok))
 
-pub agrees-next : (c : Chip8355) (a : Account) (e : Event) → Agrees c a
+pub agrees_next : (c : Chip8355) (a : Account) (e : Event) → Agrees c a
     → Agrees (step_in device c e.kind e.first e.second).state (account_next a e)
-agrees-next c a e k =
+agrees_next c a e k =
     subst
     (λ (ph : Phase). Agrees (step_in device c e.kind e.first e.second).state (account_next (record { phase = ph; register = a.register; lines = a.lines }) e))
     (sym k.phase)

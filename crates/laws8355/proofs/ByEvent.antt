@@ -17,7 +17,7 @@ use Rattle.i8355.specs.declared.Chip8355.{Chip8355}
 use Rattle.i8355.specs.Registers.{with_direction, after_write_ends, after_levels}
 use Rattle.i8355.specs.Step.{limits, after_end, device}
 use Rattle.laws8355.specs.Promise.{run}
-use Rattle.laws8355.proofs.Ports.{port_at, at-reset}
+use Rattle.laws8355.proofs.Ports.{port_at, at_reset}
 
 module _ (p : ℕ) (there : p < 2) (P : Port → Type 0) (c : Chip8355) (before : P (port_at c.ports p)) where
   abbrev Ended : Type 0
@@ -39,7 +39,7 @@ module _ (p : ℕ) (there : p < 2) (P : Port → Type 0) (c : Chip8355) (before 
   unfolding number_of is_kind
   left k x d =
       by_kind (λ k. Left k x d)
-      (λ reset end levels ok. subst P (sym (at-reset c.ports p there)) (reset refl))
+      (λ reset end levels ok. subst P (sym (at_reset c.ports p there)) (reset refl))
       (λ reset end levels ok. before)
       (λ reset end levels ok. ended c.phase refl (end refl))
       (λ reset end levels ok. before)
@@ -48,11 +48,11 @@ module _ (p : ℕ) (there : p < 2) (P : Port → Type 0) (c : Chip8355) (before 
       k
 
   -- What holds of the port before an event, and of what each of these three would leave of it where it is one of them, holds after it.
-  pub by-event : (e : Event)
+  pub by_event : (e : Event)
       → (e.kind ≡ 0 → P (with_direction (port_at c.ports p) 0))
       → (e.kind ≡ 2 → (y d : ℕ) → c.phase ≡ Writing y d → P (port_at (after_write_ends c.ports y d) p))
       → (e.kind ≡ 5 → P (port_at (after_levels c.ports e.first e.second) p))
       → P (port_at (run c (e ∷ [])).ports p)
-  by-event e reset end levels =
+  by_event e reset end levels =
       either device c e.kind e.first e.second (λ (c' : Chip8355). P (port_at c'.ports p)) before
       (left e.kind e.first e.second reset end levels)

@@ -18,65 +18,65 @@ use Rattle.text.specs.Frames.{is_frame}
 use Rattle.mend.specs.Line.{bytes_of, raised, without_cr, mended, clean_line}
 use Rattle.mend.specs.Mend.{clean_of, in_front}
 use Rattle.mend.proofs.Dropping.{no_longer}
-use Rattle.mend.proofs.Fit.{mended-length}
+use Rattle.mend.proofs.Fit.{mended_length}
 
 -- What the clean script has of a line of a text.
 abbrev pub clean_in : Line → List ℕ
 clean_in l = clean_line (bytes_of l)
 
 -- The bytes of a line as they are lent.
-bytes-lent : (l : lent.Line) → (bytes_lent l).now ≡ bytes_of (line_of l)
-bytes-lent (lent.TheVariants.Ended bytes) = refl
-bytes-lent (lent.TheVariants.Rest bytes) = refl
+bytes_lent_lem : (l : lent.Line) → (bytes_lent l).now ≡ bytes_of (line_of l)
+bytes_lent_lem (lent.TheVariants.Ended bytes) = refl
+bytes_lent_lem (lent.TheVariants.Rest bytes) = refl
 
-pub bytes-got : (l : lent.Line) (bytes : Bor (List ℕ)) → bytes ≡ bytes_lent l → bytes.now ≡ bytes_of (line_of l)
-bytes-got l bytes is = ap (λ (b : Bor (List ℕ)). b.now) is ∙ bytes-lent l
+pub bytes_got : (l : lent.Line) (bytes : Bor (List ℕ)) → bytes ≡ bytes_lent l → bytes.now ≡ bytes_of (line_of l)
+bytes_got l bytes is = ap (λ (b : Bor (List ℕ)). b.now) is ∙ bytes_lent_lem l
 
 module _ (line : List ℕ) where
-  pub of-a-fit : is_frame (mended line) ≡ true → clean_line line ≡ mended line ++ lf ∷ []
+  pub of_a_fit : is_frame (mended line) ≡ true → clean_line line ≡ mended line ++ lf ∷ []
   unfolding clean_line
-  of-a-fit is = rw (is)
+  of_a_fit is = rw (is)
 
-  pub of-another : is_frame (mended line) ≡ false → clean_line line ≡ []
+  pub of_another : is_frame (mended line) ≡ false → clean_line line ≡ []
   unfolding clean_line
-  of-another is = rw (is)
+  of_another is = rw (is)
 
   pub fit_length : is_frame (mended line) ≡ true → length (clean_line line) ≡ length (without_cr line) + 1
-  fit_length is = ap length (of-a-fit is) ∙ length-append (mended line) (lf ∷ []) ∙ ap (λ n. n + 1) (mended-length line)
+  fit_length is = ap length (of_a_fit is) ∙ length-append (mended line) (lf ∷ []) ∙ ap (λ n. n + 1) (mended_length line)
 
   -- What is put of it: its bytes, raised, and LF.
-  pub line-put : is_frame (mended line) ≡ true → (out : List ℕ)
+  pub line_put : is_frame (mended line) ≡ true → (out : List ℕ)
       → map raised (without_cr line) ++ lf ∷ drop (suc (length (without_cr line))) out ≡ in_front (clean_line line) out
   unfolding mended
-  line-put is out =
+  line_put is out =
       let long : suc (length (without_cr line)) ≡ length (clean_line line) = omega (arith, fit_length is) in
-      rw (long, of-a-fit is) (sym (append_snoc (mended line) lf (drop (length (mended line ++ lf ∷ [])) out)))
+      rw (long, of_a_fit is) (sym (append_snoc (mended line) lf (drop (length (mended line ++ lf ∷ [])) out)))
 
-  clean-at-most : length (clean_line line) ≤ length line + 1
-  clean-at-most = go (is_frame (mended line)) refl
+  clean_at_most : length (clean_line line) ≤ length line + 1
+  clean_at_most = go (is_frame (mended line)) refl
     where
       go : (t : Bool) → is_frame (mended line) ≡ t → length (clean_line line) ≤ length line + 1
       go true is = omega (arith, fit_length is, no_longer line)
-      go false is = omega (arith, ap length (of-another is))
+      go false is = omega (arith, ap length (of_another is))
 
 -- The clean script is as long as what it has of each line together.
 abbrev pub clean_length : Line → ℕ
 clean_length l = length (clean_in l)
 
-pub lengths-add-up : (ls : List Line) → sum_by clean_length ls ≡ length (flat_map clean_in ls)
+pub lengths_add_up : (ls : List Line) → sum_by clean_length ls ≡ length (flat_map clean_in ls)
 unfolding flat_map
-lengths-add-up [] = refl
-lengths-add-up (l ∷ ls) = omega (arith, sum_by-cons clean_length l ls, lengths-add-up ls, length-append (clean_in l) (flat_map clean_in ls))
+lengths_add_up [] = refl
+lengths_add_up (l ∷ ls) = omega (arith, sum_by-cons clean_length l ls, lengths_add_up ls, length-append (clean_in l) (flat_map clean_in ls))
 
 -- The lines of a text, each with an LF.
 abbrev with_ends : List Line → ℕ
 with_ends [] = 0
 with_ends (l ∷ ls) = length (bytes_of l) + 1 + with_ends ls
 
-lines-with-ends : (text : List ℕ) → with_ends (lines_of text) ≤ length text + 1
+lines_with_ends : (text : List ℕ) → with_ends (lines_of text) ≤ length text + 1
 unfolding lines_of
-lines-with-ends [] = omega arith
-lines-with-ends (b ∷ text) = go (eqb b lf) (lines_of text) (lines-with-ends text)
+lines_with_ends [] = omega arith
+lines_with_ends (b ∷ text) = go (eqb b lf) (lines_of text) (lines_with_ends text)
   where
     before : (ls : List Line) → with_ends ls ≤ length text + 1 → with_ends (before_lines b ls) ≤ suc (length text) + 1
     before [] most = omega arith
@@ -87,11 +87,11 @@ lines-with-ends (b ∷ text) = go (eqb b lf) (lines_of text) (lines-with-ends te
     go true ls most = omega (arith, most)
     go false ls most = before ls most
 
-no-more-than : (ls : List Line) → length (flat_map clean_in ls) ≤ with_ends ls
+no_more_than : (ls : List Line) → length (flat_map clean_in ls) ≤ with_ends ls
 unfolding flat_map
-no-more-than [] = omega arith
-no-more-than (l ∷ ls) = omega (arith, length-append (clean_in l) (flat_map clean_in ls), clean-at-most (bytes_of l), no-more-than ls)
+no_more_than [] = omega arith
+no_more_than (l ∷ ls) = omega (arith, length-append (clean_in l) (flat_map clean_in ls), clean_at_most (bytes_of l), no_more_than ls)
 
-pub one-longer-at-most : (text : List ℕ) → length (clean_of text) ≤ length text + 1
+pub one_longer_at_most : (text : List ℕ) → length (clean_of text) ≤ length text + 1
 unfolding clean_of
-one-longer-at-most text = omega (arith, no-more-than (lines_of text), lines-with-ends text)
+one_longer_at_most text = omega (arith, no_more_than (lines_of text), lines_with_ends text)

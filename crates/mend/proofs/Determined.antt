@@ -3,7 +3,7 @@
 -- Rests on bits' Determined.
 use mathlib.Core.Path.{◌≡◌, ◌∙◌, refl, ap, sym}
 use Rattle.std.specs.Prelude.{ℕ, cond, eqb, Option, Some, None, Result, Ok, Err}
-use Rattle.bits.proofs.Determined.{Determines, equation-determines}
+use Rattle.bits.proofs.Determined.{Determines, equation_determines}
 use Rattle.mend.specs.declared.Mended.{Mended}
 use Rattle.mend.specs.declared.MendRefusal.{MendRefusal}
 use Rattle.mend.specs.declared.MendRefusal.TheVariants.{TooLong, NoRoom}
@@ -23,36 +23,36 @@ answer_of o =
     cond (eqb o.number 0) (Ok (record { clean = o.clean; report = o.report }))
     (cond (eqb o.number 6) (Err TooLong) (Err NoRoom))
 
-told-so : (r : Result Mended MendRefusal) → r ≡ answer_of (mend_told r)
-told-so (Ok m) = refl
-told-so (Err TooLong) = refl
-told-so (Err NoRoom) = refl
+told_so : (r : Result Mended MendRefusal) → r ≡ answer_of (mend_told r)
+told_so (Ok m) = refl
+told_so (Err TooLong) = refl
+told_so (Err NoRoom) = refl
 
 -- The sign that has a letter and a reason. Before its answer stands the line, which is not written.
 abbrev sign_with : ℕ → Option Reason → Sign
 sign_with letter (Some reason) = Unfit reason
 sign_with letter None = cond (eqb letter kept_sign) Kept (cond (eqb letter mended_sign) Signs.Mended Blank)
 
-told-apart : (s : Sign) → s ≡ sign_with (letter_of s) (reason_told s)
-told-apart Kept = refl
-told-apart Signs.Mended = refl
-told-apart Blank = refl
-told-apart (Unfit reason) = refl
+told_apart : (s : Sign) → s ≡ sign_with (letter_of s) (reason_told s)
+told_apart Kept = refl
+told_apart Signs.Mended = refl
+told_apart Blank = refl
+told_apart (Unfit reason) = refl
 
-pub sign-determined : Determines mend_says.signs.Sign.of.ended mend.signs.Sign.of.Reads.Learnt
-sign-determined c x y p q =
-    let result = told-apart x.0 ∙ (λ i. sign_with ((p.0 ∙ sym q.0) i) ((p.1 ∙ sym q.1) i)) ∙ sym (told-apart y.0) in
+pub sign_determined : Determines mend_says.signs.Sign.of.ended mend.signs.Sign.of.Reads.Learnt
+sign_determined c x y p q =
+    let result = told_apart x.0 ∙ (λ i. sign_with ((p.0 ∙ sym q.0) i) ((p.1 ∙ sym q.1) i)) ∙ sym (told_apart y.0) in
     λ i. (result i, (tt, tt))
 
-pub number-determined : Determines mend_says.MendRefusalNumbered.number.ended mend.MendRefusalNumbered.number.Reads.Learnt
-number-determined c x y = equation-determines
+pub number_determined : Determines mend_says.MendRefusalNumbered.number.ended mend.MendRefusalNumbered.number.Reads.Learnt
+number_determined c x y = equation_determines
 
 -- Before both outputs stands the text, which is not written.
-pub mend-determined : Determines mend_says.mend.ended mend.mend.Reads.Learnt
-mend-determined c x y p q =
-    let result = told-so x.0 ∙ ap answer_of (p.0 ∙ sym q.0) ∙ sym (told-so y.0) in
+pub mend_determined : Determines mend_says.mend.ended mend.mend.Reads.Learnt
+mend_determined c x y p q =
+    let result = told_so x.0 ∙ ap answer_of (p.0 ∙ sym q.0) ∙ sym (told_so y.0) in
     λ i. (result i, (tt, ((p.1.0 ∙ sym q.1.0) i, ((p.1.1 ∙ sym q.1.1) i, tt))))
 
-pub towanchor-mend-determined : Determines mend_says.towanchor_mend.ended mend.towanchor_mend.Reads.Learnt
-towanchor-mend-determined c x y p q =
+pub towanchor_mend_determined : Determines mend_says.towanchor_mend.ended mend.towanchor_mend.Reads.Learnt
+towanchor_mend_determined c x y p q =
     λ i. ((p.0 ∙ sym q.0) i, (tt, ((p.1.0 ∙ sym q.1.0) i, ((p.1.1 ∙ sym q.1.1) i, tt))))

@@ -10,7 +10,7 @@ use native.Mathlib.Omega.{arith}
 use lib.ListN.{length, take, drop, set, length-append, length-drop, take-append-drop}
 use lib.Seq.{set_split, append_snoc}
 use borrow.Author.Rules.{part_to_end}
-use Rattle.script.proofs.Filling.{back, back_is, back-front, back-behind, back-length}
+use Rattle.script.proofs.Filling.{back, back_is, back_front, back_behind, back_length}
 use Rattle.mend.specs.Mend.{in_front}
 
 module _ {A : Type 0} (part : A → List ℕ) where
@@ -47,8 +47,8 @@ module _ {A : Type 0} (part : A → List ℕ) where
     fits : at + length (part x) ≤ length out
     fits = omega (arith, way.room, split)
 
-    pub room-for-one : length (part x) ≤ length (take (length out - at) (drop at out))
-    room-for-one = rw (part_to_end out at, length-drop at out) (omega (arith, fits))
+    pub room_for_one : length (part x) ≤ length (take (length out - at) (drop at out))
+    room_for_one = rw (part_to_end out at, length-drop at out) (omega (arith, fits))
 
     onward : to_come xs (at + length (part x)) (back at (length (part x)) (part x) out) ≡ to_come (x ∷ xs) at out
     unfolding flat_map
@@ -56,13 +56,13 @@ module _ {A : Type 0} (part : A → List ℕ) where
         let w = length (part x) in
         let later : List ℕ = flat_map part xs in
         let behind : at + w + length later ≡ at + length (part x ++ later) = omega (arith, length-append (part x) later) in
-        rw (back-front at w (part x) out refl fits, back-behind at w (part x) out refl fits (length later), behind)
+        rw (back_front at w (part x) out refl fits, back_behind at w (part x) out refl fits (length later), behind)
         (append_assoc (take at out) (part x) (later ++ drop (at + length (part x ++ later)) out)
         ∙ ap (λ (l : List ℕ). take at out ++ l) (sym (append_assoc (part x) later (drop (at + length (part x ++ later)) out))))
 
-    goes-on : UnderWay all first (back at (length (part x)) (part x) out) xs (at + length (part x))
-    goes-on =
-        let same = back-length at (length (part x)) (part x) out refl fits in
+    goes_on_lem : UnderWay all first (back at (length (part x)) (part x) out) xs (at + length (part x))
+    goes_on_lem =
+        let same = back_length at (length (part x)) (part x) out refl fits in
         record {
           long = same ∙ way.long;
           room = omega (arith, way.room, split, same);
@@ -72,19 +72,19 @@ module _ {A : Type 0} (part : A → List ℕ) where
     -- Through a part of the output that is lent, as it comes back.
     pub lent : (got : List ℕ) (n : ℕ) → n ≡ length (part x) → got ≡ in_front (part x) (take (length out - at) (drop at out))
         → UnderWay all first (take at out ++ (got ++ drop (length out - at) (drop at out))) xs (at + n)
-    lent got n counted written = rw (written, counted) goes-on
+    lent got n counted written = rw (written, counted) goes_on_lem
 
     -- By one store, where x has one byte.
     pub stored : (b : ℕ) → part x ≡ b ∷ [] → UnderWay all first (set out at b) xs (at + 1)
     stored b one =
-        let way = goes-on in
+        let way = goes_on_lem in
         let spliced : set out at b ≡ back at (length (part x)) (part x) out =
         rw (back_is at (length (part x)) (part x) out refl fits, one, add-one at)
         (set_split out at b (omega (arith, fits, ap length one)) ∙ sym (append_snoc (take at out) b (drop (suc at) out))) in
         rw (spliced, ← ap length one) way
 
 -- Items that have one byte each.
-pub one-each : {A : Type 0} (f : A → ℕ) (xs : List A) → flat_map (λ (x : A). f x ∷ []) xs ≡ map f xs
+pub one_each_lem : {A : Type 0} (f : A → ℕ) (xs : List A) → flat_map (λ (x : A). f x ∷ []) xs ≡ map f xs
 unfolding flat_map
-one-each f [] = refl
-one-each f (x ∷ xs) = ap (λ (l : List ℕ). f x ∷ l) (one-each f xs)
+one_each_lem f [] = refl
+one_each_lem f (x ∷ xs) = ap (λ (l : List ℕ). f x ∷ l) (one_each_lem f xs)

@@ -27,9 +27,9 @@ use Rattle.text.proofs.WrittenBack.{event_in, written_back}
 use Rattle.mend.specs.Line.{bytes_of, cr, without_cr, raised, mended, is_blank, was_so, kept_sign, mended_sign, blank_sign, unfit_sign, sign_of}
 use Rattle.mend.specs.declared.signs.Reason.{Reason}
 use Rattle.mend.specs.Reason.{why, reason_of}
-use Rattle.mend.proofs.Fit.{event-of, mended-length}
-use Rattle.mend.proofs.Cleaning.{bytes-got}
-use Rattle.mend.proofs.Unfit.{no-reason, reason-given}
+use Rattle.mend.proofs.Fit.{event_of_lem, mended_length}
+use Rattle.mend.proofs.Cleaning.{bytes_got}
+use Rattle.mend.proofs.Unfit.{no_reason, reason_given}
 
 -- A code to which nothing is done: it is no small digit, and no CR.
 abbrev plain_code : ℕ → Bool
@@ -40,31 +40,31 @@ plain [] = true
 plain (b ∷ bytes) = plain_code b && plain bytes
 
 module _ (b : ℕ) (is : plain_code b ≡ true) where
-  as-it-is : raised b ≡ b
-  as-it-is = eqb-true (raised b) b (both (eqb (raised b) b) (not (eqb b cr)) is).0
+  as_it_is : raised b ≡ b
+  as_it_is = eqb-true (raised b) b (both (eqb (raised b) b) (not (eqb b cr)) is).0
 
-  no-cr : eqb b cr ≡ false
-  no-cr = not-true (eqb b cr) (both (eqb (raised b) b) (not (eqb b cr)) is).1
+  no_cr : eqb b cr ≡ false
+  no_cr = not-true (eqb b cr) (both (eqb (raised b) b) (not (eqb b cr)) is).1
 
-plain-stays : (bytes : List ℕ) → plain bytes ≡ true → mended bytes ≡ bytes
+plain_stays : (bytes : List ℕ) → plain bytes ≡ true → mended bytes ≡ bytes
 unfolding mended without_cr
-plain-stays [] is = refl
-plain-stays (b ∷ []) is = let k = both (plain_code b) true is in rw (no-cr b k.0) (ap (λ n. n ∷ []) (as-it-is b k.0))
-plain-stays (b ∷ d ∷ bytes) is =
+plain_stays [] is = refl
+plain_stays (b ∷ []) is = let k = both (plain_code b) true is in rw (no_cr b k.0) (ap (λ n. n ∷ []) (as_it_is b k.0))
+plain_stays (b ∷ d ∷ bytes) is =
     let k = both (plain_code b) (plain (d ∷ bytes)) is in
-    λ i. as-it-is b k.0 i ∷ plain-stays (d ∷ bytes) k.1 i
+    λ i. as_it_is b k.0 i ∷ plain_stays (d ∷ bytes) k.1 i
 
 -- Every digit is such a code, by a test at the sixteen.
-plain-digit : (n : ℕ) → plain_code (digit_code n) ≡ true
+plain_digit : (n : ℕ) → plain_code (digit_code n) ≡ true
 unfolding digit_code raised
-plain-digit n = bits 16 (λ i. plain_code (get_or digits i 0)) (λ i. true) tt (n % 16) (omega arith)
+plain_digit n = bits 16 (λ i. plain_code (get_or digits i 0)) (λ i. true) tt (n % 16) (omega arith)
 
 plain_byte : (x : ℕ) (later : List ℕ) → plain later ≡ true → plain (in_digits x ++ later) ≡ true
-plain_byte x later is = rw (plain-digit (x / 16), plain-digit x) is
+plain_byte x later is = rw (plain_digit (x / 16), plain_digit x) is
 
-plain-event : (e : Event) → plain (written_out e) ≡ true
+plain_event : (e : Event) → plain (written_out e) ≡ true
 unfolding written_out
-plain-event e = go (operands_of e.kind)
+plain_event e = go (operands_of e.kind)
   where
     go : (n : ℕ) → plain (in_digits e.kind ++ operands_out n e.first e.second) ≡ true
     go zero = plain_byte e.kind [] refl
@@ -74,26 +74,26 @@ plain-event e = go (operands_of e.kind)
         (plain_byte e.first (in_digits e.second) (plain_byte e.second [] refl))
 
 -- So a frame stays as it is.
-pub frame-stays : (bytes : List ℕ) → is_frame bytes ≡ true → mended bytes ≡ bytes
-frame-stays bytes is =
+pub frame_stays : (bytes : List ℕ) → is_frame bytes ≡ true → mended bytes ≡ bytes
+frame_stays bytes is =
     let line = written_back bytes is in
-    ap mended line ∙ plain-stays (written_out (event_in bytes)) (plain-event (event_in bytes)) ∙ sym line
+    ap mended line ∙ plain_stays (written_out (event_in bytes)) (plain_event (event_in bytes)) ∙ sym line
 
 -- No bytes are no frame, and so a frame is not blank.
-pub not-blank : (bytes : List ℕ) → is_frame bytes ≡ true → is_blank bytes ≡ false
+pub not_blank : (bytes : List ℕ) → is_frame bytes ≡ true → is_blank bytes ≡ false
 unfolding is_kind operands_of leading_byte is_frame
-not-blank [] is = sym is
-not-blank (b ∷ bytes) is = refl
+not_blank [] is = sym is
+not_blank (b ∷ bytes) is = refl
 
-pub blank-if-none : (line : List ℕ) → length (without_cr line) ≡ 0 → is_blank (mended line) ≡ true
-blank-if-none line none = go (mended line) (mended-length line ∙ none)
+pub blank_if_none : (line : List ℕ) → length (without_cr line) ≡ 0 → is_blank (mended line) ≡ true
+blank_if_none line none = go (mended line) (mended_length line ∙ none)
   where
     go : (bytes : List ℕ) → length bytes ≡ 0 → is_blank bytes ≡ true
     go [] none = refl
     go (b ∷ bytes) none = absurd (omega (arith, none))
 
-pub none-if-blank : (line : List ℕ) → ¬ (length (without_cr line) ≡ 0) → is_blank (mended line) ≡ false
-none-if-blank line some = go (mended line) (mended-length line)
+pub none_if_blank : (line : List ℕ) → ¬ (length (without_cr line) ≡ 0) → is_blank (mended line) ≡ false
+none_if_blank line some = go (mended line) (mended_length line)
   where
     go : (bytes : List ℕ) → length bytes ≡ length (without_cr line) → is_blank bytes ≡ false
     go [] long = absurd (some (sym long))
@@ -103,32 +103,32 @@ none-if-blank line some = go (mended line) (mended-length line)
 pub sign_kept : (l : Line) → is_event (frame_in l) ≡ true → kept_sign ≡ sign_of l
 unfolding frame_in sign_of
 sign_kept (ended bytes) event =
-    let is = sym (event-of bytes) ∙ event in
-    rw (frame-stays bytes is, not-blank bytes is, is, same_self bytes)
+    let is = sym (event_of_lem bytes) ∙ event in
+    rw (frame_stays bytes is, not_blank bytes is, is, same_self bytes)
 sign_kept (rest bytes) event = absurd (contrary false refl event)
 
 -- A line that is fit, and was no frame, was not so.
-was-not-so : (l : Line) → is_event (frame_in l) ≡ false → is_frame (mended (bytes_of l)) ≡ true → was_so l ≡ false
+was_not_so : (l : Line) → is_event (frame_in l) ≡ false → is_frame (mended (bytes_of l)) ≡ true → was_so l ≡ false
 unfolding frame_in
-was-not-so (ended bytes) none fit = go (same_bytes bytes (mended bytes)) refl
+was_not_so (ended bytes) none fit = go (same_bytes bytes (mended bytes)) refl
   where
     go : (t : Bool) → same_bytes bytes (mended bytes) ≡ t → t ≡ false
-    go true same = absurd (contrary (is_frame bytes) (sym (event-of bytes) ∙ none) (ap is_frame (same_lists bytes (mended bytes) same) ∙ fit))
+    go true same = absurd (contrary (is_frame bytes) (sym (event_of_lem bytes) ∙ none) (ap is_frame (same_lists bytes (mended bytes) same) ∙ fit))
     go false same = refl
-was-not-so (rest bytes) none fit = refl
+was_not_so (rest bytes) none fit = refl
 
 module _ (l : Line) where
-  pub sign-mended : is_event (frame_in l) ≡ false → is_frame (mended (bytes_of l)) ≡ true → mended_sign ≡ sign_of l
+  pub sign_mended : is_event (frame_in l) ≡ false → is_frame (mended (bytes_of l)) ≡ true → mended_sign ≡ sign_of l
   unfolding sign_of
-  sign-mended none fit = rw (not-blank (mended (bytes_of l)) fit, fit, was-not-so l none fit)
+  sign_mended none fit = rw (not_blank (mended (bytes_of l)) fit, fit, was_not_so l none fit)
 
-  pub sign-blank : length (without_cr (bytes_of l)) ≡ 0 → blank_sign ≡ sign_of l
+  pub sign_blank : length (without_cr (bytes_of l)) ≡ 0 → blank_sign ≡ sign_of l
   unfolding sign_of
-  sign-blank none = rw (blank-if-none (bytes_of l) none)
+  sign_blank none = rw (blank_if_none (bytes_of l) none)
 
-  pub sign-unfit : ¬ (length (without_cr (bytes_of l)) ≡ 0) → is_frame (mended (bytes_of l)) ≡ false → unfit_sign ≡ sign_of l
+  pub sign_unfit : ¬ (length (without_cr (bytes_of l)) ≡ 0) → is_frame (mended (bytes_of l)) ≡ false → unfit_sign ≡ sign_of l
   unfolding sign_of
-  sign-unfit some unfit = rw (none-if-blank (bytes_of l) some, unfit)
+  sign_unfit some unfit = rw (none_if_blank (bytes_of l) some, unfit)
 
 -- The same in the words of what the functions answer: the letter and the reason of each sign.
 module _ (line : lent.Line) where
@@ -136,30 +136,30 @@ module _ (line : lent.Line) where
   l = line_of line
 
   pub kept_reason : is_event (frame_in l) ≡ true → None ≡ reason_of l
-  kept_reason frame = no-reason l kept_sign (sign_kept l frame) refl
+  kept_reason frame = no_reason l kept_sign (sign_kept l frame) refl
 
   module _ (none : is_event (frame_in l) ≡ false) (bytes : Bor (List ℕ)) (lent : bytes ≡ bytes_lent line) (fit : is_frame (mended bytes.now) ≡ true) where
     pub mended_letter : mended_sign ≡ sign_of l
-    mended_letter = sign-mended l none (ap (λ (bytes : List ℕ). is_frame (mended bytes)) (sym (bytes-got line bytes lent)) ∙ fit)
+    mended_letter = sign_mended l none (ap (λ (bytes : List ℕ). is_frame (mended bytes)) (sym (bytes_got line bytes lent)) ∙ fit)
 
     pub mended_reason : None ≡ reason_of l
-    mended_reason = no-reason l mended_sign mended_letter refl
+    mended_reason = no_reason l mended_sign mended_letter refl
 
   module _ (bytes : Bor (List ℕ)) (lent : bytes ≡ bytes_lent line) (left : List ℕ) (is : left ≡ without_cr bytes.now) where
     here : left ≡ without_cr (bytes_of l)
-    here = is ∙ ap without_cr (bytes-got line bytes lent)
+    here = is ∙ ap without_cr (bytes_got line bytes lent)
 
     pub blank_letter : eqb (length left) 0 ≡ true → blank_sign ≡ sign_of l
-    blank_letter none = sign-blank l (sym (ap length here) ∙ eqb-true (length left) 0 none)
+    blank_letter none = sign_blank l (sym (ap length here) ∙ eqb-true (length left) 0 none)
 
     pub blank_reason : eqb (length left) 0 ≡ true → None ≡ reason_of l
-    blank_reason none = no-reason l blank_sign (blank_letter none) refl
+    blank_reason none = no_reason l blank_sign (blank_letter none) refl
 
     module _ (some : eqb (length left) 0 ≡ false) (other : is_frame (mended bytes.now) ≡ false) where
       pub unfit_letter : unfit_sign ≡ sign_of l
       unfit_letter =
-          sign-unfit l (λ none. eqb-false (length left) 0 some (ap length here ∙ none))
-          (ap (λ (bytes : List ℕ). is_frame (mended bytes)) (sym (bytes-got line bytes lent)) ∙ other)
+          sign_unfit l (λ none. eqb-false (length left) 0 some (ap length here ∙ none))
+          (ap (λ (bytes : List ℕ). is_frame (mended bytes)) (sym (bytes_got line bytes lent)) ∙ other)
 
       pub unfit_reason : (reason : Reason) → reason ≡ why (map raised left) → Some reason ≡ reason_of l
-      unfit_reason reason given = reason-given l left reason unfit_letter here given
+      unfit_reason reason given = reason_given l left reason unfit_letter here given

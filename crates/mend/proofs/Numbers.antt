@@ -9,18 +9,18 @@ use lib.Dec.{ltb}
 use lib.ListN.{length, length-map}
 use borrow.Author.Tests.{ltb-false, eq-eqb, ne_eqb}
 use Rattle.std.specs.Prelude.{Ok}
-use Rattle.bits.proofs.Logic.{neither, by-test}
+use Rattle.bits.proofs.Logic.{neither, by_test}
 use Rattle.text.specs.Lines.{lines_of, line_count}
-use Rattle.text.proofs.LineCount.{lines-at-most}
+use Rattle.text.proofs.LineCount.{lines_at_most}
 use Rattle.script.specs.Run.{longest_script, too_long, too_long_number, no_room_number}
 use Rattle.mend.specs.declared.Mended.{Mended}
 use Rattle.mend.specs.Line.{sign_of}
 use Rattle.mend.specs.Mend.{clean_of, report_of, mend_number, Outcome, accepted, outcome_by, outcome_of, mend_told, packed, mend_answer, in_front, clean_left, report_left}
 
 -- The report has as many signs as there are lines.
-pub signs-counted : (text : List ℕ) → length (report_of text) ≡ line_count text
+pub signs_counted : (text : List ℕ) → length (report_of text) ≡ line_count text
 unfolding report_of
-signs-counted text = length-map (lines_of text) sign_of
+signs_counted text = length-map (lines_of text) sign_of
 
 -- Where a call is accepted, nothing is too long, and there is room.
 pub record Accepted (text : List ℕ) (clean_room report_room : ℕ) : Type 0 where
@@ -37,12 +37,12 @@ module _ (text : List ℕ) (clean_room report_room : ℕ) where
       go zero = refl
       go (suc n) = rw (ne_eqb (suc n) 0 (λ e. omega (arith, e)))
 
-  pub lengths-are : mend_number text clean_room report_room ≡ 0 → outcome_of text clean_room report_room ≡ accepted text
-  lengths-are none = rw (eq-eqb (mend_number text clean_room report_room) 0 none)
+  pub lengths_are : mend_number text clean_room report_room ≡ 0 → outcome_of text clean_room report_room ≡ accepted text
+  lengths_are none = rw (eq-eqb (mend_number text clean_room report_room) 0 none)
 
-  pub when-accepted : mend_number text clean_room report_room ≡ 0 → Accepted text clean_room report_room
+  pub when_accepted : mend_number text clean_room report_room ≡ 0 → Accepted text clean_room report_room
   unfolding mend_number
-  when-accepted = go (too_long text || too_long (clean_of text)) refl (ltb clean_room (length (clean_of text)) || ltb report_room (line_count text)) refl
+  when_accepted = go (too_long text || too_long (clean_of text)) refl (ltb clean_room (length (clean_of text)) || ltb report_room (line_count text)) refl
     where
       go : (long : Bool) → (too_long text || too_long (clean_of text)) ≡ long
           → (less : Bool) → (ltb clean_room (length (clean_of text)) || ltb report_room (line_count text)) ≡ less
@@ -65,47 +65,47 @@ apart : (o : Outcome) → o.number < 256 → o.clean < 16777216
 apart o few short = (omega (arith, few), omega (arith, few, short), omega (arith, few, short))
 
 module _ (text : List ℕ) (clean_room report_room : ℕ) where
-  small-number : mend_number text clean_room report_room < 256
+  small_number : mend_number text clean_room report_room < 256
   unfolding mend_number
-  small-number =
-      by-test (λ n. n < 256) (too_long text || too_long (clean_of text)) too_long_number _ (λ t. omega arith)
-      (λ t. by-test (λ n. n < 256) (ltb clean_room (length (clean_of text)) || ltb report_room (line_count text)) no_room_number 0
+  small_number =
+      by_test (λ n. n < 256) (too_long text || too_long (clean_of text)) too_long_number _ (λ t. omega arith)
+      (λ t. by_test (λ n. n < 256) (ltb clean_room (length (clean_of text)) || ltb report_room (line_count text)) no_room_number 0
       (λ t. omega arith) (λ t. omega arith))
 
-  short-enough : (outcome_of text clean_room report_room).clean ≤ longest_script
-  short-enough = go (mend_number text clean_room report_room) refl
+  short_enough : (outcome_of text clean_room report_room).clean ≤ longest_script
+  short_enough = go (mend_number text clean_room report_room) refl
     where
       go : (n : ℕ) → mend_number text clean_room report_room ≡ n → (outcome_by n text).clean ≤ longest_script
-      go zero is = (when-accepted text clean_room report_room is).short_clean
+      go zero is = (when_accepted text clean_room report_room is).short_clean
       go (suc n) is = rw (ne_eqb (suc n) 0 (λ e. omega (arith, e))) (omega arith)
 
-  taken-apart : let answer = mend_answer text clean_room report_room in
+  taken_apart : let answer = mend_answer text clean_room report_room in
       let outcome = outcome_of text clean_room report_room in
       (answer % 256 ≡ outcome.number) × (answer / 256 % 16777216 ≡ outcome.clean) × (answer / 4294967296 ≡ outcome.report)
   unfolding mend_answer
-  taken-apart =
+  taken_apart =
       apart (outcome_of text clean_room report_room)
-      (omega (arith, number_is text clean_room report_room, small-number)) (omega (arith, short-enough))
+      (omega (arith, number_is text clean_room report_room, small_number)) (omega (arith, short_enough))
 
-  pub number-answered : mend_answer text clean_room report_room % 256 ≡ mend_number text clean_room report_room
-  number-answered = taken-apart.0 ∙ number_is text clean_room report_room
+  pub number_answered : mend_answer text clean_room report_room % 256 ≡ mend_number text clean_room report_room
+  number_answered = taken_apart.0 ∙ number_is text clean_room report_room
 
   module _ (none : mend_number text clean_room report_room ≡ 0) where
-    pub clean-answered : mend_answer text clean_room report_room / 256 % 16777216 ≡ length (clean_of text)
-    clean-answered = taken-apart.1 ∙ ap (λ (o : Outcome). o.clean) (lengths-are text clean_room report_room none)
+    pub clean_answered : mend_answer text clean_room report_room / 256 % 16777216 ≡ length (clean_of text)
+    clean_answered = taken_apart.1 ∙ ap (λ (o : Outcome). o.clean) (lengths_are text clean_room report_room none)
 
-    pub report-answered : mend_answer text clean_room report_room / 4294967296 ≡ length (report_of text)
-    report-answered = taken-apart.2 ∙ ap (λ (o : Outcome). o.report) (lengths-are text clean_room report_room none)
+    pub report_answered : mend_answer text clean_room report_room / 4294967296 ≡ length (report_of text)
+    report_answered = taken_apart.2 ∙ ap (λ (o : Outcome). o.report) (lengths_are text clean_room report_room none)
 
 -- An answer tells lengths of a clean script and of a report, which are small: there are no more lines than bytes.
-pub told-small : (text : List ℕ) (clean_room report_room : ℕ) (m : Mended) → mend_told (Ok m) ≡ outcome_of text clean_room report_room
+pub told_small : (text : List ℕ) (clean_room report_room : ℕ) (m : Mended) → mend_told (Ok m) ≡ outcome_of text clean_room report_room
     → (m.clean ≤ longest_script) × (m.report ≤ longest_script)
-told-small text clean_room report_room m told =
+told_small text clean_room report_room m told =
     let none = sym (number_is text clean_room report_room) ∙ sym (ap (λ (o : Outcome). o.number) told) in
-    let is = told ∙ lengths-are text clean_room report_room none in
-    let accepted = when-accepted text clean_room report_room none in (
+    let is = told ∙ lengths_are text clean_room report_room none in
+    let accepted = when_accepted text clean_room report_room none in (
       omega (arith, accepted.short_clean, ap (λ (o : Outcome). o.clean) is),
-      omega (arith, accepted.short, ap (λ (o : Outcome). o.report) is, signs-counted text, lines-at-most text),
+      omega (arith, accepted.short, ap (λ (o : Outcome). o.report) is, signs_counted text, lines_at_most text),
     )
 
 -- What a call answers and leaves: where it is refused, its number alone, and both outputs as they were; where it is accepted, both lengths, and

@@ -17,7 +17,7 @@ use Rattle.bits.proofs.Tested.{bits}
 use Rattle.bus.specs.Kinds.{is_kind}
 use Rattle.bus.specs.Answers.{kind_numbered}
 use Rattle.bus.specs.declared.kinds.Kind.{Kind}
-use Rattle.bus.proofs.ByKind.{kind-back, none-back, none_above}
+use Rattle.bus.proofs.ByKind.{kind_back, none_back, none_above}
 use Rattle.text.specs.Digits.{digits, digit_value, no_byte, pair_value}
 use Rattle.text.specs.Lines.{Line}
 use Rattle.text.specs.Frames.{leading_byte}
@@ -50,29 +50,29 @@ all_raised [] = refl
 all_raised (b ∷ bytes) = ap (λ t. is_digit (raised b) && t) (all_raised bytes)
 
 -- A number is that of a kind where a kind is found for it.
-pub kind-found : (n : ℕ) → is_some (kind_numbered n) ≡ is_kind n
-kind-found n = go (kind_numbered n) refl
+pub kind_found : (n : ℕ) → is_some (kind_numbered n) ≡ is_kind n
+kind_found n = go (kind_numbered n) refl
   where
     go : (o : Option Kind) → o ≡ kind_numbered n → is_some o ≡ is_kind n
-    go (Some k) is = sym (kind-back n k is).1
-    go None is = sym (none-back n is)
+    go (Some k) is = sym (kind_back n k is).1
+    go None is = sym (none_back n is)
 
 -- Two codes are the number of a kind where they write a byte, and that is one.
 module _ (high low : ℕ) where
   abbrev written : Option ℕ
   written = if_below no_byte (leading_byte (high ∷ low ∷ []))
 
-  pub number-written : (n : ℕ) → Some n ≡ written → n ≡ pair_value high low
+  pub number_written : (n : ℕ) → Some n ≡ written → n ≡ pair_value high low
   unfolding leading_byte
-  number-written n is = go (ltb (pair_value high low) no_byte) refl is
+  number_written n is = go (ltb (pair_value high low) no_byte) refl is
     where
       go : (t : Bool) → ltb (pair_value high low) no_byte ≡ t → Some n ≡ cond t (Some (pair_value high low)) None → n ≡ pair_value high low
       go true t is = ap (λ o. unwrap_or o 0) is
       go false t is = absurd (none-some n (sym is))
 
-  pub none-written : None ≡ written → is_kind (pair_value high low) ≡ false
+  pub none_written : None ≡ written → is_kind (pair_value high low) ≡ false
   unfolding leading_byte
-  none-written is = go (ltb (pair_value high low) no_byte) refl is
+  none_written is = go (ltb (pair_value high low) no_byte) refl is
     where
       go : (t : Bool) → ltb (pair_value high low) no_byte ≡ t → None ≡ cond t (Some (pair_value high low)) None → is_kind (pair_value high low) ≡ false
       go true t is = absurd (none-some (pair_value high low) is)
@@ -80,11 +80,11 @@ module _ (high low : ℕ) where
 
 -- The reason of a line by its sign.
 module _ (l : Line) where
-  pub no-reason : (sign : ℕ) → sign ≡ sign_of l → eqb sign unfit_sign ≡ false → None ≡ reason_of l
+  pub no_reason : (sign : ℕ) → sign ≡ sign_of l → eqb sign unfit_sign ≡ false → None ≡ reason_of l
   unfolding reason_of
-  no-reason sign is other = rw (← is, other)
+  no_reason sign is other = rw (← is, other)
 
-  pub reason-given : (bytes : List ℕ) (reason : Reason) → unfit_sign ≡ sign_of l → bytes ≡ without_cr (bytes_of l) → reason ≡ why (map raised bytes)
+  pub reason_given : (bytes : List ℕ) (reason : Reason) → unfit_sign ≡ sign_of l → bytes ≡ without_cr (bytes_of l) → reason ≡ why (map raised bytes)
       → Some reason ≡ reason_of l
   unfolding mended reason_of
-  reason-given bytes reason is left given = rw (← is, given, left)
+  reason_given bytes reason is left given = rw (← is, given, left)

@@ -30,9 +30,9 @@ abbrev pub mend_refusal_number : MendRefusal → ℕ
 mend_refusal_number TooLong = too_long_number
 mend_refusal_number NoRoom = no_room_number
 
-pub mend-refusal-never-0 : Never0 mend_refusal_number
-mend-refusal-never-0 TooLong = refl
-mend-refusal-never-0 NoRoom = refl
+pub mend_refusal_never_0 : Never0 mend_refusal_number
+mend_refusal_never_0 TooLong = refl
+mend_refusal_never_0 NoRoom = refl
 
 -- What a call comes to: its number, and both lengths, which are 0 where it is refused.
 pub record Outcome : Type 0 where

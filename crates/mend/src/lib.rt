@@ -2,7 +2,7 @@
 #![tactic(auto)]
 
 ghost use Rattle.std.specs.Prelude.{◌≡◌, length};
-ghost use Rattle.mend.specs.Mend.{mend_refusal_number, mend-refusal-never-0, mend_told, outcome_of, mend_answer, clean_left, report_left};
+ghost use Rattle.mend.specs.Mend.{mend_refusal_number, mend_refusal_never_0, mend_told, outcome_of, mend_answer, clean_left, report_left};
 
 use bus::refusals::Numbered;
 use script::LONGEST;
@@ -32,7 +32,7 @@ pub enum MendRefusal {
 impl Numbered for MendRefusal {
     ghost number_of = { mend_refusal_number };
 
-    ghost never_0 = { mend-refusal-never-0 };
+    ghost never_0 = { mend_refusal_never_0 };
 
     fn number(&self) -> u8 {
         *self as u8

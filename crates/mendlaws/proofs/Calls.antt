@@ -13,7 +13,7 @@ use Rattle.mend.specs.declared.Mended.{Mended as Lengths}
 use Rattle.mend.specs.declared.MendRefusal.{MendRefusal}
 use Rattle.mend.specs.declared.MendRefusal.TheVariants.{TooLong, NoRoom}
 use Rattle.mend.specs.Mend.{clean_of, report_of, mend_number, Outcome, outcome_of, mend_told, in_front, clean_left, report_left}
-use Rattle.mend.proofs.Numbers.{Accepted, signs-counted, number_is, lengths-are, when-accepted, number-answered, clean-answered, report-answered, refused, written}
+use Rattle.mend.proofs.Numbers.{Accepted, signs_counted, number_is, lengths_are, when_accepted, number_answered, clean_answered, report_answered, refused, written}
 use Rattle.mendlaws.specs.Promise.{clean_length, sign_count, clean_text, signs, RefusedWith, Tells}
 
 -- An output with bytes in front, for which there is room.
@@ -24,62 +24,62 @@ module _ (bytes out : List ℕ) where
   behind : drop (length bytes) (in_front bytes out) ≡ drop (length bytes) out
   behind = drop_at bytes (drop (length bytes) out) (length bytes) (λ i. length bytes)
 
-  as-long : length bytes ≤ length out → length (in_front bytes out) ≡ length out
-  as-long fits = length-append bytes (drop (length bytes) out) ∙ omega (arith, length-drop (length bytes) out, fits)
+  as_long_lem : length bytes ≤ length out → length (in_front bytes out) ≡ length out
+  as_long_lem fits = length-append bytes (drop (length bytes) out) ∙ omega (arith, length-drop (length bytes) out, fits)
 
 module _ (text clean report : List ℕ) where
   abbrev pub number : ℕ
   number = mend_number text (length clean) (length report)
 
-  pub refused-with : (n : ℕ) → number ≡ n → ¬ (n ≡ 0) → RefusedWith n text clean report
-  refused-with n is some =
+  pub refused_with : (n : ℕ) → number ≡ n → ¬ (n ≡ 0) → RefusedWith n text clean report
+  refused_with n is some =
       let k = refused text clean report (λ e. some (sym is ∙ e)) in
       (sym k.0 ∙ is, sym k.1, sym k.2)
 
   module _ (none : number ≡ 0) where
     pub fits : Accepted text (length clean) (length report)
-    fits = when-accepted text (length clean) (length report) none
+    fits = when_accepted text (length clean) (length report) none
 
-    clean-length : clean_length text clean report ≡ length (clean_of text)
-    clean-length = clean-answered text (length clean) (length report) none
+    clean_length_lem : clean_length text clean report ≡ length (clean_of text)
+    clean_length_lem = clean_answered text (length clean) (length report) none
 
-    sign-count : sign_count text clean report ≡ length (report_of text)
-    sign-count = report-answered text (length clean) (length report) none
+    sign_count_lem : sign_count text clean report ≡ length (report_of text)
+    sign_count_lem = report_answered text (length clean) (length report) none
 
-    clean-left : clean_left text clean report ≡ in_front (clean_of text) clean
-    clean-left = sym (written text clean report none).1
+    clean_left_lem : clean_left text clean report ≡ in_front (clean_of text) clean
+    clean_left_lem = sym (written text clean report none).1
 
-    report-left : report_left text clean report ≡ in_front (report_of text) report
-    report-left = sym (written text clean report none).2
+    report_left_lem : report_left text clean report ≡ in_front (report_of text) report
+    report_left_lem = sym (written text clean report none).2
 
     pub clean_is : clean_text text clean report ≡ clean_of text
-    clean_is = (λ i. take (clean-length i) (clean-left i)) ∙ front (clean_of text) clean
+    clean_is = (λ i. take (clean_length_lem i) (clean_left_lem i)) ∙ front (clean_of text) clean
 
-    pub signs-are : signs text clean report ≡ report_of text
-    signs-are = (λ i. take (sign-count i) (report-left i)) ∙ front (report_of text) report
+    pub signs_are : signs text clean report ≡ report_of text
+    signs_are = (λ i. take (sign_count_lem i) (report_left_lem i)) ∙ front (report_of text) report
 
-    pub clean-written : length (clean_text text clean report) ≡ clean_length text clean report
-    clean-written = ap length clean_is ∙ sym clean-length
+    pub clean_written_lem : length (clean_text text clean report) ≡ clean_length text clean report
+    clean_written_lem = ap length clean_is ∙ sym clean_length_lem
 
-    pub signs-written : length (signs text clean report) ≡ sign_count text clean report
-    signs-written = ap length signs-are ∙ sym sign-count
+    pub signs_written_lem : length (signs text clean report) ≡ sign_count text clean report
+    signs_written_lem = ap length signs_are ∙ sym sign_count_lem
 
-    pub one-each : sign_count text clean report ≡ line_count text
-    one-each = sign-count ∙ signs-counted text
+    pub one_each_lem : sign_count text clean report ≡ line_count text
+    one_each_lem = sign_count_lem ∙ signs_counted text
 
-    pub clean-as-long : length (clean_left text clean report) ≡ length clean
-    clean-as-long = ap length clean-left ∙ as-long (clean_of text) clean fits.clean_fits
+    pub clean_as_long_lem : length (clean_left text clean report) ≡ length clean
+    clean_as_long_lem = ap length clean_left_lem ∙ as_long_lem (clean_of text) clean fits.clean_fits
 
-    pub report-as-long : length (report_left text clean report) ≡ length report
-    report-as-long = ap length report-left ∙ as-long (report_of text) report (omega (arith, fits.report_fits, signs-counted text))
+    pub report_as_long_lem : length (report_left text clean report) ≡ length report
+    report_as_long_lem = ap length report_left_lem ∙ as_long_lem (report_of text) report (omega (arith, fits.report_fits, signs_counted text))
 
-    pub clean-behind : drop (clean_length text clean report) (clean_left text clean report) ≡ drop (clean_length text clean report) clean
-    clean-behind =
-        (λ i. drop (clean-length i) (clean-left i)) ∙ behind (clean_of text) clean ∙ ap (λ (n : ℕ). drop n clean) (sym clean-length)
+    pub clean_behind_lem : drop (clean_length text clean report) (clean_left text clean report) ≡ drop (clean_length text clean report) clean
+    clean_behind_lem =
+        (λ i. drop (clean_length_lem i) (clean_left_lem i)) ∙ behind (clean_of text) clean ∙ ap (λ (n : ℕ). drop n clean) (sym clean_length_lem)
 
-    pub report-behind : drop (sign_count text clean report) (report_left text clean report) ≡ drop (sign_count text clean report) report
-    report-behind =
-        (λ i. drop (sign-count i) (report-left i)) ∙ behind (report_of text) report ∙ ap (λ (n : ℕ). drop n report) (sym sign-count)
+    pub report_behind_lem : drop (sign_count text clean report) (report_left text clean report) ≡ drop (sign_count text clean report) report
+    report_behind_lem =
+        (λ i. drop (sign_count_lem i) (report_left_lem i)) ∙ behind (report_of text) report ∙ ap (λ (n : ℕ). drop n report) (sym sign_count_lem)
 
 -- What the call of Rattle tells, the call for C answers.
 pub tells : (text clean report : List ℕ) (r : Result Lengths MendRefusal) → mend_told r ≡ outcome_of text (length clean) (length report) → Tells text clean report r
@@ -89,10 +89,10 @@ tells text clean report r told = go r told (ap (λ (o : Outcome). o.number) told
         → (mend_told r).number ≡ number text clean report → Tells text clean report r
     go (Ok m) told zero =
         let none = sym zero in
-        let is = told ∙ lengths-are text (length clean) (length report) none in (
-          number-answered text (length clean) (length report) ∙ none,
-          clean-answered text (length clean) (length report) none ∙ sym (ap (λ (o : Outcome). o.clean) is),
-          report-answered text (length clean) (length report) none ∙ sym (ap (λ (o : Outcome). o.report) is),
+        let is = told ∙ lengths_are text (length clean) (length report) none in (
+          number_answered text (length clean) (length report) ∙ none,
+          clean_answered text (length clean) (length report) none ∙ sym (ap (λ (o : Outcome). o.clean) is),
+          report_answered text (length clean) (length report) none ∙ sym (ap (λ (o : Outcome). o.report) is),
         )
-    go (Err TooLong) told six = (refused-with text clean report 6 (sym six) (λ e. omega (arith, e))).0
-    go (Err NoRoom) told seven = (refused-with text clean report 7 (sym seven) (λ e. omega (arith, e))).0
+    go (Err TooLong) told six = (refused_with text clean report 6 (sym six) (λ e. omega (arith, e))).0
+    go (Err NoRoom) told seven = (refused_with text clean report 7 (sym seven) (λ e. omega (arith, e))).0

@@ -10,6 +10,6 @@ use Rattle.mend.specs.Line.{without_cr, raised, mended, sign_of, clean_line}
 use Rattle.mend.specs.Mend.{clean_of, report_of, mend_number, mend_answer, clean_left, report_left}
 use Rattle.mendlaws.specs.Example.{a_capture, all_of, given, said}
 
-pub mended-so : given (all_of a_capture) ≡ said
+pub mended_so : given (all_of a_capture) ≡ said
 unfolding flat_map is_kind operands_of digit_value pair_value lines_of leading_byte is_frame without_cr raised mended sign_of clean_line clean_of report_of mend_number mend_answer clean_left report_left
-mended-so = refl
+mended_so = refl

@@ -14,14 +14,14 @@ use Rattle.mend.specs.Mend.{clean_of}
 use Rattle.mend.proofs.Cleaning.{clean_in}
 use Rattle.mendlaws.specs.Promise.{RefusedWith}
 use Rattle.mendlaws.specs.Longest.{ends_before, fit_rest, lacks_one_lf}
-use Rattle.mendlaws.proofs.Calls.{refused-with}
-use Rattle.mendlaws.proofs.Mended.{long-clean}
+use Rattle.mendlaws.proofs.Calls.{refused_with}
+use Rattle.mendlaws.proofs.Mended.{long_clean}
 
 -- Each line 02 is three bytes of the text, and of its clean form.
-bytes-before : (n : ℕ) (text : List ℕ) → length (ends_before n text) ≡ 3 * n + length text
+bytes_before : (n : ℕ) (text : List ℕ) → length (ends_before n text) ≡ 3 * n + length text
 unfolding ends_before
-bytes-before zero text = omega arith
-bytes-before (suc n) text = omega (arith, bytes-before n text)
+bytes_before zero text = omega arith
+bytes_before (suc n) text = omega (arith, bytes_before n text)
 
 abbrev end : List ℕ
 end = 48 ∷ 50 ∷ []
@@ -30,23 +30,23 @@ three : length (clean_line end) ≡ 3
 unfolding is_kind operands_of digit_value pair_value leading_byte is_frame without_cr raised mended clean_line
 three = refl
 
-clean-before : (n : ℕ) (text : List ℕ) → length (clean_of (ends_before n text)) ≡ 3 * n + length (clean_of text)
+clean_before : (n : ℕ) (text : List ℕ) → length (clean_of (ends_before n text)) ≡ 3 * n + length (clean_of text)
 unfolding ends_before lines_of flat_map clean_of
-clean-before zero text = omega arith
-clean-before (suc n) text =
-    omega (arith, three, clean-before n text, length-append (clean_line end) (flat_map clean_in (lines_of (ends_before n text))))
+clean_before zero text = omega arith
+clean_before (suc n) text =
+    omega (arith, three, clean_before n text, length-append (clean_line end) (flat_map clean_in (lines_of (ends_before n text))))
 
 five : length (clean_of fit_rest) ≡ 5
 unfolding flat_map is_kind operands_of digit_value pair_value lines_of leading_byte is_frame without_cr raised mended clean_line clean_of
 five = refl
 
-pub as-long-as-may-be : length lacks_one_lf ≡ 4096
+pub as_long_as_may_be : length lacks_one_lf ≡ 4096
 unfolding lacks_one_lf
-as-long-as-may-be = omega (arith, bytes-before 1364 fit_rest)
+as_long_as_may_be = omega (arith, bytes_before 1364 fit_rest)
 
-one-more : 4096 < length (clean_of lacks_one_lf)
+one_more_lem : 4096 < length (clean_of lacks_one_lf)
 unfolding lacks_one_lf
-one-more = omega (arith, clean-before 1364 fit_rest, five)
+one_more_lem = omega (arith, clean_before 1364 fit_rest, five)
 
-pub refused-then : (clean report : List ℕ) → RefusedWith 6 lacks_one_lf clean report
-refused-then clean report = refused-with lacks_one_lf clean report 6 (long-clean lacks_one_lf clean report one-more) (λ e. omega (arith, e))
+pub refused_then : (clean report : List ℕ) → RefusedWith 6 lacks_one_lf clean report
+refused_then clean report = refused_with lacks_one_lf clean report 6 (long_clean lacks_one_lf clean report one_more_lem) (λ e. omega (arith, e))

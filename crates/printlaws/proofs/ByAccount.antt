@@ -15,12 +15,12 @@ use Rattle.printlaws.specs.ByAccount.{accounted_lines, listed_scripts}
 
 pub by_account : (device : Device) (text : List ℕ) → length text ≤ 4096 → printed device text ≡ accounted_lines device (history_of text)
 unfolding printed printed_by
-by_account I8255A text short = rw (le-ltb 4096 (length text) short) (account.answered-by Older text)
-by_account I82C55A text short = rw (le-ltb 4096 (length text) short) (account.answered-by Newer text)
-by_account I8355 text short = rw (le-ltb 4096 (length text) short) (ports.answered-by text)
+by_account I8255A text short = rw (le-ltb 4096 (length text) short) (account.answered_by Older text)
+by_account I82C55A text short = rw (le-ltb 4096 (length text) short) (account.answered_by Newer text)
+by_account I8355 text short = rw (le-ltb 4096 (length text) short) (ports.answered_by text)
 
 pub as_listed : (device : Device) → answered (printed device) (listed_scripts device) ≡ listed (listed_scripts device)
 unfolding printed printed_by
-as_listed I8255A = texts.texts-answered Older
-as_listed I82C55A = texts.texts-answered Newer
-as_listed I8355 = ports.texts-answered
+as_listed I8255A = texts.texts_answered Older
+as_listed I82C55A = texts.texts_answered Newer
+as_listed I8355 = ports.texts_answered

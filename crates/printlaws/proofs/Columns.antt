@@ -12,34 +12,34 @@ use Rattle.rack.specs.State.{chip_at}
 use Rattle.rack.specs.Targets.{is_place}
 use Rattle.rack.specs.Step.{Stepped}
 use Rattle.script.specs.Answers.{levels_from, all_levels, line_text, line_after, answers_from}
-use Rattle.script.proofs.Levels.{all-length, line-length}
+use Rattle.script.proofs.Levels.{all_length, line_length}
 use Rattle.script.specs.RackFrames.{RackFrame, Event, NoFrame, rack_frame_in}
-use Rattle.script.specs.RackAnswers.{as_given, acted, count-kept, answering}
-use Rattle.script.proofs.RackShown.{shows-cards}
+use Rattle.script.specs.RackAnswers.{as_given, acted, count_kept, answering}
+use Rattle.script.proofs.RackShown.{shows_cards}
 use Rattle.printlaws.specs.Digits.{two_digits}
 use Rattle.printlaws.specs.Columns.{stepped_by, step_at, column, AnswerLine, Answers, none, next}
 
-pub same-digits : (b : ℕ) → in_digits b ≡ two_digits b
+pub same_digits : (b : ℕ) → in_digits b ≡ two_digits b
 unfolding digit_code
-same-digits b = refl
+same_digits b = refl
 
-same-step : (r : Rack) (f : RackFrame) → acted r f ≡ as_given (stepped_by r f)
+same_step : (r : Rack) (f : RackFrame) → acted r f ≡ as_given (stepped_by r f)
 unfolding acted
-same-step r (Event k x y z) = refl
-same-step r NoFrame = refl
+same_step r (Event k x y z) = refl
+same_step r NoFrame = refl
 
 -- The levels of a port stand where they should, among those of n cards from card i on.
-levels-at : (r : Rack) (rest : List ℕ) (n i place at port : ℕ) → at ≡ place + i → place < n → port < 3
+levels_at_lem : (r : Rack) (rest : List ℕ) (n i place at port : ℕ) → at ≡ place + i → place < n → port < 3
     → column (6 * place + 2 * port) (levels_from answering r i n ++ rest) ≡ in_digits (answering.levels r at port)
 unfolding levels_from
-levels-at r rest zero i place at port same there is = absurd (omega (arith, there))
-levels-at r rest (suc n) i zero at zero same there is = let first : at ≡ i = omega (arith, same) in rw (first) refl
-levels-at r rest (suc n) i zero at (suc zero) same there is = let first : at ≡ i = omega (arith, same) in rw (first) refl
-levels-at r rest (suc n) i zero at (suc (suc zero)) same there is = let first : at ≡ i = omega (arith, same) in rw (first) refl
-levels-at r rest (suc n) i zero at (suc (suc (suc p))) same there is = absurd (omega (arith, is))
-levels-at r rest (suc n) i (suc place) at port same there is =
+levels_at_lem r rest zero i place at port same there is = absurd (omega (arith, there))
+levels_at_lem r rest (suc n) i zero at zero same there is = let first : at ≡ i = omega (arith, same) in rw (first) refl
+levels_at_lem r rest (suc n) i zero at (suc zero) same there is = let first : at ≡ i = omega (arith, same) in rw (first) refl
+levels_at_lem r rest (suc n) i zero at (suc (suc zero)) same there is = let first : at ≡ i = omega (arith, same) in rw (first) refl
+levels_at_lem r rest (suc n) i zero at (suc (suc (suc p))) same there is = absurd (omega (arith, is))
+levels_at_lem r rest (suc n) i (suc place) at port same there is =
     let behind : 6 * suc place + 2 * port ≡ suc (suc (suc (suc (suc (suc (6 * place + 2 * port)))))) = omega arith in
-    rw (behind) (levels-at r rest n (suc i) place at port (omega (arith, same)) (omega (arith, there)) is)
+    rw (behind) (levels_at_lem r rest n (suc i) place at port (omega (arith, same)) (omega (arith, there)) is)
 
 module _ (given : Stepped) (few : given.rack.count ≤ 8) where
   abbrev line : List ℕ
@@ -54,28 +54,28 @@ module _ (given : Stepped) (few : given.rack.count ≤ 8) where
   ports place port there is =
       let behind : 4 + 6 * place + 2 * port ≡ suc (suc (suc (suc (6 * place + 2 * port)))) = omega arith in
       let shown : answering.levels given.rack place port ≡ (pins_of (chip_at given.rack place) port).levels =
-      shows-cards given.rack place port (rw (lt-ltb place given.rack.count there, lt-ltb place 8 (omega (arith, there, few)))) in
-      rw (behind) (levels-at given.rack (lf ∷ []) given.rack.count 0 place place port (omega arith) there is) ∙ ap in_digits shown ∙ same-digits _
+      shows_cards given.rack place port (rw (lt-ltb place given.rack.count there, lt-ltb place 8 (omega (arith, there, few)))) in
+      rw (behind) (levels_at_lem given.rack (lf ∷ []) given.rack.count 0 place place port (omega arith) there is) ∙ ap in_digits shown ∙ same_digits _
 
   ended : drop (4 + 6 * given.rack.count) line ≡ lf ∷ []
   unfolding line_text
   ended =
       let behind : 4 + 6 * given.rack.count ≡ suc (suc (suc (suc (6 * given.rack.count)))) = omega arith in
-      rw (behind) (drop_at levels (lf ∷ []) (6 * given.rack.count) (all-length answering given.rack))
+      rw (behind) (drop_at levels (lf ∷ []) (6 * given.rack.count) (all_length answering given.rack))
 
-  pub line-of-columns : AnswerLine line given
+  pub line_of_columns : AnswerLine line given
   unfolding line_text
-  line-of-columns = record {
-    number = same-digits given.number;
-    byte = same-digits given.byte;
+  line_of_columns = record {
+    number = same_digits given.number;
+    byte = same_digits given.byte;
     ports = ports;
     ended = ended;
-    width = line-length answering (as_given given) ∙ omega arith;
+    width = line_length answering (as_given given) ∙ omega arith;
   }
 
-pub in-columns : (ls : List Line) (r : Rack) → r.count ≤ 8 → Answers r ls (answers_from answering r ls)
+pub in_columns : (ls : List Line) (r : Rack) → r.count ≤ 8 → Answers r ls (answers_from answering r ls)
 unfolding answers_from
-in-columns [] r few = none
-in-columns (l ∷ ls) r few =
-    let kept : (step_at r l).rack.count ≤ 8 = omega (arith, few, count-kept r (rack_frame_in l), ap (λ (g : Given Rack). g.state.count) (same-step r (rack_frame_in l))) in
-    rw (same-step r (rack_frame_in l)) (next (line-of-columns (step_at r l) kept) (in-columns ls (step_at r l).rack kept))
+in_columns [] r few = none
+in_columns (l ∷ ls) r few =
+    let kept : (step_at r l).rack.count ≤ 8 = omega (arith, few, count_kept r (rack_frame_in l), ap (λ (g : Given Rack). g.state.count) (same_step r (rack_frame_in l))) in
+    rw (same_step r (rack_frame_in l)) (next (line_of_columns (step_at r l) kept) (in_columns ls (step_at r l).rack kept))

@@ -8,46 +8,46 @@ use Rattle.bits.proofs.Logic.{contrary, both}
 use Rattle.bits.proofs.Tested.{bits}
 use Rattle.text.specs.Digits.{digits, digit_code, pair_value, no_byte}
 use Rattle.text.specs.Lines.{lf, Line, ended, rest, before_lines, lines_of}
-use Rattle.text.proofs.WrittenBack.{pair-back}
+use Rattle.text.proofs.WrittenBack.{pair_back}
 use Rattle.rack.specs.Bases.{is_base, is_among, are_bases, makes_rack}
 use Rattle.rack.specs.State.{rack_of, built_of}
-use Rattle.racklaws.proofs.Building.{made-good, good-made, built-good}
+use Rattle.racklaws.proofs.Building.{made_good, good_made, built_good}
 use Rattle.script.specs.RackBases.{base_of, leading_base, bases_of_line, no_rack, rack_of_line, rack_for, further_lines}
 use Rattle.script.specs.RackRun.{names_rack, to_answer}
-use Rattle.script.proofs.RackWritten.{in_four, in_fours, bases-written}
+use Rattle.script.proofs.RackWritten.{in_four, in_fours, bases_written}
 use Rattle.prints.specs.Printed.{printed_of_rack}
 use Rattle.printlaws.specs.NamesRack.{written, NamesRack}
 use Rattle.printlaws.specs.Columns.{Answers}
-use Rattle.printlaws.proofs.Columns.{in-columns}
+use Rattle.printlaws.proofs.Columns.{in_columns}
 
 -- Bases in these digits are bases in those of the rack's own words.
-same-written : (bs : List ℕ) → in_fours bs ≡ written bs
+same_written : (bs : List ℕ) → in_fours bs ≡ written bs
 unfolding digit_code
-same-written [] = refl
-same-written (b ∷ bs) = ap (λ (later : List ℕ). in_four b ++ later) (same-written bs)
+same_written [] = refl
+same_written (b ∷ bs) = ap (λ (later : List ℕ). in_four b ++ later) (same_written bs)
 
 -- No digit is LF.
-no-lf : (n : ℕ) → eqb (digit_code n) lf ≡ false
+no_lf : (n : ℕ) → eqb (digit_code n) lf ≡ false
 unfolding digit_code
-no-lf n = bits 16 (λ k. eqb (get_or digits k 0) lf) (λ k. false) tt (n % 16) (omega arith)
+no_lf n = bits 16 (λ k. eqb (get_or digits k 0) lf) (λ k. false) tt (n % 16) (omega arith)
 
 -- A byte that is no LF, set before a text, stands before its first line.
-one-before : (b : ℕ) (text bytes : List ℕ) (ls : List Line) → eqb b lf ≡ false → lines_of text ≡ ended bytes ∷ ls
+one_before : (b : ℕ) (text bytes : List ℕ) (ls : List Line) → eqb b lf ≡ false → lines_of text ≡ ended bytes ∷ ls
     → lines_of (b ∷ text) ≡ ended (b ∷ bytes) ∷ ls
 unfolding lines_of
-one-before b text bytes ls other is = rw (other, is) refl
+one_before b text bytes ls other is = rw (other, is) refl
 
-first-line : (bs further : List ℕ) → lines_of (in_fours bs ++ lf ∷ further) ≡ ended (in_fours bs) ∷ lines_of further
+first_line_lem : (bs further : List ℕ) → lines_of (in_fours bs ++ lf ∷ further) ≡ ended (in_fours bs) ∷ lines_of further
 unfolding lines_of
-first-line [] further = refl
-first-line (b ∷ bs) further =
+first_line_lem [] further = refl
+first_line_lem (b ∷ bs) further =
     let later : List ℕ = in_fours bs ++ lf ∷ further in
     let fourth = digit_code (b % 256) in
     let third = digit_code (b % 256 / 16) in
     let second = digit_code (b / 256) in
-    one-before _ (second ∷ third ∷ fourth ∷ later) _ _ (no-lf (b / 256 / 16))
-    (one-before _ (third ∷ fourth ∷ later) _ _ (no-lf (b / 256))
-    (one-before _ (fourth ∷ later) _ _ (no-lf (b % 256 / 16)) (one-before _ later _ _ (no-lf (b % 256)) (first-line bs further))))
+    one_before _ (second ∷ third ∷ fourth ∷ later) _ _ (no_lf (b / 256 / 16))
+    (one_before _ (third ∷ fourth ∷ later) _ _ (no_lf (b / 256))
+    (one_before _ (fourth ∷ later) _ _ (no_lf (b % 256 / 16)) (one_before _ later _ _ (no_lf (b % 256)) (first_line_lem bs further))))
 
 -- A text begins with a line that ends, or it has none, or one without LF.
 record Begins (text : List ℕ) : Type 0 where
@@ -61,10 +61,10 @@ Torn [] = Unit {0}
 Torn (ended bytes ∷ ls) = ⊥
 Torn (rest bytes ∷ ls) = Unit {0}
 
-torn-before : (b : ℕ) (ls : List Line) → Torn ls → Torn (before_lines b ls)
-torn-before b [] t = tt
-torn-before b (ended bytes ∷ ls) t = absurd t
-torn-before b (rest bytes ∷ ls) t = tt
+torn_before : (b : ℕ) (ls : List Line) → Torn ls → Torn (before_lines b ls)
+torn_before b [] t = tt
+torn_before b (ended bytes ∷ ls) t = absurd t
+torn_before b (rest bytes ∷ ls) t = tt
 
 begins : (text : List ℕ) → Begins text ⊎ Torn (lines_of text)
 unfolding lines_of
@@ -77,44 +77,44 @@ begins (b ∷ text) = go (eqb b lf) refl (begins text)
       bytes = b ∷ k.bytes;
       further = k.further;
       whole = ap (λ (later : List ℕ). b ∷ later) k.whole;
-      lines = one-before b text k.bytes (lines_of k.further) is k.lines;
+      lines = one_before b text k.bytes (lines_of k.further) is k.lines;
     })
-    go false is (inr torn) = inr (rw (is) (torn-before b (lines_of text) torn))
+    go false is (inr torn) = inr (rw (is) (torn_before b (lines_of text) torn))
 
-none-named : (ls : List Line) → Torn ls → rack_for ls ≡ no_rack
+none_named_lem : (ls : List Line) → Torn ls → rack_for ls ≡ no_rack
 unfolding rack_for rack_of_line
-none-named [] t = refl
-none-named (ended bytes ∷ ls) t = absurd t
-none-named (rest bytes ∷ ls) t = refl
+none_named_lem [] t = refl
+none_named_lem (ended bytes ∷ ls) t = absurd t
+none_named_lem (rest bytes ∷ ls) t = refl
 
 -- Codes of which the bases are bases are these, written.
-written-base : (a b c d : ℕ) → is_base (base_of (pair_value a b) (pair_value c d)) ≡ true → in_four (base_of (pair_value a b) (pair_value c d)) ≡ a ∷ b ∷ c ∷ d ∷ []
+written_base : (a b c d : ℕ) → is_base (base_of (pair_value a b) (pair_value c d)) ≡ true → in_four (base_of (pair_value a b) (pair_value c d)) ≡ a ∷ b ∷ c ∷ d ∷ []
 unfolding is_base base_of
-written-base a b c d e = go (ltb (pair_value a b) no_byte && ltb (pair_value c d) no_byte) refl
+written_base a b c d e = go (ltb (pair_value a b) no_byte && ltb (pair_value c d) no_byte) refl
   where
     go : (t : Bool) → (ltb (pair_value a b) no_byte && ltb (pair_value c d) no_byte) ≡ t
         → in_four (base_of (pair_value a b) (pair_value c d)) ≡ a ∷ b ∷ c ∷ d ∷ []
     go false t = absurd (contrary false refl (rw (t) at e))
     go true t =
         let k = both (ltb (pair_value a b) no_byte) (ltb (pair_value c d) no_byte) t in
-        let high = pair-back a b (ltb-true (pair_value a b) no_byte k.0) in
-        let low = pair-back c d (ltb-true (pair_value c d) no_byte k.1) in
+        let high = pair_back a b (ltb-true (pair_value a b) no_byte k.0) in
+        let low = pair_back c d (ltb-true (pair_value c d) no_byte k.1) in
         let above : (pair_value c d + 256 * pair_value a b) / 256 ≡ pair_value a b = omega (arith, ltb-true (pair_value c d) no_byte k.1) in
         let below : (pair_value c d + 256 * pair_value a b) % 256 ≡ pair_value c d = omega (arith, ltb-true (pair_value c d) no_byte k.1) in
         rw (t, above, below, high.0, high.1, low.0, low.1) refl
 
-written-back : (bytes : List ℕ) → are_bases (bases_of_line bytes) ≡ true → in_fours (bases_of_line bytes) ≡ bytes
+written_back : (bytes : List ℕ) → are_bases (bases_of_line bytes) ≡ true → in_fours (bases_of_line bytes) ≡ bytes
 unfolding is_base are_bases bases_of_line leading_base
-written-back [] e = refl
-written-back (a ∷ []) e = absurd (contrary false refl e)
-written-back (a ∷ b ∷ []) e = absurd (contrary false refl e)
-written-back (a ∷ b ∷ c ∷ []) e = absurd (contrary false refl e)
-written-back (a ∷ b ∷ c ∷ d ∷ later) e =
+written_back [] e = refl
+written_back (a ∷ []) e = absurd (contrary false refl e)
+written_back (a ∷ b ∷ []) e = absurd (contrary false refl e)
+written_back (a ∷ b ∷ c ∷ []) e = absurd (contrary false refl e)
+written_back (a ∷ b ∷ c ∷ d ∷ later) e =
     let base = base_of (pair_value a b) (pair_value c d) in
     let bases = bases_of_line later in
     let k = both (is_base base) (not (is_among base bases) && are_bases bases) e in
-    ap₂ (λ (front later : List ℕ). front ++ later) (written-base a b c d k.0)
-    (written-back later (both (not (is_among base bases)) (are_bases bases) k.1).1)
+    ap₂ (λ (front later : List ℕ). front ++ later) (written_base a b c d k.0)
+    (written_back later (both (not (is_among base bases)) (are_bases bases) k.1).1)
 
 -- Where some bases make a rack that is built, they make a rack.
 made : (bs : List ℕ) → is_ok (built_of bs) ≡ true → makes_rack bs ≡ true
@@ -127,9 +127,9 @@ made bs e = go (makes_rack bs) refl
 
 module _ (text : List ℕ) where
   -- A text whose first line makes a rack is written so.
-  pub names-rack : names_rack text ≡ true → NamesRack text
+  pub names_rack_lem : names_rack text ≡ true → NamesRack text
   unfolding rack_for rack_of_line makes_rack
-  names-rack e = go (begins text)
+  names_rack_lem e = go (begins text)
     where
       go : Begins text ⊎ Torn (lines_of text) → NamesRack text
       go (inl k) =
@@ -137,14 +137,14 @@ module _ (text : List ℕ) where
           let is : makes_rack bases ≡ true = made bases (rw (k.lines) at e) in
           record {
             bases = bases;
-            good = made-good bases is;
+            good = made_good bases is;
             further = k.further;
             first_line =
                 k.whole
                 ∙ ap (λ (front : List ℕ). front ++ lf ∷ k.further)
-                (sym (written-back k.bytes (both (leb (length bases) 8) (are_bases bases) is).1) ∙ same-written bases);
+                (sym (written_back k.bytes (both (leb (length bases) 8) (are_bases bases) is).1) ∙ same_written bases);
           }
-      go (inr torn) = absurd (contrary false refl (rw (none-named (lines_of text) torn) at e))
+      go (inr torn) = absurd (contrary false refl (rw (none_named_lem (lines_of text) torn) at e))
 
   module _ (short : length text ≤ 4096) where
     pub others_print_09 : ¬ NamesRack text → printed_of_rack text ≡ 0x30 ∷ 0x39 ∷ 0x0a ∷ []
@@ -152,21 +152,21 @@ module _ (text : List ℕ) where
     others_print_09 none = go (names_rack text) refl
       where
         go : (t : Bool) → names_rack text ≡ t → printed_of_rack text ≡ 0x30 ∷ 0x39 ∷ 0x0a ∷ []
-        go true e = absurd (none (names-rack e))
+        go true e = absurd (none (names_rack_lem e))
         go false e = rw (le-ltb 4096 (length text) short, e) refl
 
     module _ (named : NamesRack text) where
       lines : lines_of text ≡ ended (in_fours named.bases) ∷ lines_of named.further
       lines =
-          ap lines_of (named.first_line ∙ ap (λ (front : List ℕ). front ++ lf ∷ named.further) (sym (same-written named.bases)))
-          ∙ first-line named.bases named.further
+          ap lines_of (named.first_line ∙ ap (λ (front : List ℕ). front ++ lf ∷ named.further) (sym (same_written named.bases)))
+          ∙ first_line_lem named.bases named.further
 
       built : rack_for (lines_of text) ≡ Ok (rack_of named.bases)
       unfolding rack_for rack_of_line makes_rack
       built =
           let bases = named.bases in
-          let is = both (leb (length bases) 8) (are_bases bases) (good-made bases named.good) in
-          rw (lines, bases-written bases is.1) (built-good bases named.good)
+          let is = both (leb (length bases) 8) (are_bases bases) (good_made bases named.good) in
+          rw (lines, bases_written bases is.1) (built_good bases named.good)
 
       behind : to_answer text ≡ lines_of named.further
       unfolding further_lines
@@ -174,4 +174,4 @@ module _ (text : List ℕ) where
 
       pub columns_printed : Answers (rack_of named.bases) (lines_of named.further) (printed_of_rack text)
       unfolding printed_of_rack rack_of
-      columns_printed = rw (le-ltb 4096 (length text) short, built, behind) (in-columns (lines_of named.further) (rack_of named.bases) named.good.few)
+      columns_printed = rw (le-ltb 4096 (length text) short, built, behind) (in_columns (lines_of named.further) (rack_of named.bases) named.good.few)

@@ -17,12 +17,12 @@ among_any b (c ∷ cs) = rw (turned c b, among_any b cs)
 abbrev pub behind_first : List ℕ → List ℕ
 behind_first bases = take (length bases - 1) (drop 1 bases)
 
-pub first-and-later : (bases : List ℕ) → 1 ≤ length bases → (base again : Bool)
+pub first_and_later : (bases : List ℕ) → 1 ≤ length bases → (base again : Bool)
     → base ≡ is_base (get_or bases 0 0) → again ≡ list_any (λ c. eqb c (get_or bases 0 0)) (behind_first bases)
     → are_bases bases ≡ (base && (not again && are_bases (behind_first bases)))
 unfolding are_bases
-first-and-later [] some base again is comes = absurd (omega (arith, some))
-first-and-later (b ∷ bs) some base again is comes = rw (comes, is, take_rest (b ∷ bs) 1, among_any b bs) refl
+first_and_later [] some base again is comes = absurd (omega (arith, some))
+first_and_later (b ∷ bs) some base again is comes = rw (comes, is, take_rest (b ∷ bs) 1, among_any b bs) refl
 
 -- Bases that make a rack are at most eight.
 pub few : (bs : List ℕ) → makes_rack bs ≡ true → length bs ≤ most_cards

@@ -16,13 +16,13 @@ use Rattle.rack.specs.Bases.{most_cards, card_width}
 use Rattle.rack.specs.Targets.{answers_at, register_at, target_from, bases_in}
 
 -- Where it answers, the address is not before the base.
-pub not-before : (base address : ℕ) → answers_at base address ≡ true → base ≤ address
+pub not_before : (base address : ℕ) → answers_at base address ≡ true → base ≤ address
 unfolding answers_at
-not-before base address e = leb-true _ _ (both (leb base address) (ltb address (base + card_width)) e).0
+not_before base address e = leb-true _ _ (both (leb base address) (ltb address (base + card_width)) e).0
 
 -- The bases up to the count, and at most eight, are those of the cards that there are.
-pub in-rack : (count : ℕ) (bases : List ℕ) → take (min count most_cards) bases ≡ bases_in count bases
-in-rack count bases = go (ltb count most_cards) refl
+pub in_rack : (count : ℕ) (bases : List ℕ) → take (min count most_cards) bases ≡ bases_in count bases
+in_rack count bases = go (ltb count most_cards) refl
   where
     go : (t : Bool) → ltb count most_cards ≡ t → take (min count most_cards) bases ≡ bases_in count bases
     go true few =
@@ -33,18 +33,18 @@ in-rack count bases = go (ltb count most_cards) refl
         rw (full) (sym (take-take most_cards count bases (ltb-false count most_cards many)))
 
 -- The first that answers, of cards at the places from i on; or none does.
-pub at-first : (address : ℕ) (bases : List ℕ) (i place : ℕ) {found : ℕ} → found ≡ i + place → place < length bases → answers_at (get_or bases place 0) address ≡ true
+pub at_first : (address : ℕ) (bases : List ℕ) (i place : ℕ) {found : ℕ} → found ≡ i + place → place < length bases → answers_at (get_or bases place 0) address ≡ true
     → ((k : ℕ) → k < place → answers_at (get_or bases k 0) address ≡ false)
     → target_from i bases address ≡ Some (found, register_at (get_or bases place 0) address)
 unfolding target_from
-at-first address [] i place at there is before = absurd (omega (arith, there))
-at-first address (b ∷ bs) i zero at there is before = rw (is, at, add-zero i) refl
-at-first address (b ∷ bs) i (suc place) at there is before =
+at_first address [] i place at there is before = absurd (omega (arith, there))
+at_first address (b ∷ bs) i zero at there is before = rw (is, at, add-zero i) refl
+at_first address (b ∷ bs) i (suc place) at there is before =
     rw (before 0 (omega arith))
-    (at-first address bs (suc i) place (omega (arith, at)) (omega (arith, there)) is (λ k h. before (suc k) (omega (arith, h))))
+    (at_first address bs (suc i) place (omega (arith, at)) (omega (arith, there)) is (λ k h. before (suc k) (omega (arith, h))))
 
-pub at-none : (address : ℕ) (bases : List ℕ) (i : ℕ) → ((k : ℕ) → k < length bases → answers_at (get_or bases k 0) address ≡ false)
+pub at_none : (address : ℕ) (bases : List ℕ) (i : ℕ) → ((k : ℕ) → k < length bases → answers_at (get_or bases k 0) address ≡ false)
     → target_from i bases address ≡ None
 unfolding target_from
-at-none address [] i none = refl
-at-none address (b ∷ bs) i none = rw (none 0 (omega arith)) (at-none address bs (suc i) (λ k h. none (suc k) (omega (arith, h))))
+at_none address [] i none = refl
+at_none address (b ∷ bs) i none = rw (none 0 (omega arith)) (at_none address bs (suc i) (λ k h. none (suc k) (omega (arith, h))))

@@ -5,9 +5,9 @@ use Rattle.bus.specs.Never0.{Never0}
 use Rattle.rack.specs.Answers.{bad_rack_told, refusal_number}
 use Rattle.rack.specs.declared.refusals.RackRefusal.TheVariants.{NoCard, Card}
 
-pub bad-rack-never-0 : Never0 bad_rack_told
-bad-rack-never-0 r = refl
+pub bad_rack_never_0 : Never0 bad_rack_told
+bad_rack_never_0 r = refl
 
-pub refusal-never-0 : Never0 refusal_number
-refusal-never-0 NoCard = refl
-refusal-never-0 (Card r) = bus.refusal-never-0 r
+pub refusal_never_0 : Never0 refusal_number
+refusal_never_0 NoCard = refl
+refusal_never_0 (Card r) = bus.refusal_never_0 r

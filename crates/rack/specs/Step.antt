@@ -44,12 +44,12 @@ device = record {
   after_end = λ s ph. with_core s (runs_at ph) ((card.device).after_end (card_rest (core_in s.cores (runs_at ph))) (seen_at (runs_at ph) ph)).core;
   after_levels = λ s x d. with_core s (place_of x) ((card.device).after_levels (card_rest (core_in s.cores (place_of x))) (register_of x) d).core;
   answer = λ r x. (card.device).answer (chip_at r (place_of x)) (register_of x);
-  phase-on = λ ph s. refl;
-  rest-on = λ ph s. refl;
-  reset-limits = λ s. refl;
-  begin-limits = λ s x. refl;
-  end-limits = λ s ph. refl;
-  levels-limits = λ s x d. refl;
+  phase_on = λ ph s. refl;
+  rest_on = λ ph s. refl;
+  reset_limits = λ s. refl;
+  begin_limits = λ s x. refl;
+  end_limits = λ s ph. refl;
+  levels_limits = λ s x d. refl;
 }
 
 -- The byte of an event: a write's, or the levels, which stand behind a place and a port.

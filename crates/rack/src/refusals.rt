@@ -1,7 +1,7 @@
 //! Why bases make no rack, and why a rack refuses an event; and the numbers that scripts and C have for it.
 ghost use Rattle.std.specs.Prelude.{◌≡◌};
 ghost use Rattle.rack.specs.Answers.{bad_rack_told, refusal_number};
-ghost use Rattle.rack.specs.Never0.{bad-rack-never-0, refusal-never-0};
+ghost use Rattle.rack.specs.Never0.{bad_rack_never_0, refusal_never_0};
 ghost use Rattle.rack.specs.declared.refusals.RackRefusal.TheVariants as refusals;
 
 use bus::refusals::{Numbered, Refusal};
@@ -13,7 +13,7 @@ pub struct BadRack;
 impl Numbered for BadRack {
     ghost number_of = { bad_rack_told };
 
-    ghost never_0 = { bad-rack-never-0 };
+    ghost never_0 = { bad_rack_never_0 };
 
     fn number(&self) -> u8 {
         9
@@ -32,7 +32,7 @@ pub enum RackRefusal {
 impl Numbered for RackRefusal {
     ghost number_of = { refusal_number };
 
-    ghost never_0 = { refusal-never-0 };
+    ghost never_0 = { refusal_never_0 };
 
     fn number(&self) -> u8 {
         match self {

@@ -13,7 +13,7 @@ use Rattle.bus.specs.Device.{gives, reset_in}
 use Rattle.chip.specs.declared.Core.{Core}
 use Rattle.chip.specs.Step as card
 use Rattle.chip.specs.Step.{stepped}
-use Rattle.chip.proofs.Outcome.{step-accepts}
+use Rattle.chip.proofs.Outcome.{step_accepts}
 use Rattle.rack.specs.declared.Rack.{Rack}
 use Rattle.rack.specs.Bases.{most_cards}
 use Rattle.rack.specs.State.{seen_at, no_core, chip_at, card_edition}
@@ -37,12 +37,12 @@ module _ (count : ℕ) (bases : List ℕ) (cores : List Core) (ph : Phase) (whol
   each : (i : ℕ) → i < most_cards → chip_at given.rack i ≡ (stepped (chip_at rack i) (event 0 0 0)).chip
   unfolding chip_at
   each i h = rw (
-    step-accepts (chip_at rack i) 0 0 0 (always (seen_at i ph)),
+    step_accepts (chip_at rack i) 0 0 0 (always (seen_at i ph)),
     get_or-map core_reset cores i no_core no_core (omega (arith, h, whole.cores)),
   )
 
-  pub reset-follows : Follows rack given (everybody (event 0 0 0)) free
-  reset-follows = record {
+  pub reset_follows : Follows rack given (everybody (event 0 0 0)) free
+  reset_follows = record {
     reached = record { accepted = refl; byte = refl; each = each };
     bus = refl;
     bases = refl;

@@ -10,13 +10,13 @@ use Rattle.bus.specs.Refusals.{limits_of}
 use Rattle.bus.specs.Device.{step_in, run_in}
 use Rattle.bus.specs.Facts.{Facts}
 use Rattle.bus.proofs.Facts as bus
-use Rattle.bus.proofs.Numbering.{no-kind-refused}
+use Rattle.bus.proofs.Numbering.{no_kind_refused}
 use Rattle.rack.specs.declared.Rack.{Rack}
 use Rattle.std.specs.Prelude.{Option, Some, None}
 use Rattle.rack.specs.State.{number_at}
 use Rattle.rack.specs.Targets.{Target, target_of}
 use Rattle.rack.specs.Step.{limits, device, byte_of, step_at, step_of}
-use Rattle.rack.proofs.Stays.{target-stays}
+use Rattle.rack.proofs.Stays.{target_stays}
 use Rattle.racklaws.specs.Whom.{RackEvent}
 use Rattle.racklaws.specs.Promise.{rack_run}
 
@@ -32,22 +32,22 @@ as_event (Some t) k d = event k (number_at t.0 t.1) d
 abbrev pub event_by : ℕ → List ℕ → RackEvent → Event
 event_by count bases e = as_event (target_of count bases e.kind e.first e.second) e.kind (byte_of e.kind e.second e.third)
 
-as-device : (r : Rack) (t : Option Target) (k d : ℕ) → let e = as_event t k d in (step_at r t k d).state ≡ (step_in device r e.kind e.first e.second).state
+as_device : (r : Rack) (t : Option Target) (k d : ℕ) → let e = as_event t k d in (step_at r t k d).state ≡ (step_in device r e.kind e.first e.second).state
 unfolding is_kind
-as-device r None k d = rw (no-kind-refused device r 0xff 0 0 refl)
-as-device r (Some t) k d = refl
+as_device r None k d = rw (no_kind_refused device r 0xff 0 0 refl)
+as_device r (Some t) k d = refl
 
-run-from : (count : ℕ) (bases : List ℕ) (r : Rack) → r.count ≡ count → r.bases ≡ bases → (es : List RackEvent)
+run_from : (count : ℕ) (bases : List ℕ) (r : Rack) → r.count ≡ count → r.bases ≡ bases → (es : List RackEvent)
     → rack_run r es ≡ run_in device r (map (event_by count bases) es)
 unfolding step_of
-run-from count bases r c b [] = refl
-run-from count bases r c b (e ∷ es) =
+run_from count bases r c b [] = refl
+run_from count bases r c b (e ∷ es) =
     let t = target_of r.count r.bases e.kind e.first e.second in
     let d = byte_of e.kind e.second e.third in
-    let same = target-stays r t e.kind d in
-    run-from count bases (step_at r t e.kind d).state (same.0 ∙ c) (same.1 ∙ b) es
-    ∙ ap (λ (s : Rack). run_in device s (map (event_by count bases) es)) (as-device r t e.kind d ∙ rw (c, b))
+    let same = target_stays r t e.kind d in
+    run_from count bases (step_at r t e.kind d).state (same.0 ∙ c) (same.1 ∙ b) es
+    ∙ ap (λ (s : Rack). run_in device s (map (event_by count bases) es)) (as_device r t e.kind d ∙ rw (c, b))
 
 -- So what the facts say of histories they say of a rack's.
-pub run-as-device : (r : Rack) (es : List RackEvent) → rack_run r es ≡ run_in device r (map (event_by r.count r.bases) es)
-run-as-device r es = run-from r.count r.bases r refl refl es
+pub run_as_device : (r : Rack) (es : List RackEvent) → rack_run r es ≡ run_in device r (map (event_by r.count r.bases) es)
+run_as_device r es = run_from r.count r.bases r refl refl es

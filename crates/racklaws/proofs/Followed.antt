@@ -14,7 +14,7 @@ use Rattle.bus.specs.Kinds.{no_kind}
 use Rattle.bus.specs.Event.{event}
 use Rattle.bus.proofs.ByKind.{by_kind, no_row}
 use Rattle.bus.specs.declared.Phase.{Phase}
-use Rattle.bus.proofs.Numbering.{row-refuses}
+use Rattle.bus.proofs.Numbering.{row_refuses}
 use Rattle.chip.specs.declared.Core.{Core}
 use Rattle.chip.specs.Step as card
 use Rattle.rack.specs.declared.Rack.{Rack}
@@ -24,13 +24,13 @@ use Rattle.rack.specs.State.{card_edition}
 use Rattle.rack.specs.Targets.{Target, target_from, bases_in, is_place, target_at, target_of}
 use Rattle.rack.specs.Step.{byte_of, as_stepped, step_at, step_of}
 use Rattle.racklaws.proofs.OnCard.{rack_in}
-use Rattle.racklaws.proofs.Inside.{place-below, target-inside}
-use Rattle.racklaws.proofs.Targets.{number_for, reset-at}
+use Rattle.racklaws.proofs.Inside.{place_below, target_inside}
+use Rattle.racklaws.proofs.Targets.{number_for, reset_at}
 use Rattle.racklaws.specs.Whom.{RackEvent, rack_event, reset, cycle_ended, unknown, read_at, write_at, levels_on, nobody, card as to_card, bus_after, bus_next}
 use Rattle.racklaws.specs.Promise.{rack_stepped, Whole, Follows, bus_of, bases_of, whom_in}
 use Rattle.racklaws.proofs.Seek.{sought}
-use Rattle.racklaws.proofs.AllCards.{always, reset-follows}
-use Rattle.racklaws.proofs.Accesses.{refused-follows, read-follows, write-follows, end-follows, levels-on, of_four}
+use Rattle.racklaws.proofs.AllCards.{always, reset_follows}
+use Rattle.racklaws.proofs.Accesses.{refused_follows, read_follows, write_follows, end_follows, levels_on_lem, of_four}
 
 -- The card at a place is one of those that there are bases for.
 pub placed : (count : ℕ) (bases : List ℕ) → length bases ≡ most_cards → (x : ℕ) → is_place count x ≡ ltb x (length (bases_in count bases))
@@ -44,41 +44,41 @@ placed count bases eight x = go (ltb x count && ltb x most_cards) refl
     go true e =
         let there = both (ltb x count) (ltb x most_cards) e in
         e ∙ sym (lt-ltb x (length (bases_in count bases)) (omega (arith, size, eight, ltb-true x count there.0, ltb-true x most_cards there.1)))
-    go false e = e ∙ sym (le-ltb x (length (bases_in count bases)) (not-both (ltb x count) refl e))
+    go false e = e ∙ sym (le-ltb x (length (bases_in count bases)) (not_both (ltb x count) refl e))
       where
-        not-both : (c : Bool) → ltb x count ≡ c → (c && ltb x most_cards) ≡ false → length (bases_in count bases) ≤ x
-        not-both true there e = omega (arith, size, ltb-false x most_cards e)
-        not-both false there e = omega (arith, size, ltb-false x count there)
+        not_both : (c : Bool) → ltb x count ≡ c → (c && ltb x most_cards) ≡ false → length (bases_in count bases) ≤ x
+        not_both true there e = omega (arith, size, ltb-false x most_cards e)
+        not_both false there e = omega (arith, size, ltb-false x count there)
 
 module _ (count : ℕ) (bases : List ℕ) (cores : List Core) where
-  levels-follow : (ph : Phase) → Whole (rack_in count bases cores ph) → (x y d : ℕ) (t : Bool) → is_place count x ≡ t
+  levels_follow : (ph : Phase) → Whole (rack_in count bases cores ph) → (x y d : ℕ) (t : Bool) → is_place count x ≡ t
       → Follows (rack_in count bases cores ph) (as_stepped (step_at (rack_in count bases cores ph) (cond t (Some (x, y)) None) kinds.outside_levels d))
       (cond (t && ltb y 3) (to_card x (event kinds.outside_levels y d)) nobody)
       (bus_after (bus_of ph) (levels_on x y d) (cond (t && ltb y 3) (to_card x (event kinds.outside_levels y d)) nobody))
-  levels-follow ph whole x y d true e = levels-on count bases cores ph whole x y d (place-below count x e) (ltb y 3) refl
-  levels-follow ph whole x y d false e = refused-follows count bases cores ph whole kinds.outside_levels d None tt (λ n. omega (arith, n))
+  levels_follow ph whole x y d true e = levels_on_lem count bases cores ph whole x y d (place_below count x e) (ltb y 3) refl
+  levels_follow ph whole x y d false e = refused_follows count bases cores ph whole kinds.outside_levels d None tt (λ n. omega (arith, n))
 
   -- What is no kind is refused, whatever it names.
-  unknown-refused : (ph : Phase) (k : ℕ) → no_kind k ≡ true → (t : Option Target) → ¬ (number_for ph k t ≡ 0)
-  unknown-refused ph k none None n = omega (arith, n)
-  unknown-refused ph k none (Some t) n = row-refuses (card.limits card_edition) ph k t.1 0 none n
+  unknown_refused : (ph : Phase) (k : ℕ) → no_kind k ≡ true → (t : Option Target) → ¬ (number_for ph k t ≡ 0)
+  unknown_refused ph k none None n = omega (arith, n)
+  unknown_refused ph k none (Some t) n = row_refuses (card.limits card_edition) ph k t.1 0 none n
 
-  followed-in : (ph : Phase) → Whole (rack_in count bases cores ph) → (x y z k : ℕ)
+  followed_in : (ph : Phase) → Whole (rack_in count bases cores ph) → (x y z k : ℕ)
       → Follows (rack_in count bases cores ph) (rack_stepped (rack_in count bases cores ph) (rack_event k x y z))
       (whom_in (rack_in count bases cores ph) (rack_event k x y z))
       (bus_next (bases_in count bases) (bus_of ph) (rack_event k x y z))
   unfolding step_of target_of target_at
-  followed-in ph whole x y z =
+  followed_in ph whole x y z =
       by_kind (λ k. Follows (rack_in count bases cores ph) (rack_stepped (rack_in count bases cores ph) (rack_event k x y z))
       (whom_in (rack_in count bases cores ph) (rack_event k x y z)) (bus_next (bases_in count bases) (bus_of ph) (rack_event k x y z)))
-      (rw (reset-at count bases cores ph 0 y (Some (0, 0)) (omega arith) (always ph) refl) (reset-follows count bases cores ph whole))
-      (rw (sought 0 x (bases_in count bases)) (read-follows count bases cores ph whole y x (target_from 0 (bases_in count bases) x) (target-inside count bases kinds.begin_read x y)))
-      (end-follows count bases cores ph whole y)
-      (rw (sought 0 x (bases_in count bases)) (write-follows count bases cores ph whole y x (target_from 0 (bases_in count bases) x) (target-inside count bases kinds.begin_write x y)
+      (rw (reset_at count bases cores ph 0 y (Some (0, 0)) (omega arith) (always ph) refl) (reset_follows count bases cores ph whole))
+      (rw (sought 0 x (bases_in count bases)) (read_follows count bases cores ph whole y x (target_from 0 (bases_in count bases) x) (target_inside count bases kinds.begin_read x y)))
+      (end_follows count bases cores ph whole y)
+      (rw (sought 0 x (bases_in count bases)) (write_follows count bases cores ph whole y x (target_from 0 (bases_in count bases) x) (target_inside count bases kinds.begin_write x y)
       (of_four 0 x (bases_in count bases))))
-      (rw (sym (placed count bases whole.bases x)) (levels-follow ph whole x y z (is_place count x) refl))
+      (rw (sym (placed count bases whole.bases x)) (levels_follow ph whole x y z (is_place count x) refl))
       (λ k none. rw (no_row reset (read_at x) cycle_ended (write_at x y) unknown (levels_on x y z) k none)
-      (refused-follows count bases cores ph whole k (byte_of k y z) (target_of count bases k x y) (target-inside count bases k x y) (unknown-refused ph k none (target_of count bases k x y))))
+      (refused_follows count bases cores ph whole k (byte_of k y z) (target_of count bases k x y) (target_inside count bases k x y) (unknown_refused ph k none (target_of count bases k x y))))
 
 pub followed : (r : Rack) → Whole r → (e : RackEvent) → Follows r (rack_stepped r e) (whom_in r e) (bus_next (bases_of r) (bus_of r.phase) e)
-followed r whole e = followed-in r.count r.bases r.cores r.phase whole e.first e.second e.third e.kind
+followed r whole e = followed_in r.count r.bases r.cores r.phase whole e.first e.second e.third e.kind

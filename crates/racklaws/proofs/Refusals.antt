@@ -11,10 +11,10 @@ use Rattle.racklaws.specs.Whom.{RackEvent, Whom, nobody, everybody, card, part}
 use Rattle.racklaws.specs.Promise.{rack_stepped, whom_in, Reached, Whole}
 use Rattle.racklaws.proofs.Followed.{followed}
 
-refused-nobody : (r : Rack) (given : Stepped) (w : Whom) → Reached r given w → ¬ (given.number ≡ 0) → w ≡ nobody
-refused-nobody r given nobody reached n = refl
-refused-nobody r given (everybody own) reached n = absurd (n reached.accepted)
-refused-nobody r given (card i own) reached n = absurd (n reached.accepted)
+refused_nobody : (r : Rack) (given : Stepped) (w : Whom) → Reached r given w → ¬ (given.number ≡ 0) → w ≡ nobody
+refused_nobody r given nobody reached n = refl
+refused_nobody r given (everybody own) reached n = absurd (n reached.accepted)
+refused_nobody r given (card i own) reached n = absurd (n reached.accepted)
 
 given_back : (s : Stepped) (r : Rack) → s.rack ≡ r → s.byte ≡ 0 → s ≡ record { rack = r; number = s.number; byte = 0 }
 given_back s r same none = ap (λ (a : Rack). record { rack = a; number = s.number; byte = s.byte }) same
@@ -22,15 +22,15 @@ given_back s r same none = ap (λ (a : Rack). record { rack = a; number = s.numb
 
 module _ (r : Rack) (whole : Whole r) (e : RackEvent) where
   -- An event that the rack refuses reaches none of its cards.
-  pub refused-reaches-none : ¬ ((rack_stepped r e).number ≡ 0) → (i : ℕ) → part i (whom_in r e) ≡ []
-  refused-reaches-none n i = ap (part i) (refused-nobody r (rack_stepped r e) (whom_in r e) (followed r whole e).reached n)
+  pub refused_reaches_none : ¬ ((rack_stepped r e).number ≡ 0) → (i : ℕ) → part i (whom_in r e) ≡ []
+  refused_reaches_none n i = ap (part i) (refused_nobody r (rack_stepped r e) (whom_in r e) (followed r whole e).reached n)
 
   -- It changes nothing, in any card or on the bus, and its byte is 00.
-  pub refusal-changes-nothing : ¬ ((rack_stepped r e).number ≡ 0) → rack_stepped r e ≡ record { rack = r; number = (rack_stepped r e).number; byte = 0 }
-  refusal-changes-nothing n =
-      let f = subst (Reached r (rack_stepped r e)) (refused-nobody r (rack_stepped r e) (whom_in r e) (followed r whole e).reached n) (followed r whole e).reached in
+  pub refusal_changes_nothing : ¬ ((rack_stepped r e).number ≡ 0) → rack_stepped r e ≡ record { rack = r; number = (rack_stepped r e).number; byte = 0 }
+  refusal_changes_nothing n =
+      let f = subst (Reached r (rack_stepped r e)) (refused_nobody r (rack_stepped r e) (whom_in r e) (followed r whole e).reached n) (followed r whole e).reached in
       given_back (rack_stepped r e) r f.unchanged f.byte
 
   -- An event that reaches one card leaves every other as it was.
-  pub others-as-they-were : (i : ℕ) (own : Event) → whom_in r e ≡ card i own → (j : ℕ) → ¬ (j ≡ i) → chip_at (rack_stepped r e).rack j ≡ chip_at r j
-  others-as-they-were i own reaches j other = (subst (Reached r (rack_stepped r e)) reaches (followed r whole e).reached).others j other
+  pub others_as_they_were : (i : ℕ) (own : Event) → whom_in r e ≡ card i own → (j : ℕ) → ¬ (j ≡ i) → chip_at (rack_stepped r e).rack j ≡ chip_at r j
+  others_as_they_were i own reaches j other = (subst (Reached r (rack_stepped r e)) reaches (followed r whole e).reached).others j other

@@ -44,26 +44,26 @@ module _ (i a l r : ℕ) (rs : List ℕ) (others : Found) where
   located false e = rw e (passed (leb (suc l) a) refl (eqb-false a l e))
 
 -- So registers at the locations from l on are found by their distance.
-among-by : (i a l : ℕ) (rs : List ℕ) (others : Found) → among i a l rs others ≡ cond (leb l a && ltb a (l + length rs)) (found i (get_or rs (a - l) 0)) others
-among-by i a l [] others = go (leb l a) refl
+among_by : (i a l : ℕ) (rs : List ℕ) (others : Found) → among i a l rs others ≡ cond (leb l a && ltb a (l + length rs)) (found i (get_or rs (a - l) 0)) others
+among_by i a l [] others = go (leb l a) refl
   where
     go : (t : Bool) → leb l a ≡ t → others ≡ cond (leb l a && ltb a (l + 0)) (found i 0) others
     go true e = rw (e, le-ltb a (l + 0) (omega (arith, leb-true l a e)))
     go false e = rw e
-among-by i a l (r ∷ rs) others =
-    ap (λ (o : Found). cond (eqb a l) (found i r) o) (among-by i a (suc l) rs others) ∙ located i a l r rs others (eqb a l) refl
+among_by i a l (r ∷ rs) others =
+    ap (λ (o : Found). cond (eqb a l) (found i r) o) (among_by i a (suc l) rs others) ∙ located i a l r rs others (eqb a l) refl
 
 -- The eight registers shown are the remainders by 4.
-shown-by : (n : ℕ) → n < 8 → get_or shown n 0 ≡ n % 4
-shown-by zero h = refl
-shown-by (suc zero) h = refl
-shown-by (suc (suc zero)) h = refl
-shown-by (suc (suc (suc zero))) h = refl
-shown-by (suc (suc (suc (suc zero)))) h = refl
-shown-by (suc (suc (suc (suc (suc zero))))) h = refl
-shown-by (suc (suc (suc (suc (suc (suc zero)))))) h = refl
-shown-by (suc (suc (suc (suc (suc (suc (suc zero))))))) h = refl
-shown-by (suc (suc (suc (suc (suc (suc (suc (suc n)))))))) h = absurd (omega (arith, h))
+shown_by_lem : (n : ℕ) → n < 8 → get_or shown n 0 ≡ n % 4
+shown_by_lem zero h = refl
+shown_by_lem (suc zero) h = refl
+shown_by_lem (suc (suc zero)) h = refl
+shown_by_lem (suc (suc (suc zero))) h = refl
+shown_by_lem (suc (suc (suc (suc zero)))) h = refl
+shown_by_lem (suc (suc (suc (suc (suc zero))))) h = refl
+shown_by_lem (suc (suc (suc (suc (suc (suc zero)))))) h = refl
+shown_by_lem (suc (suc (suc (suc (suc (suc (suc zero))))))) h = refl
+shown_by_lem (suc (suc (suc (suc (suc (suc (suc (suc n)))))))) h = absurd (omega (arith, h))
 
 -- What a card's own locations decide.
 here : (i a b : ℕ) (others : Found) (t : Bool) → answers_at b a ≡ t
@@ -71,7 +71,7 @@ here : (i a b : ℕ) (others : Found) (t : Bool) → answers_at b a ≡ t
 unfolding answers_at
 here i a b others true e =
     let there = both (leb b a) (ltb a (b + 8)) e in
-    rw (e, shown-by (a - b) (omega (arith, leb-true b a there.0, ltb-true a (b + 8) there.1)))
+    rw (e, shown_by_lem (a - b) (omega (arith, leb-true b a there.0, ltb-true a (b + 8) there.1)))
 here i a b others false e = rw e
 
 either : (t : Bool) (x y : Option Target) → as_found (cond t x y) ≡ cond t (as_found x) (as_found y)
@@ -82,7 +82,7 @@ pub sought : (i a : ℕ) (bases : List ℕ) → seek i a bases ≡ as_found (tar
 unfolding target_from
 sought i a [] = refl
 sought i a (b ∷ bs) = rw (
-  among-by i a b shown (seek (suc i) a bs),
+  among_by i a b shown (seek (suc i) a bs),
   here i a b (seek (suc i) a bs) (answers_at b a) refl,
   sought (suc i) a bs,
   either (answers_at b a) (Some (i, register_at b a)) (target_from (suc i) bs a),

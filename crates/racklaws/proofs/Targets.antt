@@ -26,16 +26,16 @@ number_for ph k (Some t) = number_of (card.limits card_edition) ph k t.1
 
 module _ (count : ℕ) (bases : List ℕ) (cores : List Core) (ph : Phase) (k d : ℕ) where
   -- A number other than 0 refuses it.
-  pub refused-at : (t : Option Target) → InRack t → ¬ (number_for ph k t ≡ 0)
+  pub refused_at : (t : Option Target) → InRack t → ¬ (number_for ph k t ≡ 0)
       → step_at (rack_in count bases cores ph) t k d ≡ refused_in (rack_in count bases cores ph) (number_for ph k t)
-  refused-at None inside n = refl
-  refused-at (Some t) inside n =
+  refused_at None inside n = refl
+  refused_at (Some t) inside n =
       let same = same_number t.0 t.1 inside ph k in
       rw (bus.refuses device (rack_in count bases cores ph) k (number_at t.0 t.1) d (λ e. n (sym same ∙ e)), same)
 
   -- A reset.
-  pub reset-at : (t : Option Target) → InRack t → number_for ph k t ≡ 0 → k ≡ 0
+  pub reset_at : (t : Option Target) → InRack t → number_for ph k t ≡ 0 → k ≡ 0
       → step_at (rack_in count bases cores ph) t k d ≡ gives (reset_in device (rack_in count bases cores ph)) 0 0
-  reset-at None inside e zero = absurd (omega (arith, e))
-  reset-at (Some t) inside e zero =
+  reset_at None inside e zero = absurd (omega (arith, e))
+  reset_at (Some t) inside e zero =
       rw (bus.accepts device (rack_in count bases cores ph) k (number_at t.0 t.1) d (same_number t.0 t.1 inside ph k ∙ e), zero)

@@ -20,43 +20,43 @@ use Rattle.image.specs.Good.{has_image, Bytes}
 use Rattle.image.proofs.SameBytes.{small}
 use Rattle.image.specs.OlderLoaded.{channel_tally, older_state}
 use Rattle.image.specs.OlderGood.{is_older}
-use Rattle.image.proofs.OlderOneImage.{tells-such}
+use Rattle.image.proofs.OlderOneImage.{tells_such}
 use Rattle.calls.specs.Calls.{convert_image}
-use Rattle.calls.proofs.Converted.{convert-good, convert-tells}
+use Rattle.calls.proofs.Converted.{convert_good, convert_tells}
 use Rattle.restored.specs.Host.{GoesOn}
-use Rattle.restored.proofs.Saved.{two_bytes, goes-from}
+use Rattle.restored.proofs.Saved.{two_bytes, goes_from}
 
 -- The tallies that an older image tells have sixteen bits.
 module _ (o : List ℕ) (bytes : Bytes o) where
-  wide-small : (i j : ℕ) → byte_at o i + 256 * byte_at o j < 65536
-  wide-small i j = two_bytes (byte_at o i) (byte_at o j) (small o bytes i) (small o bytes j)
+  wide_small : (i j : ℕ) → byte_at o i + 256 * byte_at o j < 65536
+  wide_small i j = two_bytes (byte_at o i) (byte_at o j) (small o bytes i) (small o bytes j)
 
-  tally-small : (k : ℕ) → SixteenBits (channel_tally o k)
-  tally-small k = record {
-    offered = wide-small _ _;
-    handed = wide-small _ _;
-    overwritten = wide-small _ _;
-    swallowed = wide-small _ _;
-    cleared = wide-small _ _;
+  tally_small : (k : ℕ) → SixteenBits (channel_tally o k)
+  tally_small k = record {
+    offered = wide_small _ _;
+    handed = wide_small _ _;
+    overwritten = wide_small _ _;
+    swallowed = wide_small _ _;
+    cleared = wide_small _ _;
     planted = omega arith;
     struck = omega arith;
   }
 
-  sixteen-bits : (g : Group) (s : Side) → SixteenBits (tally_of (older_state o) g s)
+  sixteen_bits : (g : Group) (s : Side) → SixteenBits (tally_of (older_state o) g s)
   unfolding older_state
-  sixteen-bits A Input = tally-small 0
-  sixteen-bits A Output = tally-small 1
-  sixteen-bits B Input = tally-small 2
-  sixteen-bits B Output = tally-small 3
+  sixteen_bits A Input = tally_small 0
+  sixteen_bits A Output = tally_small 1
+  sixteen_bits B Input = tally_small 2
+  sixteen_bits B Output = tally_small 3
 
 -- What the call makes of an older image goes on as the chip that this tells.
-pub converted-goes-on : (o l : List ℕ) → Bytes o → is_older o ≡ true → length l ≡ places.length → (es : List Event) → GoesOn (convert_image o l) es
-converted-goes-on o l bytes good long es =
-    let told = sym (convert-tells o l bytes good long) in
-    goes-from (convert_image o l)
+pub converted_goes_on : (o l : List ℕ) → Bytes o → is_older o ≡ true → length l ≡ places.length → (es : List Event) → GoesOn (convert_image o l) es
+converted_goes_on o l bytes good long es =
+    let told = sym (convert_tells o l bytes good long) in
+    goes_from (convert_image o l)
     (record {
-      image = convert-good o l bytes good long;
+      image = convert_good o l bytes good long;
       state = refl;
-      has = subst (λ (c : Chip). has_image c ≡ true) told (tells-such o bytes good);
+      has = subst (λ (c : Chip). has_image c ≡ true) told (tells_such o bytes good);
     })
-    (λ g s. subst (λ (c : Chip). SixteenBits (tally_of c g s)) told (sixteen-bits o bytes g s)) es
+    (λ g s. subst (λ (c : Chip). SixteenBits (tally_of c g s)) told (sixteen_bits o bytes g s)) es

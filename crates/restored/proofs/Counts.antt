@@ -19,7 +19,7 @@ use Rattle.fates.specs.Promise.{run, Fates}
 use Rattle.calls.specs.Calls.{or_none, last_channel, last_tally, group_numbered, side_numbered, counter_numbered, tally_answer}
 use Rattle.restored.specs.Host.{host_run}
 use Rattle.restored.specs.Answers.{counts, tally_by}
-use Rattle.restored.proofs.Holds.{Holds, holds-run, tally-held}
+use Rattle.restored.proofs.Holds.{Holds, holds_run, tally_held}
 
 -- The first gives the tallies of the channels by their numbers.
 abbrev pub Numbered : (ℕ → ℕ → ℕ) → (Group → Side → Tally) → Type 0
@@ -32,13 +32,13 @@ either : (b : Bool) (x : ℕ) → cond b x x ≡ x
 either true x = refl
 either false x = refl
 
-pub numbered-none : Numbered (λ k n. 0) (λ g s. no_tally)
+pub numbered_none : Numbered (λ k n. 0) (λ g s. no_tally)
 unfolding counter_numbered
-numbered-none k n is-channel is-tally = simp either
+numbered_none k n is_channel is_tally = simp either
 
 -- and with what the tally call answers.
-pub numbered-held : (l : List ℕ) (c : Chip) → Holds l c → Numbered (λ k n. tally_answer l k n / 256) (tally_of c)
-numbered-held l c h k n is-channel is-tally = rw (tally-held l c h k n, is-channel, is-tally) (omega arith)
+pub numbered_held : (l : List ℕ) (c : Chip) → Holds l c → Numbered (λ k n. tally_answer l k n / 256) (tally_of c)
+numbered_held l c h k n is_channel is_tally = rw (tally_held l c h k n, is_channel, is_tally) (omega arith)
 
 -- One channel: the chip's tallies by their numbers, and the counts.
 counted : (g : Group) (s : Side) (c : Chip) (es : List Event) (start : Tally) (new all : List Byte) → Fates g s c es start new all
@@ -56,14 +56,14 @@ counted g s c es start new all f (suc (suc (suc (suc (suc (suc (suc n))))))) few
 module _ (l : List ℕ) (c : Chip) (es : List Event) (h : Holds l c) (start : ℕ → ℕ → ℕ) (tallies : Group → Side → Tally)
     (starts : Numbered start tallies) (new all : Group → Side → List Byte)
     (f : (g : Group) (s : Side) → Fates g s c es (tallies g s) (new g s) (all g s)) where
-  pub tally-told : (k n : ℕ) → tally_answer (host_run l es) k n ≡ tally_by start new all k n
-  tally-told k n = tally-held (host_run l es) (run c es) (holds-run l c es h) k n ∙ go (ltb last_channel k) (ltb last_tally n) refl refl
+  pub tally_told : (k n : ℕ) → tally_answer (host_run l es) k n ≡ tally_by start new all k n
+  tally_told k n = tally_held (host_run l es) (run c es) (holds_run l c es h) k n ∙ go (ltb last_channel k) (ltb last_tally n) refl refl
     where
-      go : (no-channel no-tally : Bool) → ltb last_channel k ≡ no-channel → ltb last_tally n ≡ no-tally
-          → or_none (no-channel || no-tally) (256 * counter_numbered (tally_of (run c es) (group_numbered k) (side_numbered k)) n)
-          ≡ or_none (no-channel || no-tally)
+      go : (no_channel no_tally_lem : Bool) → ltb last_channel k ≡ no_channel → ltb last_tally n ≡ no_tally_lem
+          → or_none (no_channel || no_tally_lem) (256 * counter_numbered (tally_of (run c es) (group_numbered k) (side_numbered k)) n)
+          ≡ or_none (no_channel || no_tally_lem)
           (256 * ((start k n + get_or (counts (new (group_numbered k) (side_numbered k)) (all (group_numbered k) (side_numbered k))) n 0) % 65536))
-      go true no-tally channel tally = refl
+      go true no_tally_lem channel tally = refl
       go false true channel tally = refl
       go false false channel tally =
           let g = group_numbered k in

@@ -21,75 +21,75 @@ use Rattle.chip.specs.declared.Edition.TheVariants.{Older, Newer}
 use Rattle.chip.specs.declared.Chip.{Chip}
 use Rattle.chip.specs.State.{channel_of}
 use Rattle.chip.specs.Handshakes.{strobed}
-use Rattle.fates.proofs.Tables.{strobes-same}
+use Rattle.fates.proofs.Tables.{strobes_same}
 use Rattle.image.specs.Good.{names_its_place, allowed, has_image}
 use Rattle.restored.specs.Having.{NamesAPlace, HasImage}
 use Rattle.restored.proofs.Conditions.{apart, together}
 
 -- Condition by condition.
-place-so : (ed : Edition) (ph : Phase) → names_its_place ed ph ≡ true → NamesAPlace ed ph
-place-so ed Idle is = tt
-place-so Older (Reading p) is = omega (arith, ltb-true p 3 is)
-place-so Newer (Reading p) is = omega (arith, ltb-true p 4 is)
-place-so ed (Writing x d) is = omega (arith, ltb-true x 4 is)
+place_so : (ed : Edition) (ph : Phase) → names_its_place ed ph ≡ true → NamesAPlace ed ph
+place_so ed Idle is = tt
+place_so Older (Reading p) is = omega (arith, ltb-true p 3 is)
+place_so Newer (Reading p) is = omega (arith, ltb-true p 4 is)
+place_so ed (Writing x d) is = omega (arith, ltb-true x 4 is)
 
-place-by : (ed : Edition) (ph : Phase) → NamesAPlace ed ph → names_its_place ed ph ≡ true
-place-by ed Idle few = refl
-place-by Older (Reading p) few = lt-ltb p 3 (omega (arith, few))
-place-by Newer (Reading p) few = lt-ltb p 4 (omega (arith, few))
-place-by ed (Writing x d) few = lt-ltb x 4 (omega (arith, few))
+place_by : (ed : Edition) (ph : Phase) → NamesAPlace ed ph → names_its_place ed ph ≡ true
+place_by ed Idle few = refl
+place_by Older (Reading p) few = lt-ltb p 3 (omega (arith, few))
+place_by Newer (Reading p) few = lt-ltb p 4 (omega (arith, few))
+place_by ed (Writing x d) few = lt-ltb x 4 (omega (arith, few))
 
-input-so : (on : Bool) (f : Fill) → allowed on Input f ≡ true → (f ≡ Empty) ⊎ (on ≡ true)
-input-so on Empty is = inl refl
-input-so on Waiting is = inr is
-input-so on Fetching is = inr is
+input_so : (on : Bool) (f : Fill) → allowed on Input f ≡ true → (f ≡ Empty) ⊎ (on ≡ true)
+input_so on Empty is = inl refl
+input_so on Waiting is = inr is
+input_so on Fetching is = inr is
 
-input-by : (on : Bool) (f : Fill) → (f ≡ Empty) ⊎ (on ≡ true) → allowed on Input f ≡ true
-input-by on f (inl none) = ap (allowed on Input) none
-input-by on Empty (inr is) = refl
-input-by on Waiting (inr is) = is
-input-by on Fetching (inr is) = is
+input_by : (on : Bool) (f : Fill) → (f ≡ Empty) ⊎ (on ≡ true) → allowed on Input f ≡ true
+input_by on f (inl none) = ap (allowed on Input) none
+input_by on Empty (inr is) = refl
+input_by on Waiting (inr is) = is
+input_by on Fetching (inr is) = is
 
-output-so : (on : Bool) (f : Fill) → allowed on Output f ≡ true → (f ≡ Empty) ⊎ ((on ≡ true) × (f ≡ Waiting))
-output-so on Empty is = inl refl
-output-so on Waiting is = inr (is, refl)
-output-so on Fetching is = absurd (contrary false refl is)
+output_so : (on : Bool) (f : Fill) → allowed on Output f ≡ true → (f ≡ Empty) ⊎ ((on ≡ true) × (f ≡ Waiting))
+output_so on Empty is = inl refl
+output_so on Waiting is = inr (is, refl)
+output_so on Fetching is = absurd (contrary false refl is)
 
-output-by : (on : Bool) (f : Fill) → (f ≡ Empty) ⊎ ((on ≡ true) × (f ≡ Waiting)) → allowed on Output f ≡ true
-output-by on f (inl none) = ap (allowed on Output) none
-output-by on f (inr (is, waits)) = ap (allowed on Output) waits ∙ is
+output_by : (on : Bool) (f : Fill) → (f ≡ Empty) ⊎ ((on ≡ true) × (f ≡ Waiting)) → allowed on Output f ≡ true
+output_by on f (inl none) = ap (allowed on Output) none
+output_by on f (inr (is, waits)) = ap (allowed on Output) waits ∙ is
 
 -- All of them.
-pub has-so : (c : Chip) → has_image c ≡ true → HasImage c
+pub has_so : (c : Chip) → has_image c ≡ true → HasImage c
 unfolding bit_of
-has-so c has =
+has_so c has =
     let k = apart c has in
     let w = c.core.word in
     record {
-      place = place-so c.edition c.phase k.place;
+      place = place_so c.edition c.phase k.place;
       mode_word = eqb-true _ _ k.word;
-      input = λ g. rw (strobes-same w g Input) (input-so _ _ (k.channel g Input));
-      output = λ g. rw (strobes-same w g Output) (output-so _ _ (k.channel g Output));
+      input = λ g. rw (strobes_same w g Input) (input_so _ _ (k.channel g Input));
+      output = λ g. rw (strobes_same w g Output) (output_so _ _ (k.channel g Output));
     }
 
-pub has-by : (c : Chip) → HasImage c → has_image c ≡ true
+pub has_by : (c : Chip) → HasImage c → has_image c ≡ true
 unfolding bit_of
-has-by c k =
+has_by c k =
     together c
-    (record { place = place-by c.edition c.phase k.place; word = eq-eqb _ _ k.mode_word; channel = each })
+    (record { place = place_by c.edition c.phase k.place; word = eq-eqb _ _ k.mode_word; channel = each })
   where
     each : (g : Group) (s : Side) → allowed (strobed c.core.word g s) s (channel_of c.core g s).fill ≡ true
     each g Input =
         let w = c.core.word in
-        input-by (strobed w g Input) (channel_of c.core g Input).fill (rw (← strobes-same w g Input) (k.input g))
+        input_by (strobed w g Input) (channel_of c.core g Input).fill (rw (← strobes_same w g Input) (k.input g))
     each g Output =
         let w = c.core.word in
-        output-by (strobed w g Output) (channel_of c.core g Output).fill (rw (← strobes-same w g Output) (k.output g))
+        output_by (strobed w g Output) (channel_of c.core g Output).fill (rw (← strobes_same w g Output) (k.output g))
 
-pub has-where : (c : Chip) → (has_image c ≡ true) ↔ HasImage c
-has-where c = (has-so c, has-by c)
+pub has_where : (c : Chip) → (has_image c ≡ true) ↔ HasImage c
+has_where c = (has_so c, has_by c)
 
 -- What is read is an address.
-pub an-address : (ed : Edition) (p : ℕ) → NamesAPlace ed (Reading p) → p < 4
-an-address Older p few = omega (arith, few)
-an-address Newer p few = omega (arith, few)
+pub an_address : (ed : Edition) (p : ℕ) → NamesAPlace ed (Reading p) → p < 4
+an_address Older p few = omega (arith, few)
+an_address Newer p few = omega (arith, few)

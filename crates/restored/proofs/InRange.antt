@@ -30,33 +30,33 @@ use Rattle.image.specs.Loaded.{byte_at, phase_as, state_of}
 use Rattle.image.specs.Good.{Bytes}
 use Rattle.image.proofs.ComesBack.{comes_back}
 use Rattle.image.proofs.SameBytes.{small}
-use Rattle.image.proofs.OneImage.{has-image, tells-such}
+use Rattle.image.proofs.OneImage.{has_image_lem, tells_such}
 use Rattle.restored.specs.Having.{NamesAPlace, HasImage, ByteWritten, InRange, ComesFromBytes}
-use Rattle.restored.proofs.Saved.{sixteen-bits}
-use Rattle.restored.proofs.Having.{an-address, has-so, has-by}
+use Rattle.restored.proofs.Saved.{sixteen_bits}
+use Rattle.restored.proofs.Having.{an_address, has_so, has_by}
 
 -- What bytes tell is in range.
-written-small : (bus byte : ℕ) → byte < 256 → ByteWritten (phase_as bus byte)
-written-small bus byte few = go (ltb bus places.writes) (ltb bus places.idle) refl refl
+written_small : (bus byte : ℕ) → byte < 256 → ByteWritten (phase_as bus byte)
+written_small bus byte few = go (ltb bus places.writes) (ltb bus places.idle) refl refl
   where
     go : (read below : Bool) → ltb bus places.writes ≡ read → ltb bus places.idle ≡ below → ByteWritten (phase_as bus byte)
     go true below r b = rw (r) tt
     go false true r b = rw (r, b) few
     go false false r b = rw (r, b) tt
 
-in-range : (l : List ℕ) → Bytes l → InRange (state_of l)
+in_range : (l : List ℕ) → Bytes l → InRange (state_of l)
 unfolding state_of
-in-range l bytes =
+in_range l bytes =
     let at = small l bytes in
     record {
-      written = written-small (byte_at l places.bus) (byte_at l places.written) (at places.written);
+      written = written_small (byte_at l places.bus) (byte_at l places.written) (at places.written);
       word = at places.word;
       levels_a = at places.levels_a;
       levels_b = at places.levels_b;
       levels_c = at places.levels_c;
       latch_c = at places.latch_c;
       latch = latch;
-      tallies = sixteen-bits l bytes;
+      tallies = sixteen_bits l bytes;
     }
   where
     latch : (g : Group) (s : Side) → (channel_of (state_of l).core g s).latch < 256
@@ -66,15 +66,15 @@ in-range l bytes =
     latch B Output = small l bytes 63
 
 -- And the layout of a chip in range is made of bytes.
-bytes-both : (xs ys : List ℕ) → Bytes xs → Bytes ys → Bytes (xs ++ ys)
-bytes-both [] ys bx by = by
-bytes-both (x ∷ xs) ys bx by = (bx.0, bytes-both xs ys bx.1 by)
+bytes_both : (xs ys : List ℕ) → Bytes xs → Bytes ys → Bytes (xs ++ ys)
+bytes_both [] ys bx by = by
+bytes_both (x ∷ xs) ys bx by = (bx.0, bytes_both xs ys bx.1 by)
 
 wide : (n : ℕ) → n < 65536 → (n % 256 < 256) × (n / 256 < 256)
 wide n few = (omega arith, omega (arith, few))
 
-tally-in-bytes : (t : Tally) → SixteenBits t → Bytes (tally_bytes t)
-tally-in-bytes t k =
+tally_in_bytes : (t : Tally) → SixteenBits t → Bytes (tally_bytes t)
+tally_in_bytes t k =
     let a = wide t.offered k.offered in
     let b = wide t.handed k.handed in
     let c = wide t.overwritten k.overwritten in
@@ -84,38 +84,38 @@ tally-in-bytes t k =
     let g = wide t.struck k.struck in
     (a.0, (a.1, (b.0, (b.1, (c.0, (c.1, (d.0, (d.1, (e.0, (e.1, (f.0, (f.1, (g.0, (g.1, tt))))))))))))))
 
-fill-small : (f : Fill) → fill_byte f < 256
-fill-small Empty = omega arith
-fill-small Waiting = omega arith
-fill-small Fetching = omega arith
+fill_small : (f : Fill) → fill_byte f < 256
+fill_small Empty = omega arith
+fill_small Waiting = omega arith
+fill_small Fetching = omega arith
 
-enables-small : (i o b : Bool) → enables_byte (record { input = i; output = o; b = b }) < 256
+enables_small : (i o b : Bool) → enables_byte (record { input = i; output = o; b = b }) < 256
 unfolding value_of
-enables-small true true true = omega arith
-enables-small true true false = omega arith
-enables-small true false true = omega arith
-enables-small true false false = omega arith
-enables-small false true true = omega arith
-enables-small false true false = omega arith
-enables-small false false true = omega arith
-enables-small false false false = omega arith
+enables_small true true true = omega arith
+enables_small true true false = omega arith
+enables_small true false true = omega arith
+enables_small true false false = omega arith
+enables_small false true true = omega arith
+enables_small false true false = omega arith
+enables_small false false true = omega arith
+enables_small false false false = omega arith
 
-edition-small : (ed : Edition) → edition_byte ed < 256
-edition-small Older = omega arith
-edition-small Newer = omega arith
+edition_small : (ed : Edition) → edition_byte ed < 256
+edition_small Older = omega arith
+edition_small Newer = omega arith
 
-cycle-small : (ed : Edition) (ph : Phase) → NamesAPlace ed ph → ByteWritten ph → (bus_byte ph < 256) × (written_byte ph < 256)
-cycle-small ed Idle few is = (omega arith, omega arith)
-cycle-small ed (Reading p) few is = let below = an-address ed p few in (rw (lt-ltb p 4 below) (omega (arith, below)), omega arith)
-cycle-small ed (Writing x d) few is = (rw (lt-ltb x 4 (omega (arith, few))) (omega (arith, few)), is)
+cycle_small : (ed : Edition) (ph : Phase) → NamesAPlace ed ph → ByteWritten ph → (bus_byte ph < 256) × (written_byte ph < 256)
+cycle_small ed Idle few is = (omega arith, omega arith)
+cycle_small ed (Reading p) few is = let below = an_address ed p few in (rw (lt-ltb p 4 below) (omega (arith, below)), omega arith)
+cycle_small ed (Writing x d) few is = (rw (lt-ltb x 4 (omega (arith, few))) (omega (arith, few)), is)
 
-pub in-bytes : (c : Chip) → HasImage c → InRange c → Bytes (image_of c)
+pub in_bytes : (c : Chip) → HasImage c → InRange c → Bytes (image_of c)
 unfolding image_of
-in-bytes c has k =
+in_bytes c has k =
     let t : Group → Side → List ℕ = λ g s. tally_bytes (channel_of c.core g s).tally in
-    let tally : (g : Group) (s : Side) → Bytes (t g s) = λ g s. tally-in-bytes (channel_of c.core g s).tally (k.tallies g s) in
-    let fill : (g : Group) (s : Side) → fill_byte (channel_of c.core g s).fill < 256 = λ g s. fill-small (channel_of c.core g s).fill in
-    let cycle = cycle-small c.edition c.phase has.place k.written in
+    let tally : (g : Group) (s : Side) → Bytes (t g s) = λ g s. tally_in_bytes (channel_of c.core g s).tally (k.tallies g s) in
+    let fill : (g : Group) (s : Side) → fill_byte (channel_of c.core g s).fill < 256 = λ g s. fill_small (channel_of c.core g s).fill in
+    let cycle = cycle_small c.edition c.phase has.place k.written in
     let core = port_bytes c.core ++ (c.core.word ∷ enables_byte c.core.inte ∷ []) in
     let behind = core ++ bus_bytes c.phase ++ (edition_byte c.edition ∷ []) ++ replicate 23 0 in
     let others : Bytes behind = (
@@ -145,8 +145,8 @@ in-bytes c has k =
                             (
                               k.word,
                               (
-                                enables-small c.core.inte.input c.core.inte.output c.core.inte.b,
-                                (cycle.0, (cycle.1, (edition-small c.edition, zeros 23))),
+                                enables_small c.core.inte.input c.core.inte.output c.core.inte.b,
+                                (cycle.0, (cycle.1, (edition_small c.edition, zeros 23))),
                               ),
                             ),
                           ),
@@ -161,20 +161,20 @@ in-bytes c has k =
         ),
       ),
     ) in
-    bytes-both (t A Input) (t A Output ++ t B Input ++ t B Output ++ behind) (tally A Input)
-    (bytes-both (t A Output) (t B Input ++ t B Output ++ behind) (tally A Output)
-    (bytes-both (t B Input) (t B Output ++ behind) (tally B Input)
-    (bytes-both (t B Output) behind (tally B Output) others)))
+    bytes_both (t A Input) (t A Output ++ t B Input ++ t B Output ++ behind) (tally A Input)
+    (bytes_both (t A Output) (t B Input ++ t B Output ++ behind) (tally A Output)
+    (bytes_both (t B Input) (t B Output ++ behind) (tally B Input)
+    (bytes_both (t B Output) behind (tally B Output) others)))
   where
     zeros : (n : ℕ) → Bytes (replicate n 0)
     zeros zero = tt
     zeros (suc n) = (omega arith, zeros n)
 
-pub restored-where : (c : Chip) → ComesFromBytes c ↔ (HasImage c × InRange c)
-restored-where c = (told, by-bytes)
+pub restored_where : (c : Chip) → ComesFromBytes c ↔ (HasImage c × InRange c)
+restored_where c = (told, by_bytes)
   where
     told : ComesFromBytes c → HasImage c × InRange c
-    told (l, bytes, good, is) = subst (λ c. HasImage c × InRange c) is (has-so (state_of l) (tells-such l bytes good), in-range l bytes)
+    told (l, bytes, good, is) = subst (λ c. HasImage c × InRange c) is (has_so (state_of l) (tells_such l bytes good), in_range l bytes)
 
-    by-bytes : HasImage c × InRange c → ComesFromBytes c
-    by-bytes (has, k) = let is = has-by c has in (image_of c, in-bytes c has k, has-image c is, comes_back c is)
+    by_bytes : HasImage c × InRange c → ComesFromBytes c
+    by_bytes (has, k) = let is = has_by c has in (image_of c, in_bytes c has k, has_image_lem c is, comes_back c is)

@@ -19,26 +19,26 @@ use Rattle.image.specs.OlderLayout.{bus_byte, address_byte, older_of}
 use Rattle.image.specs.OlderLoaded.{older_state}
 use Rattle.image.specs.OlderGood.{is_older}
 use Rattle.image.specs.Before.{NoneForced, FromBefore}
-use Rattle.image.proofs.OlderSameBytes.{same-bytes}
-use Rattle.image.proofs.OlderComesBack.{comes_back, from-before}
-use Rattle.image.proofs.OlderOneImage.{older-where, tells-such}
-use Rattle.calls.proofs.Converted.{converts, convert-same}
+use Rattle.image.proofs.OlderSameBytes.{same_bytes_lem}
+use Rattle.image.proofs.OlderComesBack.{comes_back, from_before}
+use Rattle.image.proofs.OlderOneImage.{older_where, tells_such}
+use Rattle.calls.proofs.Converted.{converts, convert_same}
 use Rattle.restored.specs.Having.{HasImage}
 use Rattle.restored.specs.Table.{byte}
 use Rattle.restored.specs.OlderBytes.{TellsFive, running_number, place_number, OlderTells, Converted}
-use Rattle.restored.proofs.Having.{has-so, has-by}
-use Rattle.restored.proofs.Table.{fill-told, enables-told, written-told, two-bytes, low_byte, high_byte, behind}
+use Rattle.restored.proofs.Having.{has_so, has_by}
+use Rattle.restored.proofs.Table.{fill_told, enables_told, written_told, two_bytes, low_byte, high_byte, behind}
 
 -- Part by part, the numbers of the layout are those of the table.
-running-told : (ph : Phase) → running_number ph ≡ bus_byte ph
-running-told Idle = refl
-running-told (Reading p) = refl
-running-told (Writing x d) = refl
+running_told : (ph : Phase) → running_number ph ≡ bus_byte ph
+running_told Idle = refl
+running_told (Reading p) = refl
+running_told (Writing x d) = refl
 
-place-told : (ph : Phase) → place_number ph ≡ address_byte ph
-place-told Idle = refl
-place-told (Reading p) = refl
-place-told (Writing x d) = refl
+place_told : (ph : Phase) → place_number ph ≡ address_byte ph
+place_told Idle = refl
+place_told (Reading p) = refl
+place_told (Writing x d) = refl
 
 -- The ten bytes of a channel's tallies.
 abbrev ten : List ℕ → ℕ → List ℕ
@@ -47,13 +47,13 @@ ten o i =
     ∷ byte o (i + 8) ∷ byte o (i + 8 + 1) ∷ []
 
 module _ (o : List ℕ) (i : ℕ) (t : Tally) where
-  five-told : five_tallies t ≡ ten o i → (t.planted ≡ 0) × (t.struck ≡ 0) → TellsFive o i t
-  five-told same none = record {
-    offered = two-bytes t.offered (at 0) (at 1);
-    handed = two-bytes t.handed (at 2) (at 3);
-    overwritten = two-bytes t.overwritten (at 4) (at 5);
-    swallowed = two-bytes t.swallowed (at 6) (at 7);
-    cleared = two-bytes t.cleared (at 8) (at 9);
+  five_told : five_tallies t ≡ ten o i → (t.planted ≡ 0) × (t.struck ≡ 0) → TellsFive o i t
+  five_told same none = record {
+    offered = two_bytes t.offered (at 0) (at 1);
+    handed = two_bytes t.handed (at 2) (at 3);
+    overwritten = two_bytes t.overwritten (at 4) (at 5);
+    swallowed = two_bytes t.swallowed (at 6) (at 7);
+    cleared = two_bytes t.cleared (at 8) (at 9);
     planted = none.0;
     struck = none.1;
   }
@@ -61,8 +61,8 @@ module _ (o : List ℕ) (i : ℕ) (t : Tally) where
       at : (k : ℕ) → get_or (five_tallies t) k 0 ≡ get_or (ten o i) k 0
       at k = ap (λ m. get_or m k 0) same
 
-  five-back : Bytes o → TellsFive o i t → five_tallies t ≡ ten o i
-  five-back bytes tells =
+  five_back : Bytes o → TellsFive o i t → five_tallies t ≡ ten o i
+  five_back bytes tells =
       λ j.
       low_byte o bytes i tells.offered j ∷ high_byte o bytes i tells.offered j
       ∷ low_byte o bytes (i + 2) tells.handed j ∷ high_byte o bytes (i + 2) tells.handed j
@@ -71,53 +71,53 @@ module _ (o : List ℕ) (i : ℕ) (t : Tally) where
       ∷ low_byte o bytes (i + 8) tells.cleared j ∷ high_byte o bytes (i + 8) tells.cleared j ∷ []
 
 -- The older layout of a chip tells the chip.
-layout-tells : (c : Chip) → FromBefore c → OlderTells (older_of c) c
+layout_tells : (c : Chip) → FromBefore c → OlderTells (older_of c) c
 unfolding older_of
-layout-tells c (older, none) =
+layout_tells c (older, none) =
     let a = c.core.a.input in
     let b = c.core.a.output in
     let d = c.core.b.input in
     let e = c.core.b.output in
     record {
       long = refl;
-      a_in = record { counts = five-told (older_of c) 0 a.tally refl (none A Input); latch = refl; fill = fill-told a.fill };
-      a_out = record { counts = five-told (older_of c) 10 b.tally refl (none A Output); latch = refl; fill = fill-told b.fill };
-      b_in = record { counts = five-told (older_of c) 20 d.tally refl (none B Input); latch = refl; fill = fill-told d.fill };
-      b_out = record { counts = five-told (older_of c) 30 e.tally refl (none B Output); latch = refl; fill = fill-told e.fill };
+      a_in = record { counts = five_told (older_of c) 0 a.tally refl (none A Input); latch = refl; fill = fill_told a.fill };
+      a_out = record { counts = five_told (older_of c) 10 b.tally refl (none A Output); latch = refl; fill = fill_told b.fill };
+      b_in = record { counts = five_told (older_of c) 20 d.tally refl (none B Input); latch = refl; fill = fill_told d.fill };
+      b_out = record { counts = five_told (older_of c) 30 e.tally refl (none B Output); latch = refl; fill = fill_told e.fill };
       levels_a = refl;
       levels_b = refl;
       levels_c = refl;
       latch_c = refl;
       mode_word = refl;
-      enables = enables-told c.core.inte.input c.core.inte.output c.core.inte.b;
-      running = running-told c.phase;
-      place = place-told c.phase;
-      written = written-told c.phase;
+      enables = enables_told c.core.inte.input c.core.inte.output c.core.inte.b;
+      running = running_told c.phase;
+      place = place_told c.phase;
+      written = written_told c.phase;
       edition = older;
       unused = refl;
     }
 
 -- Bytes that tell a chip are its older layout.
 module _ (o : List ℕ) (bytes : Bytes o) (c : Chip) (t : OlderTells o c) where
-  told-layout : older_of c ≡ o
+  told_layout : older_of c ≡ o
   unfolding older_of
-  told-layout =
+  told_layout =
       let a = c.core.a.input in
       let b = c.core.a.output in
       let d = c.core.b.input in
       let e = c.core.b.output in
       (λ j.
-      five-back o 0 a.tally bytes t.a_in.counts j
-      ++ five-back o 10 b.tally bytes t.a_out.counts j
-      ++ five-back o 20 d.tally bytes t.b_in.counts j
-      ++ five-back o 30 e.tally bytes t.b_out.counts j
+      five_back o 0 a.tally bytes t.a_in.counts j
+      ++ five_back o 10 b.tally bytes t.a_out.counts j
+      ++ five_back o 20 d.tally bytes t.b_in.counts j
+      ++ five_back o 30 e.tally bytes t.b_out.counts j
       ++ (t.levels_a j ∷ t.levels_b j ∷ t.levels_c j ∷ t.latch_c j
       ∷ t.a_in.latch j ∷ t.a_out.latch j ∷ t.b_in.latch j ∷ t.b_out.latch j
-      ∷ (sym (fill-told a.fill) ∙ t.a_in.fill) j ∷ (sym (fill-told b.fill) ∙ t.a_out.fill) j
-      ∷ (sym (fill-told d.fill) ∙ t.b_in.fill) j ∷ (sym (fill-told e.fill) ∙ t.b_out.fill) j
-      ∷ t.mode_word j ∷ (sym (enables-told c.core.inte.input c.core.inte.output c.core.inte.b) ∙ t.enables) j
-      ∷ (sym (running-told c.phase) ∙ t.running) j ∷ (sym (place-told c.phase) ∙ t.place) j
-      ∷ (sym (written-told c.phase) ∙ t.written) j ∷ [])
+      ∷ (sym (fill_told a.fill) ∙ t.a_in.fill) j ∷ (sym (fill_told b.fill) ∙ t.a_out.fill) j
+      ∷ (sym (fill_told d.fill) ∙ t.b_in.fill) j ∷ (sym (fill_told e.fill) ∙ t.b_out.fill) j
+      ∷ t.mode_word j ∷ (sym (enables_told c.core.inte.input c.core.inte.output c.core.inte.b) ∙ t.enables) j
+      ∷ (sym (running_told c.phase) ∙ t.running) j ∷ (sym (place_told c.phase) ∙ t.place) j
+      ∷ (sym (written_told c.phase) ∙ t.written) j ∷ [])
       ++ (sym t.unused ∙ sym (behind o 57 7 t.long)) j)
       ∙ spelled o 64 t.long
 
@@ -131,23 +131,23 @@ module _ (o : List ℕ) (bytes : Bytes o) (c : Chip) (t : OlderTells o c) where
       none B Output = (t.b_out.counts.planted, t.b_out.counts.struck)
 
   module _ (has : HasImage c) where
-    is-older : is_older o ≡ true
-    is-older = ap is_older (sym told-layout) ∙ older-where c t.edition ∙ has-by c has
+    is_older_lem : is_older o ≡ true
+    is_older_lem = ap is_older (sym told_layout) ∙ older_where c t.edition ∙ has_by c has
 
     pub converted : Converted o c
     converted =
-        let same : older_state o ≡ c = ap older_state (sym told-layout) ∙ comes_back c before in
+        let same : older_state o ≡ c = ap older_state (sym told_layout) ∙ comes_back c before in
         record {
           state = same;
-          answer = λ room long. converts o room bytes is-older long;
-          written = λ room long. convert-same o room bytes is-older long ∙ ap image_of same;
+          answer = λ room long. converts o room bytes is_older_lem long;
+          written = λ room long. convert_same o room bytes is_older_lem long ∙ ap image_of same;
         }
 
 -- Exactly such bytes are an older image.
-pub older-image-where : (o : List ℕ) → Bytes o → (is_older o ≡ true) ↔ ((c : Chip) × HasImage c × OlderTells o c)
-older-image-where o bytes = (tells, λ (c, has, t). is-older o bytes c t has)
+pub older_image_where : (o : List ℕ) → Bytes o → (is_older o ≡ true) ↔ ((c : Chip) × HasImage c × OlderTells o c)
+older_image_where o bytes = (tells, λ (c, has, t). is_older_lem o bytes c t has)
   where
     tells : is_older o ≡ true → (c : Chip) × HasImage c × OlderTells o c
     tells good =
         let c = older_state o in
-        (c, has-so c (tells-such o bytes good), subst (λ l. OlderTells l c) (same-bytes o bytes good) (layout-tells c (from-before o)))
+        (c, has_so c (tells_such o bytes good), subst (λ l. OlderTells l c) (same_bytes_lem o bytes good) (layout_tells c (from_before o)))

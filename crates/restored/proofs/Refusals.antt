@@ -9,21 +9,21 @@ use lib.Dec.{ltb}
 use lib.ListN.{length}
 use borrow.Author.Tests.{eq-eqb, ne_eqb, lt-ltb, le-ltb}
 use Rattle.std.specs.Prelude.{Option, Some, None}
-use Rattle.bits.proofs.Logic.{by-test}
+use Rattle.bits.proofs.Logic.{by_test}
 use Rattle.bus.specs.declared.Phase.{Phase}
 use Rattle.bus.specs.declared.Limits.{Limits}
 use Rattle.bus.specs.Refusals.{number_of}
 use Rattle.chip.specs.declared.reasons.Explained.{Explained}
 use Rattle.chip.specs.Reasons.{explained_of, numbers_of}
 use Rattle.chip.specs.Step.{limits}
-use Rattle.chip.proofs.Outcome.{step-number}
+use Rattle.chip.proofs.Outcome.{step_number}
 use Rattle.image.specs.Loaded.{state_of}
 use Rattle.image.specs.Good.{is_image}
 use Rattle.image.specs.Slices.{saved_in}
 use Rattle.image.specs.OlderGood.{is_older}
 use Rattle.calls.specs.Calls.{last_port, last_channel, last_tally, power_up_as_answer, power_up_as_image, convert_answer, convert_image, step_answer, pins_answer, tally_answer, reasons_given, explain_answer}
 use Rattle.calls.proofs.HostStep.{bad_answer, bad_stays}
-use Rattle.calls.proofs.Converted.{convert-bad}
+use Rattle.calls.proofs.Converted.{convert_bad}
 use Rattle.restored.specs.Refusals.{RefusedBytes, AcceptedBytes, PowersUp, Converts}
 
 -- What is so of both outcomes is so of either.
@@ -71,16 +71,16 @@ module _ (l : List ℕ) where
   accepted_bytes good = record {
     step = λ k x d.
         let c = state_of l in
-        rw (good) (omega (arith, step-number c k x d, few (limits c.edition) c.phase k x));
-    pins = λ p. rw (good) (by-test Few (ltb last_port p) _ _ (λ above. omega arith) (λ below. omega arith));
-    tally = λ k n. rw (good) (by-test Few (ltb last_channel k || ltb last_tally n) _ _ (λ above. omega arith) (λ below. omega arith));
+        rw (good) (omega (arith, step_number c k x d, few (limits c.edition) c.phase k x));
+    pins = λ p. rw (good) (by_test Few (ltb last_port p) _ _ (λ above. omega arith) (λ below. omega arith));
+    tally = λ k n. rw (good) (by_test Few (ltb last_channel k || ltb last_tally n) _ _ (λ above. omega arith) (λ below. omega arith));
     explain = λ g. rw (good) (explained_few (explained_of (state_of l) g));
   }
 
   -- Power-ups.
-  pub powers-up : PowersUp l
+  pub powers_up : PowersUp l
   unfolding power_up_as_answer power_up_as_image saved_in
-  powers-up = record {
+  powers_up = record {
     accepted = λ long. rw (eq-eqb (length l) 96 long);
     accepted_as = λ ed long few. rw (le-ltb 1 ed few, eq-eqb (length l) 96 long);
     other_length = λ other. let no = ne_eqb (length l) 96 other in (rw (no), rw (no));
@@ -90,10 +90,10 @@ module _ (l : List ℕ) where
   }
 
 -- Conversions.
-pub converts-so : (o l : List ℕ) → Converts o l
+pub converts_so : (o l : List ℕ) → Converts o l
 unfolding convert_answer convert_image saved_in
-converts-so o l = record {
+converts_so o l = record {
   accepted = λ older long. rw (older, eq-eqb (length l) 96 long);
-  no_older = convert-bad o l;
+  no_older = convert_bad o l;
   other_length = λ other. let no = ne_eqb (length l) 96 other in (rw (no) (either (is_older o) 8), rw (no) (either (is_older o) l));
 }

@@ -18,34 +18,34 @@ use Rattle.fates.specs.Discipline.{ibf, Minds, Disciplined}
 use Rattle.fates.proofs.Followed.{after}
 use Rattle.account.specs.Views.{pin_level}
 use Rattle.account.specs.Promise.{account_of}
-use Rattle.account.proofs.Account.{account-from}
+use Rattle.account.proofs.Account.{account_from}
 use Rattle.calls.specs.Calls.{packed}
 use Rattle.restored.specs.Host.{passed}
 use Rattle.restored.specs.Answers.{ibf_answered, HostDisciplined}
-use Rattle.restored.proofs.Holds.{Holds, holds-next, pins-held}
+use Rattle.restored.proofs.Holds.{Holds, holds_next, pins_held}
 
 -- The levels of port C are a byte, so that they can be taken out of the answer.
 bit_below : (b : Bool) → num b < 2
 bit_below true = omega arith
 bit_below false = omega arith
 
-byte-below : (f : ℕ → Bool) → byte_by f < 256
-byte-below f =
+byte_below : (f : ℕ → Bool) → byte_by f < 256
+byte_below f =
     omega (arith, bit_below (f 0), bit_below (f 1), bit_below (f 2), bit_below (f 3), bit_below (f 4), bit_below (f 5), bit_below (f 6), bit_below (f 7))
 
-lines-below : (c : Chip) → (pins_of c 2).levels < 256
-lines-below c = rw ((account-from c []).levels 2) (byte-below (pin_level (account_of c)))
+lines_below : (c : Chip) → (pins_of c 2).levels < 256
+lines_below c = rw ((account_from c []).levels 2) (byte_below (pin_level (account_of c)))
 
 taken_out : (levels driven : ℕ) → levels < 256 → packed 0 levels driven / 256 % 256 ≡ levels
 taken_out levels driven small = omega arith
 
-ibf-held : (g : Group) (l : List ℕ) (c : Chip) → Holds l c → ibf_answered l g ≡ ibf c g
-ibf-held g l c h = rw (pins-held l c h 2, taken_out _ _ (lines-below c))
+ibf_held : (g : Group) (l : List ℕ) (c : Chip) → Holds l c → ibf_answered l g ≡ ibf c g
+ibf_held g l c h = rw (pins_held l c h 2, taken_out _ _ (lines_below c))
 
 -- So the one can be kept exactly where the other can.
-pub same-discipline : (g : Group) (a : Surroundings) (l : List ℕ) (c : Chip) (es : List Event) → Holds l c
+pub same_discipline : (g : Group) (a : Surroundings) (l : List ℕ) (c : Chip) (es : List Event) → Holds l c
     → HostDisciplined g a l es ≡ Disciplined g a c es
-same-discipline g a l c [] h = refl
-same-discipline g a l c (e ∷ es) h =
-    ap₂ (λ (level : Bool) (rest : Type 0). Minds level (effect g Input a e) × rest) (ibf-held g l c h)
-    (same-discipline g (surroundings_next a e) (passed l e) (after c e) es (holds-next l c h e))
+same_discipline g a l c [] h = refl
+same_discipline g a l c (e ∷ es) h =
+    ap₂ (λ (level : Bool) (rest : Type 0). Minds level (effect g Input a e) × rest) (ibf_held g l c h)
+    (same_discipline g (surroundings_next a e) (passed l e) (after c e) es (holds_next l c h e))

@@ -21,9 +21,9 @@ becomes : (older image room : List ℕ) → is_older older ≡ true → image_of
 unfolding convert_answer convert_image
 becomes older image room good is long = (rw (good, eq-eqb (length room) 96 long), rw (good) (written_over room (older_state older) long ∙ is))
 
-pub all-become : (room : List ℕ) → length room ≡ 96 → Becomes five_saved room
+pub all_become : (room : List ℕ) → length room ≡ 96 → Becomes five_saved room
 unfolding is_older older_state image_of strobed_input strobed_output mode_of input_of bit_of value_of
-all-become room long = (
+all_become room long = (
   becomes _ _ room refl refl long,
   (
     becomes _ _ room refl refl long,

@@ -18,23 +18,23 @@ use Rattle.fates.proofs.Followed.{after}
 use Rattle.calls.specs.Calls.{last_port}
 use Rattle.restored.specs.Host.{passed}
 use Rattle.restored.specs.Answers.{AnswerShows, AnsweredAt}
-use Rattle.restored.proofs.Holds.{Holds, holds-next, answer-held, pins-held}
+use Rattle.restored.proofs.Holds.{Holds, holds_next, answer_held, pins_held}
 
 -- The pins call refuses neither port.
-is-port : (g : Group) → ltb last_port (port_number g) ≡ false
-is-port A = refl
-is-port B = refl
+is_port : (g : Group) → ltb last_port (port_number g) ≡ false
+is_port A = refl
+is_port B = refl
 
-answer-shows : (g : Group) (s : Side) (l : List ℕ) (c : Chip) (e : Event) (v : ℕ) → Holds l c → Shows g s c e v → AnswerShows g s l e v
-answer-shows g Input l c e v h shown = rw (answer-held l c h e, shown.0, shown.1)
-answer-shows g Output l c e v h shown = (
-  rw (answer-held l c h e, shown.0) (omega arith),
-  pins-held (passed l e) (after c e) (holds-next l c h e) (port_number g) ∙ rw (is-port g, shown.1),
+answer_shows : (g : Group) (s : Side) (l : List ℕ) (c : Chip) (e : Event) (v : ℕ) → Holds l c → Shows g s c e v → AnswerShows g s l e v
+answer_shows g Input l c e v h shown = rw (answer_held l c h e, shown.0, shown.1)
+answer_shows g Output l c e v h shown = (
+  rw (answer_held l c h e, shown.0) (omega arith),
+  pins_held (passed l e) (after c e) (holds_next l c h e) (port_number g) ∙ rw (is_port g, shown.1),
 )
 
-pub answered-at : (g : Group) (s : Side) (l : List ℕ) (c : Chip) (es : List Event) (n v : ℕ) → Holds l c → ShownAt g s c es n v
+pub answered_at : (g : Group) (s : Side) (l : List ℕ) (c : Chip) (es : List Event) (n v : ℕ) → Holds l c → ShownAt g s c es n v
     → AnsweredAt g s l es n v
-answered-at g s l c [] n v h never = never
-answered-at g s l c (e ∷ es) zero v h never = never
-answered-at g s l c (e ∷ es) (suc zero) v h shown = answer-shows g s l c e v h shown
-answered-at g s l c (e ∷ es) (suc (suc n)) v h shown = answered-at g s (passed l e) (after c e) es (suc n) v (holds-next l c h e) shown
+answered_at g s l c [] n v h never = never
+answered_at g s l c (e ∷ es) zero v h never = never
+answered_at g s l c (e ∷ es) (suc zero) v h shown = answer_shows g s l c e v h shown
+answered_at g s l c (e ∷ es) (suc (suc n)) v h shown = answered_at g s (passed l e) (after c e) es (suc n) v (holds_next l c h e) shown

@@ -19,6 +19,6 @@ module _ (l : List ℕ) (long : length l ≡ 96) where
   named (suc zero) a b c few = rw (eq-eqb (length l) 96 long)
   named (suc (suc ed)) a b c few = absurd (omega (arith, few))
 
-  pub switches-on : SwitchesOn l
+  pub switches_on : SwitchesOn l
   unfolding power_up_as_image
-  switches-on = record { edition_named = named; levels_named = λ a b c. named 0 a b c (omega arith); none_named = named 0 0 0 0 (omega arith) }
+  switches_on = record { edition_named = named; levels_named = λ a b c. named 0 a b c (omega arith); none_named = named 0 0 0 0 (omega arith) }

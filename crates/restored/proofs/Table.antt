@@ -23,46 +23,46 @@ use Rattle.image.specs.Layout.{tally_bytes, fill_byte, enables_byte, bus_byte, w
 use Rattle.image.specs.Loaded.{byte_at, state_of}
 use Rattle.image.specs.Good.{is_image, Bytes}
 use Rattle.image.proofs.ComesBack.{comes_back}
-use Rattle.image.proofs.SameBytes.{small, spelled, same-bytes}
-use Rattle.image.proofs.OneImage.{has-image, tells-such}
+use Rattle.image.proofs.SameBytes.{small, spelled, same_bytes_lem}
+use Rattle.image.proofs.OneImage.{has_image_lem, tells_such}
 use Rattle.restored.specs.Having.{NamesAPlace, HasImage}
 use Rattle.restored.specs.Table.{byte, count_at, TellsTallies, condition_number, enables_number, bus_number, written_number, edition_number, Tells}
-use Rattle.restored.proofs.Having.{an-address, has-so, has-by}
+use Rattle.restored.proofs.Having.{an_address, has_so, has_by}
 
 -- Part by part, the numbers of the layout are those of the table.
-pub fill-told : (f : Fill) → condition_number f ≡ fill_byte f
-fill-told Empty = refl
-fill-told Waiting = refl
-fill-told Fetching = refl
+pub fill_told : (f : Fill) → condition_number f ≡ fill_byte f
+fill_told Empty = refl
+fill_told Waiting = refl
+fill_told Fetching = refl
 
-pub enables-told : (i o b : Bool) → let e : Enables = record { input = i; output = o; b = b } in enables_number e ≡ enables_byte e
+pub enables_told : (i o b : Bool) → let e : Enables = record { input = i; output = o; b = b } in enables_number e ≡ enables_byte e
 unfolding value_of
-enables-told true true true = refl
-enables-told true true false = refl
-enables-told true false true = refl
-enables-told true false false = refl
-enables-told false true true = refl
-enables-told false true false = refl
-enables-told false false true = refl
-enables-told false false false = refl
+enables_told true true true = refl
+enables_told true true false = refl
+enables_told true false true = refl
+enables_told true false false = refl
+enables_told false true true = refl
+enables_told false true false = refl
+enables_told false false true = refl
+enables_told false false false = refl
 
-bus-told : (ed : Edition) (ph : Phase) → NamesAPlace ed ph → bus_number ph ≡ bus_byte ph
-bus-told ed Idle few = refl
-bus-told ed (Reading p) few = rw (lt-ltb p 4 (an-address ed p few))
-bus-told ed (Writing x d) few = rw (lt-ltb x 4 (omega (arith, few)))
+bus_told : (ed : Edition) (ph : Phase) → NamesAPlace ed ph → bus_number ph ≡ bus_byte ph
+bus_told ed Idle few = refl
+bus_told ed (Reading p) few = rw (lt-ltb p 4 (an_address ed p few))
+bus_told ed (Writing x d) few = rw (lt-ltb x 4 (omega (arith, few)))
 
-pub written-told : (ph : Phase) → written_number ph ≡ written_byte ph
-written-told Idle = refl
-written-told (Reading p) = refl
-written-told (Writing x d) = refl
+pub written_told : (ph : Phase) → written_number ph ≡ written_byte ph
+written_told Idle = refl
+written_told (Reading p) = refl
+written_told (Writing x d) = refl
 
-edition-told : (ed : Edition) → edition_number ed ≡ edition_byte ed
-edition-told Older = refl
-edition-told Newer = refl
+edition_told : (ed : Edition) → edition_number ed ≡ edition_byte ed
+edition_told Older = refl
+edition_told Newer = refl
 
 -- A count is what its two bytes tell, and they are what is told of it.
-pub two-bytes : (n : ℕ) {low high : ℕ} → n % 256 ≡ low → n / 256 ≡ high → n ≡ low + 256 * high
-two-bytes n first second = omega (arith, first, second)
+pub two_bytes : (n : ℕ) {low high : ℕ} → n % 256 ≡ low → n / 256 ≡ high → n ≡ low + 256 * high
+two_bytes n first second = omega (arith, first, second)
 
 module _ (l : List ℕ) (bytes : Bytes l) (k : ℕ) {n : ℕ} (is : n ≡ count_at l k) where
   pub low_byte : n % 256 ≡ byte l k
@@ -78,22 +78,22 @@ fourteen l i =
     ∷ byte l (i + 8) ∷ byte l (i + 8 + 1) ∷ byte l (i + 10) ∷ byte l (i + 10 + 1) ∷ byte l (i + 12) ∷ byte l (i + 12 + 1) ∷ []
 
 module _ (l : List ℕ) (i : ℕ) (t : Tally) where
-  counts-told : tally_bytes t ≡ fourteen l i → TellsTallies l i t
-  counts-told same = record {
-    offered = two-bytes t.offered (at 0) (at 1);
-    handed = two-bytes t.handed (at 2) (at 3);
-    overwritten = two-bytes t.overwritten (at 4) (at 5);
-    swallowed = two-bytes t.swallowed (at 6) (at 7);
-    cleared = two-bytes t.cleared (at 8) (at 9);
-    planted = two-bytes t.planted (at 10) (at 11);
-    struck = two-bytes t.struck (at 12) (at 13);
+  counts_told : tally_bytes t ≡ fourteen l i → TellsTallies l i t
+  counts_told same = record {
+    offered = two_bytes t.offered (at 0) (at 1);
+    handed = two_bytes t.handed (at 2) (at 3);
+    overwritten = two_bytes t.overwritten (at 4) (at 5);
+    swallowed = two_bytes t.swallowed (at 6) (at 7);
+    cleared = two_bytes t.cleared (at 8) (at 9);
+    planted = two_bytes t.planted (at 10) (at 11);
+    struck = two_bytes t.struck (at 12) (at 13);
   }
     where
       at : (k : ℕ) → get_or (tally_bytes t) k 0 ≡ get_or (fourteen l i) k 0
       at k = ap (λ m. get_or m k 0) same
 
-  counts-back : Bytes l → TellsTallies l i t → tally_bytes t ≡ fourteen l i
-  counts-back bytes tells =
+  counts_back : Bytes l → TellsTallies l i t → tally_bytes t ≡ fourteen l i
+  counts_back bytes tells =
       λ j.
       low_byte l bytes i tells.offered j ∷ high_byte l bytes i tells.offered j
       ∷ low_byte l bytes (i + 2) tells.handed j ∷ high_byte l bytes (i + 2) tells.handed j
@@ -104,28 +104,28 @@ module _ (l : List ℕ) (i : ℕ) (t : Tally) where
       ∷ low_byte l bytes (i + 12) tells.struck j ∷ high_byte l bytes (i + 12) tells.struck j ∷ []
 
 -- The layout of a chip tells the chip.
-pub layout-tells : (c : Chip) → HasImage c → Tells (image_of c) c
+pub layout_tells : (c : Chip) → HasImage c → Tells (image_of c) c
 unfolding image_of
-layout-tells c has =
+layout_tells c has =
     let a = c.core.a.input in
     let b = c.core.a.output in
     let d = c.core.b.input in
     let e = c.core.b.output in
     record {
       long = refl;
-      a_in = record { counts = counts-told (image_of c) 0 a.tally refl; latch = refl; fill = fill-told a.fill };
-      a_out = record { counts = counts-told (image_of c) 14 b.tally refl; latch = refl; fill = fill-told b.fill };
-      b_in = record { counts = counts-told (image_of c) 28 d.tally refl; latch = refl; fill = fill-told d.fill };
-      b_out = record { counts = counts-told (image_of c) 42 e.tally refl; latch = refl; fill = fill-told e.fill };
+      a_in = record { counts = counts_told (image_of c) 0 a.tally refl; latch = refl; fill = fill_told a.fill };
+      a_out = record { counts = counts_told (image_of c) 14 b.tally refl; latch = refl; fill = fill_told b.fill };
+      b_in = record { counts = counts_told (image_of c) 28 d.tally refl; latch = refl; fill = fill_told d.fill };
+      b_out = record { counts = counts_told (image_of c) 42 e.tally refl; latch = refl; fill = fill_told e.fill };
       levels_a = refl;
       levels_b = refl;
       levels_c = refl;
       latch_c = refl;
       mode_word = refl;
-      enables = enables-told c.core.inte.input c.core.inte.output c.core.inte.b;
-      bus = bus-told c.edition c.phase has.place;
-      written = written-told c.phase;
-      edition = edition-told c.edition;
+      enables = enables_told c.core.inte.input c.core.inte.output c.core.inte.b;
+      bus = bus_told c.edition c.phase has.place;
+      written = written_told c.phase;
+      edition = edition_told c.edition;
       unused = refl;
     }
 
@@ -140,40 +140,40 @@ behind [] (suc i) n long = absurd (omega (arith, long))
 behind (b ∷ l) (suc i) n long = shifted (byte_at (b ∷ l)) i n ∙ behind l i n (omega (arith, long))
 
 -- Bytes that tell a chip are its layout.
-pub told-layout : (l : List ℕ) (c : Chip) → Bytes l → HasImage c → Tells l c → image_of c ≡ l
+pub told_layout : (l : List ℕ) (c : Chip) → Bytes l → HasImage c → Tells l c → image_of c ≡ l
 unfolding image_of
-told-layout l c bytes has t =
+told_layout l c bytes has t =
     let a = c.core.a.input in
     let b = c.core.a.output in
     let d = c.core.b.input in
     let e = c.core.b.output in
     (λ j.
-    counts-back l 0 a.tally bytes t.a_in.counts j
-    ++ counts-back l 14 b.tally bytes t.a_out.counts j
-    ++ counts-back l 28 d.tally bytes t.b_in.counts j
-    ++ counts-back l 42 e.tally bytes t.b_out.counts j
+    counts_back l 0 a.tally bytes t.a_in.counts j
+    ++ counts_back l 14 b.tally bytes t.a_out.counts j
+    ++ counts_back l 28 d.tally bytes t.b_in.counts j
+    ++ counts_back l 42 e.tally bytes t.b_out.counts j
     ++ (t.levels_a j ∷ t.levels_b j ∷ t.levels_c j ∷ t.latch_c j
     ∷ t.a_in.latch j ∷ t.a_out.latch j ∷ t.b_in.latch j ∷ t.b_out.latch j
-    ∷ (sym (fill-told a.fill) ∙ t.a_in.fill) j ∷ (sym (fill-told b.fill) ∙ t.a_out.fill) j
-    ∷ (sym (fill-told d.fill) ∙ t.b_in.fill) j ∷ (sym (fill-told e.fill) ∙ t.b_out.fill) j
-    ∷ t.mode_word j ∷ (sym (enables-told c.core.inte.input c.core.inte.output c.core.inte.b) ∙ t.enables) j
-    ∷ (sym (bus-told c.edition c.phase has.place) ∙ t.bus) j ∷ (sym (written-told c.phase) ∙ t.written) j
-    ∷ (sym (edition-told c.edition) ∙ t.edition) j ∷ [])
+    ∷ (sym (fill_told a.fill) ∙ t.a_in.fill) j ∷ (sym (fill_told b.fill) ∙ t.a_out.fill) j
+    ∷ (sym (fill_told d.fill) ∙ t.b_in.fill) j ∷ (sym (fill_told e.fill) ∙ t.b_out.fill) j
+    ∷ t.mode_word j ∷ (sym (enables_told c.core.inte.input c.core.inte.output c.core.inte.b) ∙ t.enables) j
+    ∷ (sym (bus_told c.edition c.phase has.place) ∙ t.bus) j ∷ (sym (written_told c.phase) ∙ t.written) j
+    ∷ (sym (edition_told c.edition) ∙ t.edition) j ∷ [])
     ++ (sym t.unused ∙ sym (behind l 73 23 t.long)) j)
     ∙ spelled l 96 t.long
 
-pub told-is : (l : List ℕ) (c : Chip) → Bytes l → HasImage c → Tells l c → state_of l ≡ c
-told-is l c bytes has t = ap state_of (sym (told-layout l c bytes has t)) ∙ comes_back c (has-by c has)
+pub told_is : (l : List ℕ) (c : Chip) → Bytes l → HasImage c → Tells l c → state_of l ≡ c
+told_is l c bytes has t = ap state_of (sym (told_layout l c bytes has t)) ∙ comes_back c (has_by c has)
 
 -- Exactly such bytes are an image.
-pub image-where : (l : List ℕ) → Bytes l → (is_image l ≡ true) ↔ ((c : Chip) × HasImage c × Tells l c)
-image-where l bytes = (tells, is)
+pub image_where : (l : List ℕ) → Bytes l → (is_image l ≡ true) ↔ ((c : Chip) × HasImage c × Tells l c)
+image_where l bytes = (tells, is)
   where
     tells : is_image l ≡ true → (c : Chip) × HasImage c × Tells l c
     tells good =
         let c = state_of l in
-        let has = has-so c (tells-such l bytes good) in
-        (c, has, subst (λ m. Tells m c) (same-bytes l bytes good) (layout-tells c has))
+        let has = has_so c (tells_such l bytes good) in
+        (c, has, subst (λ m. Tells m c) (same_bytes_lem l bytes good) (layout_tells c has))
 
     is : ((c : Chip) × HasImage c × Tells l c) → is_image l ≡ true
-    is (c, has, t) = subst (λ m. is_image m ≡ true) (told-layout l c bytes has t) (has-image c (has-by c has))
+    is (c, has, t) = subst (λ m. is_image m ≡ true) (told_layout l c bytes has t) (has_image_lem c (has_by c has))

@@ -10,25 +10,25 @@ use borrow.Author.Rules.{part_to_end}
 use Rattle.text.specs.Lines.{Line}
 use Rattle.script.specs.Answers.{Answerer, line_after, answers_from, state_after, left_after}
 use Rattle.script.specs.Run.{width_of, filled}
-use Rattle.script.proofs.Filling.{back, back-front, back-behind, back-length}
-use Rattle.script.proofs.Levels.{line-length}
+use Rattle.script.proofs.Filling.{back, back_front, back_behind, back_length}
+use Rattle.script.proofs.Levels.{line_length}
 
 module _ {S : Type 0} (a : Answerer S) where
   -- What the output will hold: what stands before `at`, the answers to the lines that are left, each w bytes wide, and what stands behind these.
   abbrev to_come : ℕ → S → List Line → ℕ → List ℕ → List ℕ
   to_come w s ls at out = take at out ++ (answers_from a s ls ++ drop (at + w * length ls) out)
 
-  one-answered : (w : ℕ) (s : S) (l : Line) (ls : List Line) (at : ℕ) (out : List ℕ)
+  one_answered : (w : ℕ) (s : S) (l : Line) (ls : List Line) (at : ℕ) (out : List ℕ)
       → length (line_after a (a.takes s l)) ≡ w → at + w * suc (length ls) ≤ length out
       → to_come w (a.takes s l).state ls (at + w) (back at w (line_after a (a.takes s l)) out) ≡ to_come w s (l ∷ ls) at out
   unfolding answers_from
-  one-answered w s l ls at out wide room =
+  one_answered w s l ls at out wide room =
       let line : List ℕ = line_after a (a.takes s l) in
       let later : List ℕ = answers_from a (a.takes s l).state ls in
       let more : w * suc (length ls) ≡ w * length ls + w = mul-suc w (length ls) in
       let fits : at + w ≤ length out = omega (arith, room, more) in
       let behind : at + w + w * length ls ≡ at + w * suc (length ls) = omega (arith, more) in
-      rw (back-front at w line out wide fits, back-behind at w line out wide fits (w * length ls), behind)
+      rw (back_front at w line out wide fits, back_behind at w line out wide fits (w * length ls), behind)
       (append_assoc (take at out) line (later ++ drop (at + w * suc (length ls)) out)
       ∙ ap (λ (l : List ℕ). take at out ++ l) (sym (append_assoc line later (drop (at + w * suc (length ls)) out))))
 
@@ -45,25 +45,25 @@ module _ {S : Type 0} (a : Answerer S) where
   module _ (start : S) (text first out : List ℕ) (l : Line) (ls : List Line) (s : S) (at : ℕ)
       (way : UnderWay start text first out (l ∷ ls) s at) where
     same_width : width_of a (a.takes s l).state ≡ width_of a start
-    same_width = ap (λ n. 4 + 6 * n + 1) (a.cards-stay s l ∙ way.as_wide)
+    same_width = ap (λ n. 4 + 6 * n + 1) (a.cards_stay s l ∙ way.as_wide)
 
-    pub room-for-one : width_of a (a.takes s l).state ≤ length (take (length out - at) (drop at out))
-    room-for-one = rw (part_to_end out at, length-drop at out, same_width) (omega (arith, way.room, mul-suc (width_of a start) (length ls)))
+    pub room_for_one : width_of a (a.takes s l).state ≤ length (take (length out - at) (drop at out))
+    room_for_one = rw (part_to_end out at, length-drop at out, same_width) (omega (arith, way.room, mul-suc (width_of a start) (length ls)))
 
-    pub goes-on : (part : List ℕ)
+    pub goes_on_lem : (part : List ℕ)
         → part ≡ line_after a (a.takes s l) ++ drop (width_of a (a.takes s l).state) (take (length out - at) (drop at out))
         → UnderWay start text first (take at out ++ (part ++ drop (length out - at) (drop at out))) ls (a.takes s l).state (at + width_of a start)
-    goes-on part written =
+    goes_on_lem part written =
         let w : ℕ = width_of a start in
         let line : List ℕ = line_after a (a.takes s l) in
-        let wide : length line ≡ w = line-length a (a.takes s l) ∙ same_width in
+        let wide : length line ≡ w = line_length a (a.takes s l) ∙ same_width in
         let more : w * suc (length ls) ≡ w * length ls + w = mul-suc w (length ls) in
-        let same = back-length at w line out wide (omega (arith, way.room, more)) in
+        let same = back_length at w line out wide (omega (arith, way.room, more)) in
         rw (written, same_width) (record {
-          as_wide = a.cards-stay s l ∙ way.as_wide;
+          as_wide = a.cards_stay s l ∙ way.as_wide;
           long = same ∙ way.long;
           room = omega (arith, way.room, same, more);
-          comes = one-answered w s l ls at out wide way.room ∙ way.comes;
+          comes = one_answered w s l ls at out wide way.room ∙ way.comes;
           leads = way.leads;
         })
 

@@ -3,8 +3,8 @@
 -- Rests on bits', bus' and rack's Determined.
 use mathlib.Core.Path.{◌≡◌, ◌∙◌, refl, ap, ap₂, sym}
 use Rattle.std.specs.Prelude.{cond, ℕ, eqb, Result, Ok, Err}
-use Rattle.bits.proofs.Determined.{Determines, equation-determines, equations-determine}
-use Rattle.bus.proofs.Determined.{answer_of, frame_of, frame-told-so}
+use Rattle.bits.proofs.Determined.{Determines, equation_determines, equations_determine}
+use Rattle.bus.proofs.Determined.{answer_of, frame_of, frame_told_so}
 use Rattle.rack.proofs.Determined as racks
 use Rattle.script.specs.declared.RunRefusal.{RunRefusal}
 use Rattle.script.specs.declared.RunRefusal.TheVariants.{TooLong, NoRoom}
@@ -21,59 +21,59 @@ use Rattle.script.proofs as script
 abbrev run_answer : ℕ → ℕ → Result ℕ RunRefusal
 run_answer n count = cond (eqb n 0) (Ok count) (cond (eqb n 6) (Err TooLong) (Err NoRoom))
 
-told-so : (r : Result ℕ RunRefusal) → r ≡ run_answer (run_told r).number (run_told r).lines
-told-so (Ok n) = refl
-told-so (Err TooLong) = refl
-told-so (Err NoRoom) = refl
+told_so : (r : Result ℕ RunRefusal) → r ≡ run_answer (run_told r).number (run_told r).lines
+told_so (Ok n) = refl
+told_so (Err TooLong) = refl
+told_so (Err NoRoom) = refl
 
-left-so : {S : Type 0} (r : Result ℕ RunRefusal) (s : S) → (r ≡ run_answer (left_told r s).number (left_told r s).refused) × (s ≡ (left_told r s).state)
-left-so (Ok n) s = (refl, refl)
-left-so (Err TooLong) s = (refl, refl)
-left-so (Err NoRoom) s = (refl, refl)
+left_so : {S : Type 0} (r : Result ℕ RunRefusal) (s : S) → (r ≡ run_answer (left_told r s).number (left_told r s).refused) × (s ≡ (left_told r s).state)
+left_so (Ok n) s = (refl, refl)
+left_so (Err TooLong) s = (refl, refl)
+left_so (Err NoRoom) s = (refl, refl)
 
-pub number-determined : Determines script_says.RunRefusalNumbered.number.ended script.RunRefusalNumbered.number.Reads.Learnt
-number-determined c x y = equation-determines
+pub number_determined : Determines script_says.RunRefusalNumbered.number.ended script.RunRefusalNumbered.number.Reads.Learnt
+number_determined c x y = equation_determines
 
-pub line-width-determined : Determines script_says.line_width.ended script.line_width.Reads.Learnt
-line-width-determined c x y = equation-determines
+pub line_width_determined : Determines script_says.line_width.ended script.line_width.Reads.Learnt
+line_width_determined c x y = equation_determines
 
-pub run-determined
+pub run_determined
     : (S : _) (lS : _) (R : _) (lR : _) (copy : _) (G : _) (t : _) (H : _) (u : _) (K : _) (v : _)
     → Determines (script_says.run.ended S R G t H u K v) (script.run.Reads.Learnt S R lS lR copy G t H u K v)
-run-determined S lS R lR copy G t H u K v c x y p q =
-    let result = told-so x.0 ∙ ap (λ (r : Ran). run_answer r.number r.lines) (p.0 ∙ sym q.0) ∙ sym (told-so y.0) in
+run_determined S lS R lR copy G t H u K v c x y p q =
+    let result = told_so x.0 ∙ ap (λ (r : Ran). run_answer r.number r.lines) (p.0 ∙ sym q.0) ∙ sym (told_so y.0) in
     let out = p.1.0 ∙ sym q.1.0 in
     let subject = p.1.1 ∙ sym q.1.1 in
     λ i. (result i, (subject i, (tt, (out i, tt))))
 
-pub take-all-determined
+pub take_all_determined
     : (S : _) (lS : _) (R : _) (lR : _) (copy : _) (G : _) (t : _) (H : _) (u : _) (K : _) (v : _)
     → Determines (script_says.left.take_all.ended S R G t H u K v) (script.left.take_all.Reads.Learnt S R lS lR copy G t H u K v)
-take-all-determined S lS R lR copy G t H u K v c x y p q =
+take_all_determined S lS R lR copy G t H u K v c x y p q =
     let same = p ∙ sym q in
-    let a = left-so x.0 x.1.0 in
-    let b = left-so y.0 y.1.0 in
+    let a = left_so x.0 x.1.0 in
+    let b = left_so y.0 y.1.0 in
     let result = a.0 ∙ ap (λ (l : Left S.Denot). run_answer l.number l.refused) same ∙ sym b.0 in
     let subject = a.1 ∙ ap (λ (l : Left S.Denot). l.state) same ∙ sym b.1 in
     λ i. (result i, (subject i, (tt, tt)))
 
-pub scripted-take-determined
+pub scripted_take_determined
     : (D : _) (lD : _) (G : _) (t : _)
     → Determines (script_says.devices.AnyScripted.take.ended D G t) (script.devices.AnyScripted.take.Reads.Learnt D lD G t)
-scripted-take-determined D lD G t c x y p q =
-    equations-determine
-    (frame-told-so x.0 ∙ ap₂ (answer_of frame_of) p.1.0 p.1.1, p.0)
-    (frame-told-so y.0 ∙ ap₂ (answer_of frame_of) q.1.0 q.1.1, q.0)
+scripted_take_determined D lD G t c x y p q =
+    equations_determine
+    (frame_told_so x.0 ∙ ap₂ (answer_of frame_of) p.1.0 p.1.1, p.0)
+    (frame_told_so y.0 ∙ ap₂ (answer_of frame_of) q.1.0 q.1.1, q.0)
 
-pub scripted-cards-determined
+pub scripted_cards_determined
     : (D : _) (lD : _) (G : _) (t : _)
     → Determines (script_says.devices.AnyScripted.cards.ended D G t) (script.devices.AnyScripted.cards.Reads.Learnt D lD G t)
-scripted-cards-determined D lD G t c x y = equation-determines
+scripted_cards_determined D lD G t c x y = equation_determines
 
-pub scripted-levels-determined
+pub scripted_levels_determined
     : (D : _) (lD : _) (G : _) (t : _)
     → Determines (script_says.devices.AnyScripted.levels.ended D G t) (script.devices.AnyScripted.levels.Reads.Learnt D lD G t)
-scripted-levels-determined D lD G t c x y = equation-determines
+scripted_levels_determined D lD G t c x y = equation_determines
 
 -- The answer of the run of a rack's script that tells a number, and counts so much.
 abbrev rack_refusal : ℕ → RackRunRefusal
@@ -82,38 +82,38 @@ rack_refusal n = cond (eqb n 6) (Run TooLong) (cond (eqb n 9) (BadRack (record {
 abbrev rack_answer : rack.Ran → Result counts.Ran RackRunRefusal
 rack_answer r = cond (eqb r.number 0) (Ok (record { lines = r.lines; length = r.length })) (Err (rack_refusal r.number))
 
-rack-told-so : (r : Result counts.Ran RackRunRefusal) → r ≡ rack_answer (rack.run_told r)
-rack-told-so (Ok ran) = refl
-rack-told-so (Err (Run TooLong)) = refl
-rack-told-so (Err (BadRack r)) = refl
-rack-told-so (Err (Run NoRoom)) = refl
+rack_told_so : (r : Result counts.Ran RackRunRefusal) → r ≡ rack_answer (rack.run_told r)
+rack_told_so (Ok ran) = refl
+rack_told_so (Err (Run TooLong)) = refl
+rack_told_so (Err (BadRack r)) = refl
+rack_told_so (Err (Run NoRoom)) = refl
 
-pub rack-number-determined : Determines script_says.racks.RackRunRefusalNumbered.number.ended script.racks.RackRunRefusalNumbered.number.Reads.Learnt
-rack-number-determined c x y = equation-determines
+pub rack_number_determined : Determines script_says.racks.RackRunRefusalNumbered.number.ended script.racks.RackRunRefusalNumbered.number.Reads.Learnt
+rack_number_determined c x y = equation_determines
 
 -- Before the output stands the text, which is not written.
-pub rack-run-determined : Determines script_says.racks.run.ended script.racks.run.Reads.Learnt
-rack-run-determined c x y p q =
-    let result = rack-told-so x.0 ∙ ap rack_answer (p.0 ∙ sym q.0) ∙ sym (rack-told-so y.0) in
+pub rack_run_determined : Determines script_says.racks.run.ended script.racks.run.Reads.Learnt
+rack_run_determined c x y p q =
+    let result = rack_told_so x.0 ∙ ap rack_answer (p.0 ∙ sym q.0) ∙ sym (rack_told_so y.0) in
     let out = p.1 ∙ sym q.1 in
     λ i. (result i, (tt, (out i, tt)))
 
-pub rack-take-determined : Determines script_says.racks.answers.AnsweringScripted.take.ended script.racks.answers.AnsweringScripted.take.Reads.Learnt
-rack-take-determined c x y p q =
-    equations-determine
-    (racks.frame-told-so x.0 ∙ ap₂ (answer_of racks.frame_of) p.1.0 p.1.1, p.0)
-    (racks.frame-told-so y.0 ∙ ap₂ (answer_of racks.frame_of) q.1.0 q.1.1, q.0)
+pub rack_take_determined : Determines script_says.racks.answers.AnsweringScripted.take.ended script.racks.answers.AnsweringScripted.take.Reads.Learnt
+rack_take_determined c x y p q =
+    equations_determine
+    (racks.frame_told_so x.0 ∙ ap₂ (answer_of racks.frame_of) p.1.0 p.1.1, p.0)
+    (racks.frame_told_so y.0 ∙ ap₂ (answer_of racks.frame_of) q.1.0 q.1.1, q.0)
 
-pub rack-cards-determined : Determines script_says.racks.answers.AnsweringScripted.cards.ended script.racks.answers.AnsweringScripted.cards.Reads.Learnt
-rack-cards-determined c x y = equation-determines
+pub rack_cards_determined : Determines script_says.racks.answers.AnsweringScripted.cards.ended script.racks.answers.AnsweringScripted.cards.Reads.Learnt
+rack_cards_determined c x y = equation_determines
 
-pub rack-levels-determined : Determines script_says.racks.answers.AnsweringScripted.levels.ended script.racks.answers.AnsweringScripted.levels.Reads.Learnt
-rack-levels-determined c x y = equation-determines
+pub rack_levels_determined : Determines script_says.racks.answers.AnsweringScripted.levels.ended script.racks.answers.AnsweringScripted.levels.Reads.Learnt
+rack_levels_determined c x y = equation_determines
 
-pub from-bad-rack-determined
+pub from_bad_rack_determined
     : Determines script_says.racks.RackRunRefusalFromBadRack.from.ended script.racks.RackRunRefusalFromBadRack.from.Reads.Learnt
-from-bad-rack-determined c x y = equation-determines
+from_bad_rack_determined c x y = equation_determines
 
-pub from-run-refusal-determined
+pub from_run_refusal_determined
     : Determines script_says.racks.RackRunRefusalFromRunRefusal.from.ended script.racks.RackRunRefusalFromRunRefusal.from.Reads.Learnt
-from-run-refusal-determined c x y = equation-determines
+from_run_refusal_determined c x y = equation_determines

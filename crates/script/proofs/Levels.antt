@@ -15,19 +15,19 @@ use Rattle.script.specs.Answers.{Answerer, levels_text, levels_from, all_levels,
 use Rattle.script.proofs.Stores.{behind}
 
 module _ {S : Type 0} (a : Answerer S) where
-  levels-length : (s : S) (i n : ℕ) → length (levels_from a s i n) ≡ card_digits * n
+  levels_length : (s : S) (i n : ℕ) → length (levels_from a s i n) ≡ card_digits * n
   unfolding levels_from
-  levels-length s i zero = refl
-  levels-length s i (suc n) =
+  levels_length s i zero = refl
+  levels_length s i (suc n) =
       length-append (levels_text (a.levels s i 0) (a.levels s i 1) (a.levels s i 2)) (levels_from a s (suc i) n)
-      ∙ rw (levels-length s (suc i) n) (omega arith)
+      ∙ rw (levels_length s (suc i) n) (omega arith)
 
-  pub all-length : (s : S) → length (all_levels a s) ≡ card_digits * a.cards s
-  all-length s = levels-length s 0 (a.cards s)
+  pub all_length : (s : S) → length (all_levels a s) ≡ card_digits * a.cards s
+  all_length s = levels_length s 0 (a.cards s)
 
-  pub line-length : (g : Given S) → length (line_after a g) ≡ line_width (a.cards g.state)
+  pub line_length : (g : Given S) → length (line_after a g) ≡ line_width (a.cards g.state)
   unfolding line_text
-  line-length g = omega (arith, length-append (all_levels a g.state) (lf ∷ []), all-length g.state)
+  line_length g = omega (arith, length-append (all_levels a g.state) (lf ∷ []), all_length g.state)
 
   -- The cards from i on are to be written from `at` on, into an output that began as `first`.
   pub record Showing (s : S) (first out : List ℕ) (at i : ℕ) : Type 0 where
@@ -37,11 +37,11 @@ module _ {S : Type 0} (a : Answerer S) where
     pub comes : sets out at (levels_from a s i (a.cards s - i)) ≡ sets first front_digits (all_levels a s)
 
   module _ (s : S) (first out : List ℕ) (at i : ℕ) (so : Showing s first out at i) where
-    pub one-shown : i < a.cards s → (after : List ℕ)
+    pub one_shown : i < a.cards s → (after : List ℕ)
         → after ≡ sets (sets (sets out at (in_digits (a.levels s i 0))) (at + 2) (in_digits (a.levels s i 1))) (at + 4) (in_digits (a.levels s i 2))
         → Showing s first after (at + card_digits) (i + 1)
     unfolding levels_from
-    one-shown there after written =
+    one_shown there after written =
         let left : a.cards s - i ≡ suc (a.cards s - suc i) = omega (arith, there) in
         let card : List ℕ = levels_text (a.levels s i 0) (a.levels s i 1) (a.levels s i 2) in
         let same : after ≡ sets out at card = written ∙ together out at _ _ _ in

@@ -11,17 +11,17 @@ use Rattle.script.specs.Run.{Ran, too_long, room_for, too_long_number, no_room_n
 
 module _ (w : ℕ) (text : List ℕ) (room : ℕ) where
   -- The number that a run tells is the run's.
-  pub number-given : (r : Ran) → r ≡ ran_of w text room → r.number ≡ run_number w text room
-  number-given r is = ap (λ (r : Ran). r.number) is ∙ go (run_number w text room)
+  pub number_given : (r : Ran) → r ≡ ran_of w text room → r.number ≡ run_number w text room
+  number_given r is = ap (λ (r : Ran). r.number) is ∙ go (run_number w text room)
     where
       go : (n : ℕ) → (ran_by n text).number ≡ n
       go zero = refl
       go (suc n) = rw (ne_eqb (suc n) 0 (λ e. omega (arith, e)))
 
   -- An accepted run has room for its answers.
-  pub has-room : run_number w text room ≡ 0 → room_for w text ≤ room
+  pub has_room_lem : run_number w text room ≡ 0 → room_for w text ≤ room
   unfolding run_number
-  has-room e = go (too_long text) (ltb room (room_for w text)) refl e
+  has_room_lem e = go (too_long text) (ltb room (room_for w text)) refl e
     where
       go : (long short : Bool) → ltb room (room_for w text) ≡ short → cond long too_long_number (cond short no_room_number 0) ≡ 0
           → room_for w text ≤ room

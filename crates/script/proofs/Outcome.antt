@@ -10,45 +10,45 @@ use lib.Seq.{drop_at}
 use borrow.Author.Tests.{le-ltb, ne_eqb}
 use Rattle.std.proofs.Math.Nat.{mul-le-mul_left}
 use Rattle.text.specs.Lines.{lines_of, line_count}
-use Rattle.text.proofs.LineCount.{lines-at-most}
+use Rattle.text.proofs.LineCount.{lines_at_most}
 use Rattle.script.specs.Answers.{Answerer, answers_of, answers_from}
 use Rattle.script.specs.Run.{longest_script, room_for, run_number, Ran, ran_of, width_of, output_left, subject_left}
-use Rattle.script.proofs.Numbers.{number-given, has-room}
-use Rattle.script.proofs.Pieces.{answers-length}
+use Rattle.script.proofs.Numbers.{number_given, has_room_lem}
+use Rattle.script.proofs.Pieces.{answers_length}
 
 module _ {S : Type 0} (a : Answerer S) (s : S) where
   module _ (text out : List ℕ) where
     -- A refused run leaves every byte of the output, and the state.
-    pub refused-leaves : ¬ (run_number (width_of a s) text (length out) ≡ 0)
+    pub refused_leaves : ¬ (run_number (width_of a s) text (length out) ≡ 0)
         → (output_left a s text out ≡ out) × (subject_left a s text (length out) ≡ s)
-    refused-leaves h = (rw (ne_eqb _ _ h), rw (ne_eqb _ _ h))
+    refused_leaves h = (rw (ne_eqb _ _ h), rw (ne_eqb _ _ h))
 
     -- An accepted one leaves every byte behind its answers.
-    pub behind-stays : run_number (width_of a s) text (length out) ≡ 0
+    pub behind_stays : run_number (width_of a s) text (length out) ≡ 0
         → drop (room_for (width_of a s) text) (output_left a s text out) ≡ drop (room_for (width_of a s) text) out
-    behind-stays e =
+    behind_stays e =
         rw (e)
-        (drop_at (answers_of a s text) (drop (room_for (width_of a s) text) out) (room_for (width_of a s) text) (answers-length a s text))
+        (drop_at (answers_of a s text) (drop (room_for (width_of a s) text) out) (room_for (width_of a s) text) (answers_length a s text))
 
   -- An empty text has no lines, is accepted whatever the room, and leaves the output and the state.
-  pub empty-text : (out : List ℕ)
+  pub empty_text : (out : List ℕ)
       → (ran_of (width_of a s) [] (length out) ≡ record { number = 0; lines = 0 })
       × (output_left a s [] out ≡ out)
       × (subject_left a s [] (length out) ≡ s)
   unfolding run_number lines_of answers_from
-  empty-text out =
+  empty_text out =
       let none = mul-zero (width_of a s) in
       let room = le-ltb (length out) 0 (omega arith) in
       (rw (none, room), rw (none, room), rw (none, room))
 
 module _ (w : ℕ) where
   -- The answers of an accepted run lie within the output.
-  pub answers-fit : (text : List ℕ) (room : ℕ) (r : Ran) → r ≡ ran_of w text room → r.number ≡ 0 → w * r.lines ≤ room
-  answers-fit text room r is e = let accepted = sym (number-given w text room r is) ∙ e in rw (is, accepted) (has-room w text room accepted)
+  pub answers_fit : (text : List ℕ) (room : ℕ) (r : Ran) → r ≡ ran_of w text room → r.number ≡ 0 → w * r.lines ≤ room
+  answers_fit text room r is e = let accepted = sym (number_given w text room r is) ∙ e in rw (is, accepted) (has_room_lem w text room accepted)
 
   -- A script that is not too long, and whose output has room for 4,096 answers, is answered: its number is never 7.
-  pub room-enough : (text : List ℕ) (room : ℕ) → length text ≤ longest_script → w * longest_script ≤ room → run_number w text room ≡ 0
+  pub room_enough : (text : List ℕ) (room : ℕ) → length text ≤ longest_script → w * longest_script ≤ room → run_number w text room ≡ 0
   unfolding run_number
-  room-enough text room h enough =
-      let few : line_count text ≤ longest_script = omega (arith, h, lines-at-most text) in
+  room_enough text room h enough =
+      let few : line_count text ≤ longest_script = omega (arith, h, lines_at_most text) in
       rw (le-ltb _ _ h, le-ltb room (room_for w text) (omega (arith, enough, mul-le-mul_left w few)))

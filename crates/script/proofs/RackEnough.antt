@@ -14,31 +14,31 @@ use Rattle.rack.specs.declared.Rack.{Rack}
 use Rattle.rack.specs.Bases.{bad_rack_number}
 use Rattle.script.specs.Answers.{answers_from}
 use Rattle.script.specs.Run.{longest_script, too_long, too_long_number, no_room_number}
-use Rattle.script.proofs.Pieces.{width-each}
+use Rattle.script.proofs.Pieces.{width_each}
 use Rattle.text.specs.Lines.{Line}
 use Rattle.script.specs.RackAnswers.{answering}
 use Rattle.script.specs.RackRun.{names_rack, rack_named, to_answer, room_for, room_for_text, run_number, Ran, ran_by, ran_of, output_left}
-use Rattle.script.proofs.RackRoom.{most_room, most-room}
+use Rattle.script.proofs.RackRoom.{most_room, most_room_lem}
 
 -- One width to a line.
-pub answers-length : (r : Rack) (ls : List Line) → length (answers_from answering r ls) ≡ room_for r ls
-answers-length r ls = width-each answering r ls
+pub answers_length : (r : Rack) (ls : List Line) → length (answers_from answering r ls) ≡ room_for r ls
+answers_length r ls = width_each answering r ls
 
 -- An accepted run leaves every byte behind its answers.
-pub behind-stays : (text out : List ℕ) → run_number text (length out) ≡ 0
+pub behind_stays : (text out : List ℕ) → run_number text (length out) ≡ 0
     → drop (room_for_text text) (output_left text out) ≡ drop (room_for_text text) out
-behind-stays text out e =
+behind_stays text out e =
     let answers : List ℕ = answers_from answering (rack_named text) (to_answer text) in
-    rw (e) (drop_at answers (drop (room_for_text text) out) (room_for_text text) (answers-length (rack_named text) (to_answer text)))
+    rw (e) (drop_at answers (drop (room_for_text text) out) (room_for_text text) (answers_length (rack_named text) (to_answer text)))
 
 -- The number of a run by its three tests.
 abbrev first_of : Bool → Bool → Bool → ℕ
 first_of long rack short = cond long too_long_number (cond (not rack) bad_rack_number (cond short no_room_number 0))
 
 -- What a run says that it wrote lies within the output.
-pub answers-fit : (text : List ℕ) (room : ℕ) (r : Ran) → r ≡ ran_of text room → r.length ≤ room
+pub answers_fit : (text : List ℕ) (room : ℕ) (r : Ran) → r ≡ ran_of text room → r.length ≤ room
 unfolding run_number
-answers-fit text room r is = rw (is) (go (too_long text) (names_rack text) (ltb room (room_for_text text)) refl)
+answers_fit text room r is = rw (is) (go (too_long text) (names_rack text) (ltb room (room_for_text text)) refl)
   where
     go : (long rack short : Bool) → ltb room (room_for_text text) ≡ short → (ran_by (first_of long rack short) text).length ≤ room
     go true rack short e = omega arith
@@ -47,9 +47,9 @@ answers-fit text room r is = rw (is) (go (too_long text) (names_rack text) (ltb 
     go false true false e = ltb-false room (room_for_text text) e
 
 -- Where there is room enough for any script no text is refused with 7.
-pub room-enough : (text : List ℕ) (room : ℕ) → most_room ≤ room → ¬ (run_number text room ≡ no_room_number)
+pub room_enough : (text : List ℕ) (room : ℕ) → most_room ≤ room → ¬ (run_number text room ≡ no_room_number)
 unfolding run_number
-room-enough text room enough = go (too_long text) (names_rack text) (ltb room (room_for_text text)) refl refl
+room_enough text room enough = go (too_long text) (names_rack text) (ltb room (room_for_text text)) refl refl
   where
     go : (long rack short : Bool) → too_long text ≡ long → ltb room (room_for_text text) ≡ short
         → ¬ (first_of long rack short ≡ no_room_number)
@@ -57,4 +57,4 @@ room-enough text room enough = go (too_long text) (names_rack text) (ltb room (r
     go false false short l e seven = omega (arith, seven)
     go false true false l e seven = omega (arith, seven)
     go false true true l e seven =
-        omega (arith, ltb-true room (room_for_text text) e, enough, most-room text (ltb-false longest_script (length text) l))
+        omega (arith, ltb-true room (room_for_text text) e, enough, most_room_lem text (ltb-false longest_script (length text) l))

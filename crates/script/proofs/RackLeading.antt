@@ -38,8 +38,8 @@ module _ (codes : List ℕ) (enough : base_digits ≤ length codes) where
   no_low high none =
       rw (lt-ltb (leading_byte codes) no_byte high, le-ltb (leading_byte (drop 2 codes)) no_byte none) at (four codes enough)
 
-  pub both-bytes : leading_byte codes < no_byte → leading_byte (drop 2 codes) < no_byte
+  pub both_bytes : leading_byte codes < no_byte → leading_byte (drop 2 codes) < no_byte
       → leading_byte (drop 2 codes) + 256 * leading_byte codes ≡ leading_base codes
   unfolding base_of
-  both-bytes high low =
+  both_bytes high low =
       rw (lt-ltb (leading_byte codes) no_byte high, lt-ltb (leading_byte (drop 2 codes)) no_byte low) at (four codes enough)

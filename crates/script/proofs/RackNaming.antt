@@ -17,19 +17,19 @@ unfolding makes_rack built_of
 too_many bases h = rw (lt-leb (length bases) most_cards h)
 
 -- Where four digits are missing there is no rack, whatever stands before and behind.
-not-bases : (before later : List ℕ) → are_bases (before ++ no_base ∷ later) ≡ false
+not_bases : (before later : List ℕ) → are_bases (before ++ no_base ∷ later) ≡ false
 unfolding is_base are_bases
-not-bases [] later = refl
-not-bases (b ∷ before) later = rw (not-bases before later) (go (is_base b) (not (is_among b (before ++ no_base ∷ later))))
+not_bases [] later = refl
+not_bases (b ∷ before) later = rw (not_bases before later) (go (is_base b) (not (is_among b (before ++ no_base ∷ later))))
   where
     go : (base single : Bool) → (base && (single && false)) ≡ false
     go false single = refl
     go true false = refl
     go true true = refl
 
-pub missing-digits : (before later : List ℕ) → built_of (before ++ no_base ∷ later) ≡ no_rack
+pub missing_digits : (before later : List ℕ) → built_of (before ++ no_base ∷ later) ≡ no_rack
 unfolding makes_rack built_of
-missing-digits before later = rw (not-bases before later) (go (leb (length (before ++ no_base ∷ later)) most_cards))
+missing_digits before later = rw (not_bases before later) (go (leb (length (before ++ no_base ∷ later)) most_cards))
   where
     go : (few : Bool) → cond (few && false) (Ok (rack_of (before ++ no_base ∷ later))) no_rack ≡ no_rack
     go false = refl

@@ -8,6 +8,6 @@ use Rattle.rack.specs.Views.{card_pins}
 use Rattle.script.specs.RackAnswers.{answering}
 
 -- Of each card that is there, and of each port.
-pub shows-cards : (r : Rack) (i p : ℕ) → is_place r.count i ≡ true → answering.levels r i p ≡ (pins_of (chip_at r i) p).levels
+pub shows_cards : (r : Rack) (i p : ℕ) → is_place r.count i ≡ true → answering.levels r i p ≡ (pins_of (chip_at r i) p).levels
 unfolding card_pins
-shows-cards r i p there = rw there refl
+shows_cards r i p there = rw there refl

@@ -9,7 +9,7 @@ use lib.Dec.{eqb}
 use lib.ListN.{length}
 use Rattle.bits.specs.Bit.{num}
 use Rattle.text.specs.Lines.{Line, lines_of}
-use Rattle.text.proofs.LineCount.{lines-at-most}
+use Rattle.text.proofs.LineCount.{lines_at_most}
 use Rattle.script.specs.Answers.{Answerer, state_after, left_after}
 use Rattle.script.specs.Left.{refused_among}
 
@@ -19,9 +19,9 @@ one_at_most true = omega arith
 one_at_most false = omega arith
 
 module _ {S : Type 0} (a : Answerer S) where
-  refused-at-most : (s : S) (ls : List Line) → refused_among a s ls ≤ length ls
-  refused-at-most s [] = omega arith
-  refused-at-most s (l ∷ ls) = omega (arith, one_at_most (not (eqb (a.takes s l).number 0)), refused-at-most (a.takes s l).state ls)
+  refused_at_most : (s : S) (ls : List Line) → refused_among a s ls ≤ length ls
+  refused_at_most s [] = omega arith
+  refused_at_most s (l ∷ ls) = omega (arith, one_at_most (not (eqb (a.takes s l).number 0)), refused_at_most (a.takes s l).state ls)
 
   module _ (start : S) (text : List ℕ) where
     -- The lines ls are left; they lead from the state s, with n lines refused so far, to what the whole text leaves.
@@ -30,4 +30,4 @@ module _ {S : Type 0} (a : Answerer S) where
       pub counts : n + refused_among a s ls ≡ refused_among a start (lines_of text)
 
     pub fits : (ls : List Line) (s : S) (n : ℕ) → Walking ls s n → n ≤ length text
-    fits ls s n way = omega (arith, way.counts, refused-at-most start (lines_of text), lines-at-most text)
+    fits ls s n way = omega (arith, way.counts, refused_at_most start (lines_of text), lines_at_most text)

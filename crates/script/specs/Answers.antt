@@ -13,7 +13,7 @@ pub record Answerer (S : Type 0) : Type 0 where
   pub takes : S → Line → Given S
   pub cards : S → ℕ
   pub levels : S → ℕ → ℕ → ℕ
-  pub cards-stay : (s : S) (l : Line) → cards (takes s l).state ≡ cards s
+  pub cards_stay : (s : S) (l : Line) → cards (takes s l).state ≡ cards s
 
 -- The number of a line that is no frame: that of an event of no kind.
 abbrev pub no_frame_number : ℕ
@@ -30,7 +30,7 @@ by_device dev pins = record {
   takes = λ s l. acted_in dev s (frame_in l);
   cards = λ s. 1;
   levels = λ s i p. (pins s p).levels;
-  cards-stay = λ s l. refl;
+  cards_stay = λ s l. refl;
 }
 
 -- The levels of A, B and C of a card.

@@ -6,7 +6,7 @@ use Rattle.bus.specs.declared.Pins.{Pins}
 use Rattle.rack.specs.declared.Rack.{Rack}
 use Rattle.rack.specs.Step.{Stepped, step_of}
 use Rattle.rack.specs.Views.{card_pins}
-use Rattle.rack.proofs.Stays.{cards-stay}
+use Rattle.rack.proofs.Stays.{cards_stay}
 use Rattle.script.specs.Answers.{Answerer, no_frame_number}
 use Rattle.text.specs.Lines.{Line}
 use Rattle.script.specs.RackFrames.{RackFrame, Event, NoFrame, rack_frame_in}
@@ -25,10 +25,10 @@ abbrev pub at_line : Rack → Line → Given Rack
 at_line r l = acted r (rack_frame_in l)
 
 -- It leaves the rack as many cards as there were.
-pub count-kept : (r : Rack) (f : RackFrame) → (acted r f).state.count ≡ r.count
+pub count_kept : (r : Rack) (f : RackFrame) → (acted r f).state.count ≡ r.count
 unfolding acted
-count-kept r (Event k x y z) = (cards-stay r k x y z).0
-count-kept r NoFrame = refl
+count_kept r (Event k x y z) = (cards_stay r k x y z).0
+count_kept r NoFrame = refl
 
 -- The levels of a port that is there. Where there is no card, which an answer line does not ask, they are 0.
 abbrev pub levels_in : Option Pins → ℕ
@@ -41,5 +41,5 @@ answering = record {
   takes = at_line;
   cards = λ r. r.count;
   levels = λ r i p. levels_in (card_pins r i p);
-  cards-stay = λ r l. count-kept r (rack_frame_in l);
+  cards_stay = λ r l. count_kept r (rack_frame_in l);
 }

@@ -8,7 +8,7 @@ use Rattle.rack.specs.State.{rack_of}
 use Rattle.script.specs.Answers.{answers_from}
 use Rattle.bus.specs.Never0.{Never0}
 use Rattle.rack.specs.Answers.{bad_rack_told}
-use Rattle.rack.specs.Never0.{bad-rack-never-0}
+use Rattle.rack.specs.Never0.{bad_rack_never_0}
 use Rattle.script.specs.Run as runs
 use Rattle.script.specs.Run.{too_long, too_long_number, no_room_number, width_of}
 use Rattle.text.specs.Lines.{Line, lines_of}
@@ -48,9 +48,9 @@ abbrev pub run_refusal_number : RackRunRefusal → ℕ
 run_refusal_number (BadRack r) = bad_rack_told r
 run_refusal_number (Run r) = runs.run_refusal_number r
 
-pub run-refusal-never-0 : Never0 run_refusal_number
-run-refusal-never-0 (BadRack r) = bad-rack-never-0 r
-run-refusal-never-0 (Run r) = runs.run-refusal-never-0 r
+pub run_refusal_never_0 : Never0 run_refusal_number
+run_refusal_never_0 (BadRack r) = bad_rack_never_0 r
+run_refusal_never_0 (Run r) = runs.run_refusal_never_0 r
 
 -- The number of a run, how many lines it answers, and how many bytes the answers have.
 pub record Ran : Type 0 where

@@ -28,9 +28,9 @@ abbrev pub run_refusal_number : RunRefusal → ℕ
 run_refusal_number TooLong = too_long_number
 run_refusal_number NoRoom = no_room_number
 
-pub run-refusal-never-0 : Never0 run_refusal_number
-run-refusal-never-0 TooLong = refl
-run-refusal-never-0 NoRoom = refl
+pub run_refusal_never_0 : Never0 run_refusal_number
+run_refusal_never_0 TooLong = refl
+run_refusal_never_0 NoRoom = refl
 
 -- The number of a run: that of the first refusal that applies, and 0 where none does.
 unfoldable pub run_number : ℕ → List ℕ → ℕ → ℕ

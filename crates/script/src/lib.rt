@@ -6,7 +6,7 @@ ghost use Rattle.std.specs.Prelude.{◌≡◌, ◌≤◌, length};
 ghost use Rattle.bus.specs.Answers.{frame_number, number_told, byte_told};
 ghost use Rattle.text.specs.Answers.{line_of};
 ghost use Rattle.script.specs.Answers.{Answerer, line_width, left_after};
-ghost use Rattle.script.specs.Run.{run_refusal_number, run-refusal-never-0, run_told, room_for, ran_of, filled, output_left, subject_left};
+ghost use Rattle.script.specs.Run.{run_refusal_number, run_refusal_never_0, run_told, room_for, ran_of, filled, output_left, subject_left};
 
 use bus::refusals::{FrameRefusal, Numbered};
 use text::line::Line;
@@ -71,7 +71,7 @@ pub enum RunRefusal {
 impl Numbered for RunRefusal {
     ghost number_of = { run_refusal_number };
 
-    ghost never_0 = { run-refusal-never-0 };
+    ghost never_0 = { run_refusal_never_0 };
 
     fn number(&self) -> u8 {
         *self as u8

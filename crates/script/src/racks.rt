@@ -1,6 +1,6 @@
 //! The run of a rack's script: a text whose first line has the bases of the cards, and each further line a frame, which the rack answers.
 ghost use Rattle.std.specs.Prelude.{◌≡◌, length};
-ghost use Rattle.script.specs.RackRun.{run_refusal_number, run-refusal-never-0, run_told, ran_of, output_left};
+ghost use Rattle.script.specs.RackRun.{run_refusal_number, run_refusal_never_0, run_told, ran_of, output_left};
 ghost use Rattle.script.specs.declared.racks.RackRunRefusal.TheVariants as refusals;
 
 mod answers;
@@ -35,7 +35,7 @@ pub enum RackRunRefusal {
 impl Numbered for RackRunRefusal {
     ghost number_of = { run_refusal_number };
 
-    ghost never_0 = { run-refusal-never-0 };
+    ghost never_0 = { run_refusal_never_0 };
 
     fn number(&self) -> u8 {
         match self {

@@ -22,11 +22,11 @@ no_longer (b ∷ text) = go (eqb b lf) (no_longer text)
     go false h = omega arith
 
 -- The first line ends at the first LF, or where the text does.
-pub first-length-is : (text : List ℕ) (end : ℕ) → end ≤ length text → ((k : ℕ) → k < end → eqb (get_or text k 0) lf ≡ false)
+pub first_length_is : (text : List ℕ) (end : ℕ) → end ≤ length text → ((k : ℕ) → k < end → eqb (get_or text k 0) lf ≡ false)
     → (end < length text → eqb (get_or text end 0) lf ≡ true) → first_length text ≡ end
 unfolding first_length
-first-length-is text end inside before here =
-    is_position_or_len first_length (λ b. eqb b lf) refl one-more text ∙ position_or_len_is (λ b. eqb b lf) text end 0 inside before here
+first_length_is text end inside before here =
+    is_position_or_len first_length (λ b. eqb b lf) refl one_more_lem text ∙ position_or_len_is (λ b. eqb b lf) text end 0 inside before here
   where
-    one-more : (b : ℕ) (text : List ℕ) → first_length (b ∷ text) ≡ cond (eqb b lf) 0 (1 + first_length text)
-    one-more b text = let more : suc (first_length text) ≡ 1 + first_length text = omega arith in ap (λ n. cond (eqb b lf) 0 n) more
+    one_more_lem : (b : ℕ) (text : List ℕ) → first_length (b ∷ text) ≡ cond (eqb b lf) 0 (1 + first_length text)
+    one_more_lem b text = let more : suc (first_length text) ≡ 1 + first_length text = omega arith in ap (λ n. cond (eqb b lf) 0 n) more

@@ -9,16 +9,16 @@ use native.Mathlib.Omega.{arith}
 use lib.Dec.{eqb}
 use lib.ListN.{length, length-append}
 use Rattle.text.specs.Lines.{lf, Line, ended, before_lines, lines_of}
-use Rattle.text.proofs.FirstLine.{a-line}
+use Rattle.text.proofs.FirstLine.{a_line}
 
-before-append : (b : ℕ) (ls ms : List Line) → 0 < length ls → before_lines b (ls ++ ms) ≡ before_lines b ls ++ ms
-before-append b [] ms h = absurd (not-suc-le-zero h)
-before-append b (l ∷ ls) ms h = refl
+before_append : (b : ℕ) (ls ms : List Line) → 0 < length ls → before_lines b (ls ++ ms) ≡ before_lines b ls ++ ms
+before_append b [] ms h = absurd (not-suc-le-zero h)
+before_append b (l ∷ ls) ms h = refl
 
-pub lines-append : (text later : List ℕ) → lines_of (text ++ lf ∷ later) ≡ lines_of (text ++ lf ∷ []) ++ lines_of later
+pub lines_append : (text later : List ℕ) → lines_of (text ++ lf ∷ later) ≡ lines_of (text ++ lf ∷ []) ++ lines_of later
 unfolding lines_of
-lines-append [] later = refl
-lines-append (b ∷ text) later = go (eqb b lf) (lines-append text later) (a-line (text ++ lf ∷ []) (omega (arith, length-append text (lf ∷ []))))
+lines_append [] later = refl
+lines_append (b ∷ text) later = go (eqb b lf) (lines_append text later) (a_line (text ++ lf ∷ []) (omega (arith, length-append text (lf ∷ []))))
   where
     go : (t : Bool)
         → lines_of (text ++ lf ∷ later) ≡ lines_of (text ++ lf ∷ []) ++ lines_of later
@@ -26,4 +26,4 @@ lines-append (b ∷ text) later = go (eqb b lf) (lines-append text later) (a-lin
         → cond t (ended [] ∷ lines_of (text ++ lf ∷ later)) (before_lines b (lines_of (text ++ lf ∷ later)))
         ≡ cond t (ended [] ∷ lines_of (text ++ lf ∷ [])) (before_lines b (lines_of (text ++ lf ∷ []))) ++ lines_of later
     go true same some = ap (λ (ls : List Line). ended [] ∷ ls) same
-    go false same some = ap (λ (ls : List Line). before_lines b ls) same ∙ before-append b (lines_of (text ++ lf ∷ [])) (lines_of later) some
+    go false same some = ap (λ (ls : List Line). before_lines b ls) same ∙ before_append b (lines_of (text ++ lf ∷ [])) (lines_of later) some

@@ -10,7 +10,7 @@ use lib.Seq.{drop-drop}
 use Rattle.text.specs.Lines.{Line, lines_of}
 use Rattle.text.specs.LineEnds.{first_length, line_end, line_between}
 use Rattle.text.proofs.FirstLength.{no_longer}
-use Rattle.text.proofs.FirstLine.{first-and-rest, no_line}
+use Rattle.text.proofs.FirstLine.{first_and_rest, no_line}
 
 -- The lines that are left to a loop that has come to a place.
 abbrev pub lines_from : List ℕ → ℕ → List Line
@@ -33,7 +33,7 @@ turn text start end is within =
       inside = omega (arith, is, within, size, no_longer left);
       onward = omega (arith, is, within);
       lines =
-          rw (← next, ← drop-drop (suc (end - start)) start text, long) (first-and-rest left (omega (arith, within, size)));
+          rw (← next, ← drop-drop (suc (end - start)) start text, long) (first_and_rest left (omega (arith, within, size)));
     }
 
 -- At the end no line is left.

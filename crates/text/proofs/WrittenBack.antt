@@ -13,12 +13,12 @@ use Rattle.bits.proofs.Logic.{both}
 use Rattle.bits.proofs.Tested.{numbers}
 use Rattle.bus.specs.Kinds.{is_kind, operands_of}
 use Rattle.bus.specs.Event.{Event, event}
-use Rattle.bus.proofs.ByKind.{by_known_kind, kind-small}
+use Rattle.bus.proofs.ByKind.{by_known_kind, kind_small}
 use Rattle.text.specs.Digits.{digits, place_from, digit_value, digit_code, in_digits, no_byte, pair_value}
-use Rattle.text.specs.Frames.{Event as Frame-as-Event, leading_byte, kind_in, first_in, second_in, is_frame, frame_of}
+use Rattle.text.specs.Frames.{Event as FrameEvent, leading_byte, kind_in, first_in, second_in, is_frame, frame_of}
 use Rattle.text.specs.Written.{operands_out, written_out, Exact}
 use Rattle.text.proofs.Leading.{none_left}
-use Rattle.text.proofs.Written.{kind-alone, with-one, with_two}
+use Rattle.text.proofs.Written.{kind_alone, with_one, with_two}
 
 -- Every code of a list is below a bound.
 abbrev pub all_below : ℕ → List ℕ → Bool
@@ -38,9 +38,9 @@ abbrev past_digits : ℕ
 past_digits = 71
 
 -- A digit is the code of what it is worth.
-pub digit-back : (code : ℕ) → digit_value code < 16 → digit_code (digit_value code) ≡ code
+pub digit_back : (code : ℕ) → digit_value code < 16 → digit_code (digit_value code) ≡ code
 unfolding digit_value digit_code
-digit-back code digit = go (ltb code past_digits) refl
+digit_back code digit = go (ltb code past_digits) refl
   where
     go : (small : Bool) → ltb code past_digits ≡ small → digit_code (digit_value code) ≡ code
     go true s =
@@ -50,9 +50,9 @@ digit-back code digit = go (ltb code past_digits) refl
 
 -- Two codes that write a byte are its two digits.
 module _ (high low : ℕ) (byte : pair_value high low < no_byte) where
-  both-digits : (digit_value high < 16) × (digit_value low < 16) × (pair_value high low ≡ 16 * digit_value high + digit_value low)
+  both_digits : (digit_value high < 16) × (digit_value low < 16) × (pair_value high low ≡ 16 * digit_value high + digit_value low)
   unfolding pair_value
-  both-digits = go (ltb (digit_value high) 16 && ltb (digit_value low) 16) refl
+  both_digits = go (ltb (digit_value high) 16 && ltb (digit_value low) 16) refl
     where
       go : (t : Bool) → (ltb (digit_value high) 16 && ltb (digit_value low) 16) ≡ t
           → (digit_value high < 16) × (digit_value low < 16) × (pair_value high low ≡ 16 * digit_value high + digit_value low)
@@ -61,24 +61,24 @@ module _ (high low : ℕ) (byte : pair_value high low < no_byte) where
           (ltb-true (digit_value high) 16 k.0, ltb-true (digit_value low) 16 k.1, rw (t))
       go false t = absurd (omega (arith, rw (t) at byte))
 
-  pub pair-back : (digit_code (pair_value high low / 16) ≡ high) × (digit_code (pair_value high low) ≡ low)
+  pub pair_back : (digit_code (pair_value high low / 16) ≡ high) × (digit_code (pair_value high low) ≡ low)
   unfolding digit_code
-  pair-back =
-      let k = both-digits in
+  pair_back =
+      let k = both_digits in
       let sixteens : pair_value high low / 16 % 16 ≡ digit_value high % 16 = omega (arith, k.0, k.1, k.2) in
       let ones : pair_value high low % 16 ≡ digit_value low % 16 = omega (arith, k.1, k.2) in
-      (ap (λ n. get_or digits n 0) sixteens ∙ digit-back high k.0, ap (λ n. get_or digits n 0) ones ∙ digit-back low k.1)
+      (ap (λ n. get_or digits n 0) sixteens ∙ digit_back high k.0, ap (λ n. get_or digits n 0) ones ∙ digit_back low k.1)
 
 -- A line that begins with a byte is that byte, written out, and what stands behind it.
-pub leading-back : (line : List ℕ) → 2 ≤ length line → leading_byte line < no_byte → in_digits (leading_byte line) ++ drop 2 line ≡ line
+pub leading_back : (line : List ℕ) → 2 ≤ length line → leading_byte line < no_byte → in_digits (leading_byte line) ++ drop 2 line ≡ line
 unfolding leading_byte
-leading-back [] long byte = absurd (omega (arith, long))
-leading-back (high ∷ []) long byte = absurd (omega (arith, long))
-leading-back (high ∷ low ∷ later) long byte = let k = pair-back high low byte in λ i. k.0 i ∷ k.1 i ∷ later
+leading_back [] long byte = absurd (omega (arith, long))
+leading_back (high ∷ []) long byte = absurd (omega (arith, long))
+leading_back (high ∷ low ∷ later) long byte = let k = pair_back high low byte in λ i. k.0 i ∷ k.1 i ∷ later
 
-few-operands : (k : ℕ) → is_kind k ≡ true → operands_of k ≤ 2
+few_operands : (k : ℕ) → is_kind k ≡ true → operands_of k ≤ 2
 unfolding operands_of
-few-operands = by_known_kind (λ k. operands_of k ≤ 2) (omega arith) (omega arith) (omega arith) (omega arith) (omega arith)
+few_operands = by_known_kind (λ k. operands_of k ≤ 2) (omega arith) (omega arith) (omega arith) (omega arith) (omega arith)
 
 -- The event that a line says, where it is a frame.
 abbrev pub event_in : List ℕ → Event
@@ -100,11 +100,11 @@ module _ (line : List ℕ) (is : is_frame line ≡ true) where
         ltb-true (second_in line) no_byte all.1,
       )
 
-  pub no-longer-than-six : length line ≤ 6
-  no-longer-than-six = omega (arith, parts.1, few-operands (kind_in line) parts.0)
+  pub no_longer_than_six : length line ≤ 6
+  no_longer_than_six = omega (arith, parts.1, few_operands (kind_in line) parts.0)
 
-  pub exact-event : Exact (event_in line)
-  exact-event = record {
+  pub exact_event : Exact (event_in line)
+  exact_event = record {
     known = parts.0;
     first_byte = parts.2;
     second_byte = parts.3;
@@ -115,15 +115,15 @@ module _ (line : List ℕ) (is : is_frame line ≡ true) where
   -- The line is that event, written out.
   pub written_back : line ≡ written_out (event_in line)
   unfolding written_out
-  written_back = go (operands_of (kind_in line)) parts.1 (few-operands (kind_in line) parts.0)
+  written_back = go (operands_of (kind_in line)) parts.1 (few_operands (kind_in line) parts.0)
     where
       kind : in_digits (kind_in line) ++ drop 2 line ≡ line
-      kind = leading-back line (omega (arith, parts.1)) (omega (arith, kind-small (kind_in line) parts.0))
+      kind = leading_back line (omega (arith, parts.1)) (omega (arith, kind_small (kind_in line) parts.0))
 
       behind : (n : ℕ) → 2 + n ≤ length line → leading_byte (drop n line) < no_byte
           → drop n line ≡ in_digits (leading_byte (drop n line)) ++ drop (n + 2) line
       behind n long byte =
-          sym (leading-back (drop n line) (omega (arith, long, length-drop n line)) byte)
+          sym (leading_back (drop n line) (omega (arith, long, length-drop n line)) byte)
           ∙ ap (λ later. in_digits (leading_byte (drop n line)) ++ later) (drop-drop 2 n line)
 
       none : (n : ℕ) → length line ≤ n → drop n line ≡ []
@@ -144,15 +144,15 @@ module _ (line : List ℕ) (is : is_frame line ≡ true) where
       go (suc (suc (suc n))) long few = absurd (omega (arith, few))
 
 -- And every event that a line can say is said by the line that it is written out as.
-pub says : (e : Event) → Exact e → frame_of (written_out e) ≡ Frame-as-Event e.kind e.first e.second
+pub says : (e : Event) → Exact e → frame_of (written_out e) ≡ FrameEvent e.kind e.first e.second
 unfolding written_out
 says e ok = go (operands_of e.kind) refl
   where
     go : (n : ℕ) → operands_of e.kind ≡ n
-        → frame_of (in_digits e.kind ++ operands_out n e.first e.second) ≡ Frame-as-Event e.kind e.first e.second
+        → frame_of (in_digits e.kind ++ operands_out n e.first e.second) ≡ FrameEvent e.kind e.first e.second
     go zero n =
-        rw (ok.no_first n, ok.no_second (omega (arith, n))) (kind-alone e.kind ok.known n)
+        rw (ok.no_first n, ok.no_second (omega (arith, n))) (kind_alone e.kind ok.known n)
     go (suc zero) n =
-        rw (ok.no_second (omega (arith, n))) (with-one e.kind ok.known e.first ok.first_byte n)
+        rw (ok.no_second (omega (arith, n))) (with_one e.kind ok.known e.first ok.first_byte n)
     go (suc (suc zero)) n = with_two e.kind ok.known e.first e.second ok.first_byte ok.second_byte n
-    go (suc (suc (suc k))) n = absurd (omega (arith, n, few-operands e.kind ok.known))
+    go (suc (suc (suc k))) n = absurd (omega (arith, n, few_operands e.kind ok.known))

@@ -9,10 +9,10 @@ use Rattle.bus.specs.Device.{Device}
 use Rattle.bus.specs.declared.Pins.{Pins}
 use Rattle.script.specs.Answers.{answer_width, by_device, answers_of}
 use Rattle.script.specs.declared.RunRefusal.{RunRefusal}
-use Rattle.script.specs.Run.{run_told, longest_script, too_long, too_long_number, run_refusal_number, run-refusal-never-0, room_for, run_number, Ran, ran_of, output_left}
-use Rattle.script.proofs.Numbers.{number-given}
-use Rattle.script.proofs.Outcome.{room-enough}
-use Rattle.script.proofs.Pieces.{answers-length}
+use Rattle.script.specs.Run.{run_told, longest_script, too_long, too_long_number, run_refusal_number, run_refusal_never_0, room_for, run_number, Ran, ran_of, output_left}
+use Rattle.script.proofs.Numbers.{number_given}
+use Rattle.script.proofs.Outcome.{room_enough}
+use Rattle.script.proofs.Pieces.{answers_length}
 use Rattle.prints.specs.Printed.{refusal_text, printed_by}
 use Rattle.towanchor.specs.OfRun.{kept_of}
 
@@ -30,10 +30,10 @@ module _ {S R : Type 0} (dev : Device S R) (pins : S → ℕ → Pins) (s : S) (
   Number true = run_number answer_width text (length out) ≡ too_long_number
   Number false = run_number answer_width text (length out) ≡ 0
 
-  number-by : (long : Bool) → too_long text ≡ long → Number long
+  number_by_lem : (long : Bool) → too_long text ≡ long → Number long
   unfolding run_number
-  number-by true e = rw (e)
-  number-by false e = room-enough answer_width text (length out) (ltb-false longest_script (length text) e) enough
+  number_by_lem true e = rw (e)
+  number_by_lem false e = room_enough answer_width text (length out) (ltb-false longest_script (length text) e) enough
 
   -- An accepted run.
   pub answered : (r : Ran) → r ≡ ran_of answer_width text (length out) → r.number ≡ 0
@@ -42,14 +42,14 @@ module _ {S R : Type 0} (dev : Device S R) (pins : S → ℕ → Pins) (s : S) (
   answered r is zero = go (too_long text) refl
     where
       accepted : run_number answer_width text (length out) ≡ 0
-      accepted = sym (number-given answer_width text (length out) r is) ∙ zero
+      accepted = sym (number_given answer_width text (length out) r is) ∙ zero
 
       go : (long : Bool) → too_long text ≡ long
           → take (answer_width * r.lines) (output_left (by_device dev pins) s text out) ≡ printed_by (by_device dev pins) s text
-      go true e = absurd (omega (arith, number-by true e, accepted))
+      go true e = absurd (omega (arith, number_by_lem true e, accepted))
       go false e =
           rw (is, accepted, e)
-          (take_at answers (drop (room_for answer_width text) out) (room_for answer_width text) (answers-length (by_device dev pins) s text))
+          (take_at answers (drop (room_for answer_width text) out) (room_for answer_width text) (answers_length (by_device dev pins) s text))
 
   -- A refused one.
   pub refused : (r : Ran) → r ≡ ran_of answer_width text (length out) → r.number ≢ 0 → refusal_text r.number ≡ printed_by (by_device dev pins) s text
@@ -57,29 +57,29 @@ module _ {S R : Type 0} (dev : Device S R) (pins : S → ℕ → Pins) (s : S) (
   refused r is other = go (too_long text) refl
     where
       given : r.number ≡ run_number answer_width text (length out)
-      given = number-given answer_width text (length out) r is
+      given = number_given answer_width text (length out) r is
 
       go : (long : Bool) → too_long text ≡ long → refusal_text r.number ≡ printed_by (by_device dev pins) s text
-      go true e = rw (given, number-by true e, e) refl
-      go false e = absurd (other (given ∙ number-by false e))
+      go true e = rw (given, number_by_lem true e, e) refl
+      go false e = absurd (other (given ∙ number_by_lem false e))
 
-  never-0 : (r : RunRefusal) → run_refusal_number r ≢ 0
-  never-0 r e = contrary (eqb (run_refusal_number r) 0) (run-refusal-never-0 r) (eq-eqb _ 0 e)
+  never_0 : (r : RunRefusal) → run_refusal_number r ≢ 0
+  never_0 r e = contrary (eqb (run_refusal_number r) 0) (run_refusal_never_0 r) (eq-eqb _ 0 e)
 
   -- What is printed of an accepted run or of a refused one.
   pub kept : (r : Result ℕ RunRefusal) → run_told r ≡ ran_of answer_width text (length out)
       → kept_of run_refusal_number (given r) (output_left (by_device dev pins) s text out) ≡ printed_by (by_device dev pins) s text
   kept (Ok lines) is = answered _ is refl
-  kept (Err refusal) is = refused _ is (never-0 refusal)
+  kept (Err refusal) is = refused _ is (never_0 refusal)
 
-  pub refused-where-long : (r : Result ℕ RunRefusal) → run_told r ≡ ran_of answer_width text (length out) → is_err (given r) ≡ too_long text
-  refused-where-long (Ok lines) is = go (too_long text) refl
+  pub refused_where_long : (r : Result ℕ RunRefusal) → run_told r ≡ ran_of answer_width text (length out) → is_err (given r) ≡ too_long text
+  refused_where_long (Ok lines) is = go (too_long text) refl
     where
       go : (long : Bool) → too_long text ≡ long → false ≡ too_long text
-      go true e = absurd (omega (arith, number-by true e, number-given answer_width text (length out) _ is))
+      go true e = absurd (omega (arith, number_by_lem true e, number_given answer_width text (length out) _ is))
       go false e = sym e
-  refused-where-long (Err refusal) is = go (too_long text) refl
+  refused_where_long (Err refusal) is = go (too_long text) refl
     where
       go : (long : Bool) → too_long text ≡ long → true ≡ too_long text
       go true e = sym e
-      go false e = absurd (never-0 refusal (number-given answer_width text (length out) _ is ∙ number-by false e))
+      go false e = absurd (never_0 refusal (number_given answer_width text (length out) _ is ∙ number_by_lem false e))

@@ -10,9 +10,9 @@ use Rattle.script.specs.Answers.{answers_from}
 use Rattle.script.specs.declared.racks.Ran as counts
 use Rattle.script.specs.declared.racks.RackRunRefusal.{RackRunRefusal}
 use Rattle.script.specs.RackAnswers.{answering}
-use Rattle.script.specs.RackRun.{run_told, names_rack, rack_named, to_answer, room_for_text, run_number, run_refusal_number, run-refusal-never-0, Ran, ran_of, output_left}
+use Rattle.script.specs.RackRun.{run_told, names_rack, rack_named, to_answer, room_for_text, run_number, run_refusal_number, run_refusal_never_0, Ran, ran_of, output_left}
 use Rattle.script.proofs.RackRoom.{most_room}
-use Rattle.script.proofs.RackEnough.{answers-length, room-enough}
+use Rattle.script.proofs.RackEnough.{answers_length, room_enough}
 use Rattle.prints.specs.Printed.{refusal_text, printed_of_rack}
 use Rattle.towanchor.specs.OfRun.{kept_of}
 use Rattle.towanchor.specs.Failing.{refuses_rack}
@@ -24,20 +24,20 @@ given (Err r) = Err r
 
 module _ (text out : List ℕ) (enough : most_room ≤ length out) where
   -- The number by the first two tests: the third finds room.
-  number-by : (long rack : Bool) → too_long text ≡ long → names_rack text ≡ rack
+  number_by_lem : (long rack : Bool) → too_long text ≡ long → names_rack text ≡ rack
       → run_number text (length out) ≡ cond long too_long_number (cond (not rack) bad_rack_number 0)
   unfolding run_number
-  number-by true rack l k = rw (l)
-  number-by false false l k = rw (l, k)
-  number-by false true l k = go (ltb (length out) (room_for_text text)) refl
+  number_by_lem true rack l k = rw (l)
+  number_by_lem false false l k = rw (l, k)
+  number_by_lem false true l k = go (ltb (length out) (room_for_text text)) refl
     where
       go : (short : Bool) → ltb (length out) (room_for_text text) ≡ short → run_number text (length out) ≡ 0
       go false e = rw (l, k, e)
-      go true e = absurd (room-enough text (length out) enough (rw (l, k, e)))
+      go true e = absurd (room_enough text (length out) enough (rw (l, k, e)))
 
   -- The number that a run gives back is the run's.
-  number-given : (r : Ran) → r ≡ ran_of text (length out) → r.number ≡ run_number text (length out)
-  number-given r is = ap (λ (r : Ran). r.number) is ∙ grind arith
+  number_given : (r : Ran) → r ≡ ran_of text (length out) → r.number ≡ run_number text (length out)
+  number_given r is = ap (λ (r : Ran). r.number) is ∙ grind arith
 
   -- An accepted run.
   pub answered : (r : Ran) → r ≡ ran_of text (length out) → r.number ≡ 0
@@ -46,15 +46,15 @@ module _ (text out : List ℕ) (enough : most_room ≤ length out) where
   answered r is zero = go (too_long text) (names_rack text) refl refl
     where
       accepted : run_number text (length out) ≡ 0
-      accepted = sym (number-given r is) ∙ zero
+      accepted = sym (number_given r is) ∙ zero
 
       go : (long rack : Bool) → too_long text ≡ long → names_rack text ≡ rack → take r.length (output_left text out) ≡ printed_of_rack text
-      go true rack l k = absurd (omega (arith, number-by true rack l k, accepted))
-      go false false l k = absurd (omega (arith, number-by false false l k, accepted))
+      go true rack l k = absurd (omega (arith, number_by_lem true rack l k, accepted))
+      go false false l k = absurd (omega (arith, number_by_lem false false l k, accepted))
       go false true l k =
           rw (is, accepted, l, k)
           (take_at (answers_from answering (rack_named text) (to_answer text)) (drop (room_for_text text) out) (room_for_text text)
-          (answers-length (rack_named text) (to_answer text)))
+          (answers_length (rack_named text) (to_answer text)))
 
   -- A refused one.
   pub refused : (r : Ran) → r ≡ ran_of text (length out) → r.number ≢ 0 → refusal_text r.number ≡ printed_of_rack text
@@ -62,29 +62,29 @@ module _ (text out : List ℕ) (enough : most_room ≤ length out) where
   refused r is other = go (too_long text) (names_rack text) refl refl
     where
       go : (long rack : Bool) → too_long text ≡ long → names_rack text ≡ rack → refusal_text r.number ≡ printed_of_rack text
-      go true rack l k = rw (number-given r is, number-by true rack l k, l) refl
-      go false false l k = rw (number-given r is, number-by false false l k, l, k) refl
-      go false true l k = absurd (other (number-given r is ∙ number-by false true l k))
+      go true rack l k = rw (number_given r is, number_by_lem true rack l k, l) refl
+      go false false l k = rw (number_given r is, number_by_lem false false l k, l, k) refl
+      go false true l k = absurd (other (number_given r is ∙ number_by_lem false true l k))
 
-  never-0 : (r : RackRunRefusal) → run_refusal_number r ≢ 0
-  never-0 r e = contrary (eqb (run_refusal_number r) 0) (run-refusal-never-0 r) (eq-eqb _ 0 e)
+  never_0 : (r : RackRunRefusal) → run_refusal_number r ≢ 0
+  never_0 r e = contrary (eqb (run_refusal_number r) 0) (run_refusal_never_0 r) (eq-eqb _ 0 e)
 
   -- What is printed of an accepted run or of a refused one.
   pub kept : (r : Result counts.Ran RackRunRefusal) → run_told r ≡ ran_of text (length out)
       → kept_of run_refusal_number (given r) (output_left text out) ≡ printed_of_rack text
   kept (Ok ran) is = answered _ is refl
-  kept (Err refusal) is = refused _ is (never-0 refusal)
+  kept (Err refusal) is = refused _ is (never_0 refusal)
 
-  pub refused-by-rule : (r : Result counts.Ran RackRunRefusal) → run_told r ≡ ran_of text (length out) → is_err (given r) ≡ refuses_rack text
-  refused-by-rule (Ok ran) is = go (too_long text) (names_rack text) refl refl
+  pub refused_by_rule : (r : Result counts.Ran RackRunRefusal) → run_told r ≡ ran_of text (length out) → is_err (given r) ≡ refuses_rack text
+  refused_by_rule (Ok ran) is = go (too_long text) (names_rack text) refl refl
     where
       go : (long rack : Bool) → too_long text ≡ long → names_rack text ≡ rack → false ≡ refuses_rack text
-      go true rack l k = absurd (omega (arith, number-by true rack l k, number-given _ is))
-      go false false l k = absurd (omega (arith, number-by false false l k, number-given _ is))
+      go true rack l k = absurd (omega (arith, number_by_lem true rack l k, number_given _ is))
+      go false false l k = absurd (omega (arith, number_by_lem false false l k, number_given _ is))
       go false true l k = rw (l, k) refl
-  refused-by-rule (Err refusal) is = go (too_long text) (names_rack text) refl refl
+  refused_by_rule (Err refusal) is = go (too_long text) (names_rack text) refl refl
     where
       go : (long rack : Bool) → too_long text ≡ long → names_rack text ≡ rack → true ≡ refuses_rack text
       go true rack l k = rw (l) refl
       go false false l k = rw (l, k) refl
-      go false true l k = absurd (never-0 refusal (number-given _ is ∙ number-by false true l k))
+      go false true l k = absurd (never_0 refusal (number_given _ is ∙ number_by_lem false true l k))

@@ -9,7 +9,7 @@ use Rattle.std.proofs.lemmas.Bool.{ltb-false}
 use borrow.Author.Tests.{le-ltb}
 use Rattle.bits.proofs.Logic.{neither}
 use Rattle.text.specs.Lines.{lf, Line, line_count}
-use Rattle.text.proofs.LineCount.{lines-at-most}
+use Rattle.text.proofs.LineCount.{lines_at_most}
 use Rattle.script.specs.Run.{longest_script, too_long, too_long_number}
 use Rattle.mend.specs.declared.Mended.{Mended}
 use Rattle.mend.specs.declared.MendRefusal.{MendRefusal}
@@ -22,7 +22,7 @@ use Rattle.mend.specs.Line.{letter_of, kept_sign, unfit_sign, sign_of}
 use Rattle.mend.specs.Reason.{reason_told, reason_of}
 use Rattle.mend.specs.Words.{sign_words}
 use Rattle.mend.specs.Mend.{clean_of, mend_number, mend_refusal_number, Outcome, outcome_of, mend_told, clean_left}
-use Rattle.mend.proofs.Numbers.{number_is, lengths-are, written}
+use Rattle.mend.proofs.Numbers.{number_is, lengths_are, written}
 use Rattle.prints.specs.Printed.{refusal_text}
 use Rattle.towanchor.specs.Mended.{refuses_mending, printed_mended, said_of, is_unfit}
 
@@ -35,17 +35,17 @@ module _ (text clean report : List ℕ) (clean_room : longest_script ≤ length 
   Number true = number ≡ too_long_number
   Number false = number ≡ 0
 
-  number-by : (long : Bool) → refuses_mending text ≡ long → Number long
+  number_by_lem : (long : Bool) → refuses_mending text ≡ long → Number long
   unfolding mend_number
-  number-by true e = rw (e)
-  number-by false e =
+  number_by_lem true e = rw (e)
+  number_by_lem false e =
       let short = neither (too_long text) (too_long (clean_of text)) e in
       let text_fits = ltb-false longest_script (length text) short.0 in
       let clean_fits = ltb-false longest_script (length (clean_of text)) short.1 in
       rw (
         e,
         le-ltb (length clean) (length (clean_of text)) (omega (arith, clean_fits, clean_room)),
-        le-ltb (length report) (line_count text) (omega (arith, text_fits, lines-at-most text, report_room)),
+        le-ltb (length report) (line_count text) (omega (arith, text_fits, lines_at_most text, report_room)),
       )
 
   -- An accepted call.
@@ -53,18 +53,18 @@ module _ (text clean report : List ℕ) (clean_room : longest_script ≤ length 
     none : number ≡ 0
     none = sym (number_is text (length clean) (length report)) ∙ sym (ap (λ (o : Outcome). o.number) told)
 
-    pub not-refused : false ≡ refuses_mending text
-    not-refused = go (refuses_mending text) refl
+    pub not_refused : false ≡ refuses_mending text
+    not_refused = go (refuses_mending text) refl
       where
         go : (long : Bool) → refuses_mending text ≡ long → false ≡ refuses_mending text
-        go true e = absurd (omega (arith, none, number-by true e))
+        go true e = absurd (omega (arith, none, number_by_lem true e))
         go false e = sym e
 
-    pub clean-printed : take m.clean (clean_left text clean report) ≡ printed_mended text
+    pub clean_printed : take m.clean (clean_left text clean report) ≡ printed_mended text
     unfolding printed_mended
-    clean-printed =
-        let long = ap (λ (o : Outcome). o.clean) (told ∙ lengths-are text (length clean) (length report) none) in
-        rw (← (written text clean report none).1, ← not-refused)
+    clean_printed =
+        let long = ap (λ (o : Outcome). o.clean) (told ∙ lengths_are text (length clean) (length report) none) in
+        rw (← (written text clean report none).1, ← not_refused)
         (take_at (clean_of text) (drop (length (clean_of text)) clean) m.clean (sym long))
 
   -- A refused one.
@@ -76,45 +76,45 @@ module _ (text clean report : List ℕ) (clean_room : longest_script ≤ length 
     some TooLong e = omega (arith, e)
     some NoRoom e = omega (arith, e)
 
-    pub is-refused : true ≡ refuses_mending text
-    is-refused = go (refuses_mending text) refl
+    pub is_refused : true ≡ refuses_mending text
+    is_refused = go (refuses_mending text) refl
       where
         go : (long : Bool) → refuses_mending text ≡ long → true ≡ refuses_mending text
         go true e = sym e
-        go false e = absurd (some r (given ∙ number-by false e))
+        go false e = absurd (some r (given ∙ number_by_lem false e))
 
-    pub number-printed : refusal_text (mend_refusal_number r) ≡ printed_mended text
+    pub number_printed : refusal_text (mend_refusal_number r) ≡ printed_mended text
     unfolding printed_mended
-    number-printed = rw (given, number-by true (sym is-refused), ← is-refused) refl
+    number_printed = rw (given, number_by_lem true (sym is_refused), ← is_refused) refl
 
 -- What is said of a line, by its sign: of one that is kept nothing.
 module _ (number : ℕ) (l : Line) where
-  pub kept-unsaid : (s : Sign) → letter_of s ≡ sign_of l → s ≡ Kept → said_of number l ≡ []
+  pub kept_unsaid : (s : Sign) → letter_of s ≡ sign_of l → s ≡ Kept → said_of number l ≡ []
   unfolding said_of
-  kept-unsaid s letter is = rw (← letter, is)
+  kept_unsaid s letter is = rw (← letter, is)
 
-  pub kept-fit : (s : Sign) → letter_of s ≡ sign_of l → s ≡ Kept → is_unfit l ≡ false
-  kept-fit s letter is = rw (← letter, is)
+  pub kept_fit : (s : Sign) → letter_of s ≡ sign_of l → s ≡ Kept → is_unfit l ≡ false
+  kept_fit s letter is = rw (← letter, is)
 
-  not-kept : (s : Sign) → ¬ (s ≡ Kept) → eqb (letter_of s) kept_sign ≡ false
-  not-kept Kept other = absurd (other refl)
-  not-kept signs.Mended other = refl
-  not-kept Blank other = refl
-  not-kept (Unfit reason) other = refl
+  not_kept : (s : Sign) → ¬ (s ≡ Kept) → eqb (letter_of s) kept_sign ≡ false
+  not_kept Kept other = absurd (other refl)
+  not_kept signs.Mended other = refl
+  not_kept Blank other = refl
+  not_kept (Unfit reason) other = refl
 
-  pub said-so : (s : Sign) → letter_of s ≡ sign_of l → reason_told s ≡ reason_of l → ¬ (s ≡ Kept)
+  pub said_so : (s : Sign) → letter_of s ≡ sign_of l → reason_told s ≡ reason_of l → ¬ (s ≡ Kept)
       → said_of number l ≡ codes "line " ++ (decimal number ++ (codes ": " ++ (sign_words s ++ lf ∷ [])))
   unfolding said_of
-  said-so s letter reason other =
-      rw (← letter, ← reason, not-kept s other)
+  said_so s letter reason other =
+      rw (← letter, ← reason, not_kept s other)
       (ap (λ l. codes "line " ++ l)
       (append_assoc (decimal number ++ codes ": ") (sign_words s) (lf ∷ []) ∙ append_assoc (decimal number) (codes ": ") (sign_words s ++ lf ∷ [])))
 
-  pub unfit-so : (s : Sign) (matched : Bool) → letter_of s ≡ sign_of l → matched ≡ eqb (letter_of s) unfit_sign → matched ≡ is_unfit l
-  unfit-so s matched letter is = is ∙ ap (λ sign. eqb sign unfit_sign) letter
+  pub unfit_so : (s : Sign) (matched : Bool) → letter_of s ≡ sign_of l → matched ≡ eqb (letter_of s) unfit_sign → matched ≡ is_unfit l
+  unfit_so s matched letter is = is ∙ ap (λ sign. eqb sign unfit_sign) letter
 
-  pub not-unfit : (s : Sign) → ((reason : Reason) → ¬ (s ≡ Unfit reason)) → false ≡ eqb (letter_of s) unfit_sign
-  not-unfit Kept other = refl
-  not-unfit signs.Mended other = refl
-  not-unfit Blank other = refl
-  not-unfit (Unfit reason) other = absurd (other reason refl)
+  pub not_unfit : (s : Sign) → ((reason : Reason) → ¬ (s ≡ Unfit reason)) → false ≡ eqb (letter_of s) unfit_sign
+  not_unfit Kept other = refl
+  not_unfit signs.Mended other = refl
+  not_unfit Blank other = refl
+  not_unfit (Unfit reason) other = absurd (other reason refl)

@@ -11,7 +11,7 @@ use Rattle.i8355.specs.Views as i8355_views
 use Rattle.i8355.specs.Step as i8355
 use Rattle.script.specs.Answers.{line_width, by_device, answers_of, answers_from}
 use Rattle.script.specs.Run.{too_long}
-use Rattle.script.proofs.Pieces.{answers-length}
+use Rattle.script.proofs.Pieces.{answers_length}
 use Rattle.script.specs.RackAnswers.{answering}
 use Rattle.script.specs.RackRun.{names_rack, rack_named, to_answer}
 use Rattle.script.proofs.RackEnough as racks
@@ -22,43 +22,43 @@ use Rattle.towanchor.specs.Failing.{refuses_rack, alone, Failing}
 use Rattle.towanchor.proofs.FailingToMend.{mending}
 
 -- Lines of five bytes or more are not three bytes.
-not-alone : (w n : ℕ) (bytes : List ℕ) → length bytes ≡ (5 + w) * n → eqb (length bytes) alone ≡ false
-not-alone w zero bytes e = ne_eqb (length bytes) alone (λ three. omega (arith, e, three))
-not-alone w (suc n) bytes e = ne_eqb (length bytes) alone (λ three. omega (arith, e, three))
+not_alone : (w n : ℕ) (bytes : List ℕ) → length bytes ≡ (5 + w) * n → eqb (length bytes) alone ≡ false
+not_alone w zero bytes e = ne_eqb (length bytes) alone (λ three. omega (arith, e, three))
+not_alone w (suc n) bytes e = ne_eqb (length bytes) alone (λ three. omega (arith, e, three))
 
-as-wide : (cards n : ℕ) → line_width cards * n ≡ (5 + 6 * cards) * n
-as-wide cards n = ap (λ w. w * n) (omega (arith))
+as_wide : (cards n : ℕ) → line_width cards * n ≡ (5 + 6 * cards) * n
+as_wide cards n = ap (λ w. w * n) (omega (arith))
 
 module _ {S R : Type 0} (dev : devices.Device S R) (pins : S → ℕ → Pins) (s : S) (text : List ℕ) where
-  by-device : too_long text ≡ eqb (length (printed_by (by_device dev pins) s text)) alone
+  by_device_lem : too_long text ≡ eqb (length (printed_by (by_device dev pins) s text)) alone
   unfolding printed_by
-  by-device = go (too_long text) refl
+  by_device_lem = go (too_long text) refl
     where
       go : (long : Bool) → too_long text ≡ long → too_long text ≡ eqb (length (printed_by (by_device dev pins) s text)) alone
       go true e = rw (e) refl
-      go false e = rw (e) (sym (not-alone 6 (line_count text) (answers_of (by_device dev pins) s text) (answers-length (by_device dev pins) s text)))
+      go false e = rw (e) (sym (not_alone 6 (line_count text) (answers_of (by_device dev pins) s text) (answers_length (by_device dev pins) s text)))
 
-by-rack : (text : List ℕ) → refuses_rack text ≡ eqb (length (printed_of_rack text)) alone
+by_rack : (text : List ℕ) → refuses_rack text ≡ eqb (length (printed_of_rack text)) alone
 unfolding printed_of_rack
-by-rack text = go (too_long text) (names_rack text) refl refl
+by_rack text = go (too_long text) (names_rack text) refl refl
   where
     go : (long rack : Bool) → too_long text ≡ long → names_rack text ≡ rack → refuses_rack text ≡ eqb (length (printed_of_rack text)) alone
     go true rack l k = rw (l) refl
     go false false l k = rw (l, k) refl
     go false true l k =
         rw (l, k)
-        (sym (not-alone (6 * (rack_named text).count) (length (to_answer text)) (answers_from answering (rack_named text) (to_answer text))
-        (racks.answers-length (rack_named text) (to_answer text) ∙ as-wide (rack_named text).count (length (to_answer text)))))
+        (sym (not_alone (6 * (rack_named text).count) (length (to_answer text)) (answers_from answering (rack_named text) (to_answer text))
+        (racks.answers_length (rack_named text) (to_answer text) ∙ as_wide (rack_named text).count (length (to_answer text)))))
 
 pub failing : Failing
 unfolding printed
 failing = record {
   device = λ d text. go d text;
-  rack = by-rack;
+  rack = by_rack;
   mending = mending;
 }
   where
     go : (d : Device) (text : List ℕ) → too_long text ≡ eqb (length (printed d text)) alone
-    go I8255A text = by-device chip.device chip_pins.pins_of _ text
-    go I82C55A text = by-device chip.device chip_pins.pins_of _ text
-    go I8355 text = by-device i8355.device i8355_views.pins_of _ text
+    go I8255A text = by_device_lem chip.device chip_pins.pins_of _ text
+    go I82C55A text = by_device_lem chip.device chip_pins.pins_of _ text
+    go I8355 text = by_device_lem i8355.device i8355_views.pins_of _ text

@@ -11,6 +11,6 @@ use Rattle.text.specs.Frames.{leading_byte, is_frame, frame_of, frame_in}
 use Rattle.script.specs.Answers.{acted_in}
 use Rattle.towanchor.specs.LeftByOlder.{LeftByOlder}
 
-pub left-by-older : LeftByOlder
+pub left_by_older : LeftByOlder
 unfolding is_kind operands_of number_of step_in digit_value pair_value lines_of leading_byte is_frame frame_of frame_in acted_in
-left-by-older = record { refuses = refl; too_long = λ text more. rw (lt-ltb 4096 (length text) more) refl }
+left_by_older = record { refuses = refl; too_long = λ text more. rw (lt-ltb 4096 (length text) more) refl }

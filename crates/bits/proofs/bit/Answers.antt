@@ -3,11 +3,11 @@
 use Rattle.std.proofs.Common.{rules, ap, sym, ℕ, ◌/◌, ◌^◌, nat_eq}
 use lib.Bits.{and_mask}
 use Rattle.bits.specs.Bit.{bit_of}
-use Rattle.bits.proofs.BitLaws.{bit-above}
+use Rattle.bits.proofs.BitLaws.{bit_above}
 use Rattle.bits.proofs.bit.Goals as goal
 
 pub returns-then-n-gt7 : goal.returns-then-n-gt7
-returns-then-n-gt7 c = sym (bit-above c.args.x c.args.n (search rules) (search rules))
+returns-then-n-gt7 c = sym (bit_above c.args.x c.args.n (search rules) (search rules))
 
 pub returns : goal.returns
 unfolding bit_of

@@ -4,7 +4,7 @@ use Rattle.std.proofs.Common.{Bool, false, List, [], ◌∷◌, ℕ, ◌*◌, �
 use lib.Dec.{eqb→eq}
 use mir.Val.{bool_byte}
 use Rattle.bits.specs.Bit.{value_of}
-use Rattle.bits.proofs.Tested.{each-list}
+use Rattle.bits.proofs.Tested.{each_list}
 use Rattle.bits.proofs.byte.Goals as goal
 
 -- What the code computes of a list of bits, bit 0 first.
@@ -20,4 +20,4 @@ pub returns : goal.returns
 unfolding value_of
 returns c =
     let bs = c.args.a ∷ c.args.b ∷ c.args.c ∷ c.args.d ∷ c.args.e ∷ c.args.f ∷ c.args.g ∷ c.args.h ∷ [] in
-    eqb→eq (shifted bs) (value_of bs) (each-list (λ bs. nat_eq (shifted bs) (value_of bs)) bs tt)
+    eqb→eq (shifted bs) (value_of bs) (each_list (λ bs. nat_eq (shifted bs) (value_of bs)) bs tt)

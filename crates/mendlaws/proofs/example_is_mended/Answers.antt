@@ -1,7 +1,7 @@
 -- The example is mended as it says.
 -- Rests on Example.
-use Rattle.mendlaws.proofs.Example.{mended-so}
+use Rattle.mendlaws.proofs.Example.{mended_so}
 use Rattle.mendlaws.proofs.example_is_mended.Goals as goal
 
 pub returns : goal.returns
-returns c = mended-so
+returns c = mended_so

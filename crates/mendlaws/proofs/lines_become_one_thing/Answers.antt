@@ -1,7 +1,7 @@
 -- Lines become one thing and one alone.
 -- Rests on AllLines.
-use Rattle.mendlaws.proofs.AllLines.{become-one-thing}
+use Rattle.mendlaws.proofs.AllLines.{become_one_thing}
 use Rattle.mendlaws.proofs.lines_become_one_thing.Goals as goal
 
 pub returns : goal.returns
-returns c = become-one-thing
+returns c = become_one_thing

@@ -1,7 +1,7 @@
 -- Each unfit line has its reason, and no other.
 -- Rests on Reasons.
-use Rattle.mendlaws.proofs.Reasons.{has-its-reason, as-beside}
+use Rattle.mendlaws.proofs.Reasons.{has_its_reason, as_beside}
 use Rattle.mendlaws.proofs.unfit_lines_have_a_reason.Goals as goal
 
 pub returns : goal.returns
-returns c = record { reason = has-its-reason; examples = as-beside }
+returns c = record { reason = has_its_reason; examples = as_beside }

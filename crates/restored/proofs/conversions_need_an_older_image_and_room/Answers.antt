@@ -1,7 +1,7 @@
 -- Which conversions are refused.
 -- Rests on Refusals.
-use Rattle.restored.proofs.Refusals.{converts-so}
+use Rattle.restored.proofs.Refusals.{converts_so}
 use Rattle.restored.proofs.conversions_need_an_older_image_and_room.Goals as goal
 
 pub returns : goal.returns
-returns c = converts-so
+returns c = converts_so

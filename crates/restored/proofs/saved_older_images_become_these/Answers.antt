@@ -1,7 +1,7 @@
 -- The five saved images become those beside them.
 -- Rests on SavedOlder.
-use Rattle.restored.proofs.SavedOlder.{all-become}
+use Rattle.restored.proofs.SavedOlder.{all_become}
 use Rattle.restored.proofs.saved_older_images_become_these.Goals as goal
 
 pub returns : goal.returns
-returns c = all-become
+returns c = all_become

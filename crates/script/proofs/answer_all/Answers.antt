@@ -1,17 +1,17 @@
 -- `script::answer_all` meets its contract: at each turn the text is under way into the output, with a line less.
 -- Rests on Answering, and the contracts of what it calls.
-use Rattle.script.proofs.Answering.{room-for-one, goes-on, arrives}
+use Rattle.script.proofs.Answering.{room_for_one, goes_on_lem, arrives}
 use Rattle.script.proofs.answer_all.Goals as goal
 
 pub write-requires : goal.write-requires
 write-requires g c =
     rw (c.take-answer.ensures.state)
-    (room-for-one g.S.Scripted.answerer _ _ _ c.loop-line.out _ _ _ c.loop-line.at (rw c.in-Some.ensures.steps at c.loop-line.invariant))
+    (room_for_one g.S.Scripted.answerer _ _ _ c.loop-line.out _ _ _ c.loop-line.at (rw c.in-Some.ensures.steps at c.loop-line.invariant))
 
 pub loop-line-preserved : goal.loop-line-preserved
 loop-line-preserved g c =
     rw (c.line_width-width.ensures, c.cards.ensures, c.take-answer.ensures.state)
-    (goes-on g.S.Scripted.answerer _ _ _ c.loop-line.out _ _ _ c.loop-line.at (rw c.in-Some.ensures.steps at c.loop-line.invariant) _
+    (goes_on_lem g.S.Scripted.answerer _ _ _ c.loop-line.out _ _ _ c.loop-line.at (rw c.in-Some.ensures.steps at c.loop-line.invariant) _
     (rw (c.take-answer.ensures.number, c.take-answer.ensures.byte, c.take-answer.ensures.state) at c.write.ensures))
 
 pub returns-clause-output : goal.returns-clause-output

@@ -4,7 +4,7 @@ use Rattle.std.proofs.Common.{◌≡◌, sym, true, length}
 use borrow.Author.Tests.{eq-eqb, ne_eqb}
 use Rattle.image.specs.Places as places
 use Rattle.image.specs.Slices.{saved_in}
-use Rattle.image.proofs.SameBytes.{bytes-by}
+use Rattle.image.proofs.SameBytes.{bytes_by}
 use Rattle.image.specs.OlderPlaces as older
 use Rattle.image.specs.OlderGood.{is_older}
 use Rattle.image.specs.OlderSlices.{converted_in}
@@ -26,4 +26,4 @@ returns-clause-image_after c =
     let good : is_older o ≡ true = sym c.if-not-good.ensures in
     let full = eq-eqb (length o) older.length (is_long o good) in
     let fits = eq-eqb (length c.args.image.now) places.length c.if-not-fits.false in
-    rw (c.convert.ensures, full, fits, converted o (bytes-by o (λ i. c.type_inv.older i)) good, good)
+    rw (c.convert.ensures, full, fits, converted o (bytes_by o (λ i. c.type_inv.older i)) good, good)

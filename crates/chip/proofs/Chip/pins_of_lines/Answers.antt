@@ -1,6 +1,6 @@
 -- The laws of its masks. Rests on LinesByMasks.
 use Rattle.std.proofs.Common.{rules}
-use Rattle.chip.proofs.LinesByMasks.{pins-by-masks}
+use Rattle.chip.proofs.LinesByMasks.{pins_by_masks}
 use Rattle.chip.proofs.Chip.pins_of_lines.Goals as goal
 
 pub returns : goal.returns
@@ -13,4 +13,4 @@ returns c =
       c.outputs.ensures,
       c.handshake-used.ensures,
     )
-    (pins-by-masks c.args.self.now (search rules))
+    (pins_by_masks c.args.self.now (search rules))

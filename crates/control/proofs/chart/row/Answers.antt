@@ -26,9 +26,9 @@ listed l = record { a = get_or l 0 false; upper = get_or l 1 false; b = get_or l
 moved : (i j : ℕ) → T (all 256 (λ w. same (bit_of (index w) i) (bit_of w j))) → (w : ℕ) → w < 256 → bit_of (index w) i ≡ bit_of w j
 moved i j = bits 256 (λ w. bit_of (index w) i) (λ w. bit_of w j)
 
-line-of-word : (w : ℕ) → w < 256 → listed (line_at (index w)) ≡ directions_of w
+line_of_word : (w : ℕ) → w < 256 → listed (line_at (index w)) ≡ directions_of w
 unfolding bit_of input_of upper_input lower_input
-line-of-word w h = rw (moved 3 4 tt w h, moved 2 3 tt w h, moved 1 1 tt w h, moved 0 0 tt w h)
+line_of_word w h = rw (moved 3 4 tt w h, moved 2 3 tt w h, moved 1 1 tt w h, moved 0 0 tt w h)
 
 pub bounds-at-at : goal.bounds-at-at
 bounds-at-at c = index_below c.args.word (omega arith)
@@ -38,4 +38,4 @@ unfolding bit_of
 returns c =
     let w = c.args.word in
     let h : w < 256 = omega arith in
-    ap listed (table_at line_at [] 16 (index w) (index_below w h)) ∙ line-of-word w h
+    ap listed (table_at line_at [] 16 (index w) (index_below w h)) ∙ line_of_word w h

@@ -4,7 +4,7 @@ use Rattle.std.proofs.Common.{arith, ◌≡◌, true, sym, List, [], ◌∷◌, 
 use Rattle.bits.specs.Bit.{bit_of}
 use Rattle.bits.specs.Same.{same_bytes}
 use Rattle.bits.proofs.Same.{same_lists}
-use Rattle.bits.proofs.Tested.{all, each, same-is}
+use Rattle.bits.proofs.Tested.{all, each, same_is}
 use Rattle.control.specs.declared.Group.{Group}
 use Rattle.control.specs.declared.Group.TheVariants.{A, B}
 use Rattle.chip.specs.declared.channel.Side.TheVariants.{Input, Output}
@@ -20,7 +20,7 @@ row g w = conditions (strobed w g Input) Input ∷ conditions (strobed w g Outpu
 
 -- Two lists by a word are one where the test of them passes at every word.
 rows : (f g : ℕ → List ℕ) → T (all 256 (λ w. same_bytes (f w) (g w))) → (w : ℕ) → w < 256 → f w ≡ g w
-rows f g tested w h = same_lists (f w) (g w) (sym (same-is true (same_bytes (f w) (g w)) (each 256 (λ w. same_bytes (f w) (g w)) tested w h)))
+rows f g tested w h = same_lists (f w) (g w) (sym (same_is true (same_bytes (f w) (g w)) (each 256 (λ w. same_bytes (f w) (g w)) tested w h)))
 
 pub returns-in-A : goal.returns-in-A
 unfolding bit_of mode_of input_of strobed_input strobed_output

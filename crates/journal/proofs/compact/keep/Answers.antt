@@ -2,7 +2,7 @@
 -- Rests on Keeping, and on the contract of `compact::changes`.
 use Rattle.std.proofs.Common.{rules, ◌∙◌, refl, sym, ap, List, ℕ, length}
 use Rattle.journal.specs.Trim.{filled_up}
-use Rattle.journal.proofs.Keeping.{starts, is-frame, stays, moved, dropped, arrives, filled-up}
+use Rattle.journal.proofs.Keeping.{starts, is_frame_lem, stays, moved, dropped, arrives, filled_up_lem}
 use Rattle.journal.proofs.compact.keep.Goals as goal
 use Rattle.journal.proofs.compact.keep.Goals.{then-changes, else-changes}
 
@@ -10,7 +10,7 @@ pub loop-at-init : goal.loop-at-init
 loop-at-init c = (starts _ _ c.requires, refl)
 
 pub changes-requires-clause-frame : goal.changes-requires-clause-frame
-changes-requires-clause-frame c = is-frame _ _ _ _ _ _ c.loop-at.invariant.0 (search rules)
+changes-requires-clause-frame c = is_frame_lem _ _ _ _ _ _ c.loop-at.invariant.0 (search rules)
 
 pub loop-at-preserved : goal.loop-at-preserved
 loop-at-preserved c =
@@ -25,5 +25,5 @@ returns-clause-value c = sym c.loop-at.invariant.0.counted ∙ ap length (arrive
 
 pub returns-clause-words_after : goal.returns-clause-words_after
 returns-clause-words_after c =
-    filled-up _ _ _ _ _ _ c.loop-at.invariant.0 (search rules)
+    filled_up_lem _ _ _ _ _ _ c.loop-at.invariant.0 (search rules)
     ∙ ap (λ (l : List ℕ). filled_up l (length c.args.words.now)) (arrives _ _ _ _ _ _ c.loop-at.invariant.0 (search rules))

@@ -2,7 +2,7 @@
 -- Rests on the bus's ByKind.
 use Rattle.std.proofs.Common.{◌≡◌, ◌∙◌, refl, sym, ap}
 use Rattle.bus.specs.Answers.{kind_numbered}
-use Rattle.bus.proofs.ByKind.{kind-back, none-back}
+use Rattle.bus.proofs.ByKind.{kind_back, none_back}
 use Rattle.journal.specs.declared.words.Logged.{Logged}
 use Rattle.journal.specs.Words.{event_in, is_frame}
 use Rattle.journal.proofs.words.is_frame.Goals as goal
@@ -15,10 +15,10 @@ asked c = c.numbered.ensures ∙ ap (λ (l : Logged). kind_numbered l.kind) c.re
 pub returns-in-Some : goal.returns-in-Some
 unfolding is_frame
 returns-in-Some c =
-    let kind = kind-back (event_in c.args.word).kind c.in-Some.kind (sym c.in-Some.is ∙ asked (goal.at.returns-in-Some c).After-numbered) in
+    let kind = kind_back (event_in c.args.word).kind c.in-Some.kind (sym c.in-Some.is ∙ asked (goal.at.returns-in-Some c).After-numbered) in
     rw (c.is_exact.ensures, c.operands.ensures, kind.0, kind.1, c.read-logged.ensures) refl
 
 pub returns-in-None : goal.returns-in-None
 unfolding is_frame
 returns-in-None c =
-    rw (none-back (event_in c.args.word).kind (sym c.in-None.is ∙ asked (goal.at.returns-in-None c).After-numbered)) refl
+    rw (none_back (event_in c.args.word).kind (sym c.in-None.is ∙ asked (goal.at.returns-in-None c).After-numbered)) refl

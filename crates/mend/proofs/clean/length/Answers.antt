@@ -9,7 +9,7 @@ use Rattle.std.proofs.lemmas.Iterator.Consumers.{YieldsList-at, YieldsList-from_
 use Rattle.text.specs.Lines.{lines_of}
 use Rattle.text.specs.Answers.{line_of, lines_left}
 use Rattle.mend.specs.Mend.{clean_of}
-use Rattle.mend.proofs.Cleaning.{clean_length, lengths-add-up, bytes-got, one-longer-at-most}
+use Rattle.mend.proofs.Cleaning.{clean_length, lengths_add_up, bytes_got, one_longer_at_most}
 use Rattle.mend.proofs.clean.length.Goals as goal
 use Rattle.mend.proofs.clean.length.Goals.{After-map}
 
@@ -23,10 +23,10 @@ pub sum-requires-clause-fits : goal.sum-requires-clause-fits
 unfolding clean_of
 sum-requires-clause-fits c =
     let ls = lines_of c.args.text.now in
-    let fits : sum_by clean_length ls < 2 ^ 64 = rw (lengths-add-up ls) (omega (arith, one-longer-at-most c.args.text.now)) in
+    let fits : sum_by clean_length ls < 2 ^ 64 = rw (lengths_add_up ls) (omega (arith, one_longer_at_most c.args.text.now)) in
     fits_by_from_yields_list clean_length ls c.map.result _
     (YieldsList-from_map _ clean_length (lines (goal.at.sum-requires-clause-fits c).After-map) c.map.ensures.closure
-    (λ x r q k. search (rules, bytes-got))) fits
+    (λ x r q k. search (rules, bytes_got))) fits
 
 pub returns : goal.returns
 unfolding clean_of
@@ -34,5 +34,5 @@ returns c =
     let ls = lines_of c.args.text.now in
     sum_by_from_yields_List clean_length ls c.map.result _ c.sum.ensures.ran
     (YieldsList-from_map _ clean_length (lines (goal.at.returns c).After-map) c.map.ensures.closure
-    (λ x r q k. search (rules, bytes-got)))
-    ∙ lengths-add-up ls
+    (λ x r q k. search (rules, bytes_got)))
+    ∙ lengths_add_up ls

@@ -5,7 +5,7 @@ use lib.ListN.{length-map}
 use Rattle.text.specs.Lines.{lines_of}
 use Rattle.mend.specs.Line.{sign_of}
 use Rattle.mend.specs.Mend.{report_of}
-use Rattle.mend.proofs.Filling.{starts, stored, arrives, one-each}
+use Rattle.mend.proofs.Filling.{starts, stored, arrives, one_each_lem}
 use Rattle.mend.proofs.report.write.Invariants.{put}
 use Rattle.mend.proofs.report.write.Goals as goal
 
@@ -13,7 +13,7 @@ pub loop-at-init : goal.loop-at-init
 loop-at-init c =
     let ls = lines_of c.args.text.now in
     rw (c.into_iter-at-iterator.ensures.into_iter_gives, c.enumerate-at-items.ensures.source, c.enumerate-at-items.ensures.count, c.new.ensures)
-    (starts put ls c.args.out.now (rw (one-each sign_of ls, length-map ls sign_of) c.requires))
+    (starts put ls c.args.out.now (rw (one_each_lem sign_of ls, length-map ls sign_of) c.requires))
 
 pub loop-at-preserved : goal.loop-at-preserved
 loop-at-preserved c =
@@ -25,4 +25,4 @@ pub returns : goal.returns
 unfolding report_of
 returns c =
     let all = arrives put _ _ _ _ (rw c.in-None.ensures.steps.0.0 at c.loop-at.invariant) in
-    rw (one-each sign_of (lines_of c.args.text.now)) at all
+    rw (one_each_lem sign_of (lines_of c.args.text.now)) at all

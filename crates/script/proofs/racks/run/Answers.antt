@@ -5,7 +5,7 @@ use Rattle.text.specs.Lines.{lines_of}
 use Rattle.text.specs.Answers.{line_of, lines_left}
 use Rattle.script.specs.RackBases.{rack_of_line}
 use Rattle.script.specs.RackRun.{output_left}
-use Rattle.script.proofs.RackOpened.{told-as, same-output, not-run, has-run, fits}
+use Rattle.script.proofs.RackOpened.{told_as, same_output, not_run, has_run, fits}
 use Rattle.script.proofs.racks.run.Goals as goal
 use Rattle.script.proofs.racks.run.Goals.{In_ok-rack, After-run}
 
@@ -15,19 +15,19 @@ begins : (c : goal.In_ok-rack)
 begins c = ((search rules), (search rules))
 
 -- Refused or not, the output is left as the run of the further lines leaves it.
-left-so : (c : goal.After-run) → c.run.new.out ≡ output_left c.args.text.now c.args.out.now
-left-so c =
+left_so : (c : goal.After-run) → c.run.new.out ≡ output_left c.args.text.now c.args.out.now
+left_so c =
     let found = begins (goal.at.After-run c).In_ok-rack in
-    c.run.ensures.output ∙ same-output c.args.text.now _ c.args.out.now _ c.in_ok-rack.field-0 (omega arith) found.0 found.1
+    c.run.ensures.output ∙ same_output c.args.text.now _ c.args.out.now _ c.in_ok-rack.field-0 (omega arith) found.0 found.1
 
 pub returns-in_err-lines-clause-told : goal.returns-in_err-lines-clause-told
 returns-in_err-lines-clause-told c =
     let found = begins (goal.at.returns-in_err-lines-clause-told c).In_ok-rack in
-    told-as c.from_residual-in_err-lines.result _ c.from_residual-in_err-lines.ensures.1
-    ∙ not-run c.args.text.now _ c.args.out.now _ c.in_ok-rack.field-0 (omega arith) found.0 found.1 _ c.in_err-lines.ensures.told
+    told_as c.from_residual-in_err-lines.result _ c.from_residual-in_err-lines.ensures.1
+    ∙ not_run c.args.text.now _ c.args.out.now _ c.in_ok-rack.field-0 (omega arith) found.0 found.1 _ c.in_err-lines.ensures.told
 
 pub returns-in_err-lines-clause-output : goal.returns-in_err-lines-clause-output
-returns-in_err-lines-clause-output c = left-so (goal.at.returns-in_err-lines-clause-output c).After-run
+returns-in_err-lines-clause-output c = left_so (goal.at.returns-in_err-lines-clause-output c).After-run
 
 pub overflow_mul-result : goal.overflow_mul-result
 overflow_mul-result c =
@@ -39,7 +39,7 @@ pub returns-clause-told : goal.returns-clause-told
 returns-clause-told c =
     let found = begins (goal.at.returns-clause-told c).In_ok-rack in
     rw (c.line_width-width.ensures, c.cards.ensures)
-    (has-run c.args.text.now _ c.args.out.now _ c.in_ok-rack.field-0 (omega arith) found.0 found.1 _ c.in_ok-lines.ensures.told)
+    (has_run c.args.text.now _ c.args.out.now _ c.in_ok-rack.field-0 (omega arith) found.0 found.1 _ c.in_ok-lines.ensures.told)
 
 pub returns-clause-output : goal.returns-clause-output
-returns-clause-output c = left-so (goal.at.returns-clause-output c).After-run
+returns-clause-output c = left_so (goal.at.returns-clause-output c).After-run

@@ -4,8 +4,8 @@ use Rattle.std.proofs.Common.{rules, ◌∙◌, ◌*◌, ◌≤◌, length, arit
 use Rattle.std.proofs.lemmas.Result.{IfOk-weaker}
 use Rattle.script.specs.Run.{longest_script}
 use Rattle.script.specs.Answers.{answer_width}
-use Rattle.script.proofs.Outcome.{answers-fit}
-use Rattle.towanchor.proofs.Answered.{kept, refused-where-long}
+use Rattle.script.proofs.Outcome.{answers_fit}
+use Rattle.towanchor.proofs.Answered.{kept, refused_where_long}
 use Rattle.towanchor.proofs.answers.answer_by.Goals as goal
 
 pub returns-clause-text : goal.returns-clause-text
@@ -27,8 +27,8 @@ returns-clause-refused g c =
     let met = e.4.met in
     let leaves = e.4.leaves in
     let shows = e.4.shows in
-    e.6 ∙ search (rules, refused-where-long g.D.Device.device g.D.Device.shown c.args.device.now c.args.text.now e.0 enough))
+    e.6 ∙ search (rules, refused_where_long g.D.Device.device g.D.Device.shown c.args.device.now c.args.text.now e.0 enough))
     c.of_run.ensures
 
 pub of_run-requires : goal.of_run-requires
-of_run-requires g c = search (rules, answers-fit answer_width)
+of_run-requires g c = search (rules, answers_fit answer_width)

@@ -3,7 +3,7 @@
 use Rattle.std.proofs.Common.{rules, ◌∙◌, ◌≤◌, length, arith}
 use Rattle.std.proofs.lemmas.Result.{IfOk-weaker}
 use Rattle.script.proofs.RackRoom.{most_room}
-use Rattle.towanchor.proofs.AnsweredByRack.{kept, refused-by-rule}
+use Rattle.towanchor.proofs.AnsweredByRack.{kept, refused_by_rule}
 use Rattle.towanchor.proofs.racks.answer.Goals as goal
 
 pub returns-clause-text : goal.returns-clause-text
@@ -25,5 +25,5 @@ returns-clause-refused c =
     let met = e.4.met in
     let leaves = e.4.leaves in
     let shows = e.4.shows in
-    e.6 ∙ search (rules, refused-by-rule c.args.text.now e.0 enough))
+    e.6 ∙ search (rules, refused_by_rule c.args.text.now e.0 enough))
     c.of_run.ensures

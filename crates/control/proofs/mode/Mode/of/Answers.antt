@@ -10,19 +10,19 @@ use Rattle.control.proofs.mode.Mode.of.Goals as goal
 abbrev entry : ℕ → ℕ
 entry k = get_or (0 ∷ 1 ∷ 2 ∷ 2 ∷ []) k 0
 
-past-one : (k : ℕ) → 1 < k → k < 4 → entry k ≡ 2
-past-one zero above below = absurd (omega (arith, above))
-past-one (suc zero) above below = absurd (omega (arith, above))
-past-one (suc (suc zero)) above below = refl
-past-one (suc (suc (suc zero))) above below = refl
-past-one (suc (suc (suc (suc k)))) above below = absurd (omega (arith, below))
+past_one : (k : ℕ) → 1 < k → k < 4 → entry k ≡ 2
+past_one zero above below = absurd (omega (arith, above))
+past_one (suc zero) above below = absurd (omega (arith, above))
+past_one (suc (suc zero)) above below = refl
+past_one (suc (suc (suc zero))) above below = refl
+past_one (suc (suc (suc (suc k)))) above below = absurd (omega (arith, below))
 
-is-two : (w : ℕ) → 1 < w / 32 % 4 → mode_of w A ≡ 2
+is_two : (w : ℕ) → 1 < w / 32 % 4 → mode_of w A ≡ 2
 unfolding mode_of
-is-two w above = past-one (w / 32 % 4) above (omega arith)
+is_two w above = past_one (w / 32 % 4) above (omega arith)
 
 pub returns-in_default : goal.returns-in_default
 returns-in_default c =
     let w = c.args.word in
     let high : 1 < bit_and (w / 32) 3 = search rules in
-    sym (ap (mode_of w) c.in-A.is ∙ is-two w (rw (sym (and_mask (w / 32) 2)) high))
+    sym (ap (mode_of w) c.in-A.is ∙ is_two w (rw (sym (and_mask (w / 32) 2)) high))

@@ -3,14 +3,14 @@
 use Rattle.std.proofs.Common.{rules, ◌≡◌, ◌<◌, arith}
 use Rattle.text.specs.Digits.{no_byte}
 use Rattle.text.specs.Frames.{leading_byte}
-use Rattle.text.proofs.Said.{byte-there, none_there}
-use Rattle.script.proofs.RackLeading.{few, no_high, no_low, both-bytes}
+use Rattle.text.proofs.Said.{byte_there, none_there}
+use Rattle.script.proofs.RackLeading.{few, no_high, no_low, both_bytes}
 use Rattle.script.proofs.racks.first.base.Goals as goal
 use Rattle.script.proofs.racks.first.base.Goals.{In_ok-byte_at}
 
 -- The first of the bytes, once it is read.
 high : (c : goal.In_ok-byte_at) → (c.in_ok-byte_at.field-0 ≡ leading_byte c.args.digits.now) × (leading_byte c.args.digits.now < no_byte)
-high c = byte-there _ c.in_ok-byte_at.ensures
+high c = byte_there _ c.in_ok-byte_at.ensures
 
 pub returns-then-digits-lt-BASE_DIGITS : goal.returns-then-digits-lt-BASE_DIGITS
 returns-then-digits-lt-BASE_DIGITS c = few c.args.digits.now (omega arith)
@@ -29,6 +29,6 @@ returns-in_err-byte_at-2 c =
 pub returns : goal.returns
 returns c =
     let first = high (goal.at.returns c).In_ok-byte_at in
-    let second = byte-there _ c.in_ok-byte_at-2.ensures in
-    let both = both-bytes c.args.digits.now (omega arith) first.1 second.1 in
+    let second = byte_there _ c.in_ok-byte_at-2.ensures in
+    let both = both_bytes c.args.digits.now (omega arith) first.1 second.1 in
     omega (arith, c.from_be_bytes.ensures, first.0, second.0, both)

@@ -2,7 +2,7 @@
 -- Rests on text's LineCount.
 use Rattle.std.proofs.Common.{refl, arith}
 use mathlib.Core.Logic.{inl}
-use Rattle.text.proofs.LineCount.{lines-at-most}
+use Rattle.text.proofs.LineCount.{lines_at_most}
 use Rattle.towanchor.specs.Mended.{said_of_all, has_unfit}
 use Rattle.towanchor.proofs.mending.Said.of.Goals as goal
 
@@ -13,7 +13,7 @@ loop-at-init-derived c =
       c.enumerate-at-items.ensures.source,
       c.enumerate-at-items.ensures.count,
       c.new-2.ensures,
-    ) ((tt, tt, inl (omega (arith, lines-at-most c.args.text.now))), tt)
+    ) ((tt, tt, inl (omega (arith, lines_at_most c.args.text.now))), tt)
 
 pub loop-at-init : goal.loop-at-init
 unfolding said_of_all has_unfit
