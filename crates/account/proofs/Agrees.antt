@@ -1,28 +1,21 @@
 -- An account that agrees with a chip goes on to agree with it.
--- Rests on Words, Columns, Signals, ByEvent, Moves, Pins, Ports and Waves, on fates' SurroundingsKept, and on bits' Tested.
-use mathlib.Core.Path.{◌≡◌, ◌∙◌, refl, ap, sym}
-use mathlib.Core.Bool.{Bool, true, false, not, ◌&&◌, and-false}
-use Prim.Native.Nat.{ℕ, ◌<◌}
-use Rattle.bits.specs.Bit.{bit_of}
-use Rattle.bits.proofs.Tested.{bits}
+-- Rests on Words, Columns, Signals, ByEvent, Moves, Pins, Ports and Waves, and on fates' SurroundingsKept.
+use Rattle.std.proofs.Common.{◌≡◌, ◌∙◌, refl, ap, sym, Bool, true, false, not, ◌&&◌, ℕ, ◌<◌}
 use Rattle.bus.specs.Event.{Event}
 use Rattle.control.specs.declared.Group.{Group}
-use Rattle.control.specs.declared.Group.TheVariants.{A, B}
 use Rattle.chip.specs.declared.channel.Side.{Side}
 use Rattle.chip.specs.declared.channel.Side.TheVariants.{Input, Output}
-use Rattle.chip.specs.declared.Edition.{Edition}
 use Rattle.chip.specs.declared.Core.{Core}
 use Rattle.chip.specs.declared.Chip.{Chip}
-use Rattle.chip.specs.declared.Levels.{Levels}
-use Rattle.chip.specs.State.{power_up_as, channel_of}
+use Rattle.chip.specs.State.{channel_of}
 use Rattle.chip.specs.Handshakes.{strobed, enable_of}
 use Rattle.chip.specs.Step.{stepped}
-use Rattle.fates.specs.Surroundings.{at_power_up, surroundings_next}
+use Rattle.fates.specs.Surroundings.{surroundings_next}
 use Rattle.fates.specs.Effects.{strobe_pin}
 use Rattle.fates.specs.Promise.{surroundings_of}
 use Rattle.fates.proofs.SurroundingsKept.{surroundings_next_lem}
 use Rattle.account.specs.Summary.{signal_at}
-use Rattle.account.specs.Account.{Account, strobed as Account·strobed, line, served, account_next, opened}
+use Rattle.account.specs.Account.{Account, strobed as Account·strobed, line, served, account_next}
 use Rattle.account.specs.Promise.{with_bit7, surroundings_here, bit_here, flag_here, account_of}
 use Rattle.account.proofs.Words.{signal_alike, with_bit_7_alike}
 use Rattle.account.proofs.Columns.{takes_same, gives_same, takes_here, gives_here}
@@ -104,39 +97,3 @@ module _ (c : Chip) where
     given = λ g. refl;
     even = even_here;
   }
-
--- So does the account that is opened at power-up.
-pub agrees_opened : (ed : Edition) (l : Levels) → Agrees (power_up_as ed l) (opened ed l)
-unfolding bit_of
-agrees_opened ed l = record {
-  surroundings = refl;
-  bit = bits 8 (λ n. false) (λ n. bit_here (power_up_as ed l).core n (signal_at 0x9b n)) tt;
-  output = zeros Output;
-  input = zeros Input;
-  ibf = empty;
-  obf = room;
-  given = none;
-  even = low;
-}
-  where
-    zeros : (s : Side) (g : Group) → 0 ≡ (channel_of (power_up_as ed l).core g s).latch
-    zeros Input A = refl
-    zeros Input B = refl
-    zeros Output A = refl
-    zeros Output B = refl
-
-    empty : (g : Group) → false ≡ full (channel_of (power_up_as ed l).core g Input)
-    empty A = refl
-    empty B = refl
-
-    room : (g : Group) → true ≡ vacant (channel_of (power_up_as ed l).core g Output)
-    room A = refl
-    room B = refl
-
-    none : (g : Group) → false ≡ given (channel_of (power_up_as ed l).core g Input)
-    none A = refl
-    none B = refl
-
-    low : Even (opened ed l)
-    low g Input = sym (and-false (Account·strobed (at_power_up ed l) g Input))
-    low g Output = sym (and-false (Account·strobed (at_power_up ed l) g Output))

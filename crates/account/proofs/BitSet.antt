@@ -1,10 +1,7 @@
 -- What bit set/reset does to port C's latch and to the enables, by what the pin is.
 -- Rests on Signals, and on bits' BitLaws and chip's OneChannel.
-use mathlib.Core.Path.{◌≡◌, ◌∙◌, refl, ap, sym}
-use mathlib.Core.Bool.{Bool, true, false, cond, ◌&&◌, and-false, and-true}
-use Prim.Native.Nat.{ℕ, ◌<◌}
-use lib.Dec.{eqb}
-use borrow.Author.Tests.{eqb-true}
+use Rattle.std.proofs.Common.{◌≡◌, ◌∙◌, refl, ap, sym, Bool, true, false, cond, ◌&&◌, ℕ, ◌<◌, eqb, eqb-true}
+use mathlib.Core.Bool.{and-false, and-true}
 use Rattle.bits.specs.Bit.{bit_of, with_bit}
 use Rattle.bits.proofs.BitLaws.{bit_of_with}
 use Rattle.control.specs.declared.Group.{Group}
@@ -96,9 +93,14 @@ module _ (c : Core) (n : ℕ) (hn : n < 8) (v : Bool) (w : ℕ) (g : Group) (s :
 
   pub set_enable : Put (signal_at w n)
   set_enable =
-      by_signal Put n (free (is_in w n)) (sym none_put) (forced Input) (forced Output)
-      (λ h at. rw (at) (put_one c.inte v h Input g s))
-      (λ h at. rw (at) (put_one c.inte v h Output g s))
+      by_signal Put n (record {
+        free = free (is_in w n);
+        interrupt = sym none_put;
+        full = forced Input;
+        vacant = forced Output;
+        strobe = λ h at. rw (at) (put_one c.inte v h Input g s);
+        acknowledge = λ h at. rw (at) (put_one c.inte v h Output g s);
+      })
       w hn
     where
       forced : (t : Side) → enable_of (flag_put c (group_at n) t v).inte g s ≡ cond (eqb (strobe_pin g s) n && false) v (enable_of c.inte g s)

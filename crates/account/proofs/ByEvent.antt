@@ -1,9 +1,6 @@
 -- What holds of the surroundings after each act holds after every event; and they go on alike where bit 7 of the mode word counts as set.
 -- Rests on bits' Logic.
-use mathlib.Core.Path.{◌≡◌, refl}
-use mathlib.Core.Bool.{Bool, true, false, cond, ◌&&◌}
-use Prim.Native.Nat.{ℕ}
-use lib.Dec.{eqb, ltb}
+use Rattle.std.proofs.Common.{◌≡◌, refl, Bool, true, false, cond, ◌&&◌, ℕ, eqb, ltb}
 use Rattle.bits.specs.Bit.{bit_of}
 use Rattle.bits.proofs.Logic.{contrary, both}
 use Rattle.bus.specs.Event.{Event}
@@ -23,30 +20,33 @@ is_idle (Writing x d) e = cc
 abbrev pub on_bus : Phase → ℕ → Surroundings → Surroundings
 on_bus ph w a = record { phase = ph; edition = a.edition; word = w; levels_a = a.levels_a; levels_b = a.levels_b; levels_c = a.levels_c }
 
-module _ (P : Surroundings → Act → Type 0) (a : Surroundings)
-    (still : P a nothing)
-    (renewal : (w : ℕ) → P (on_bus Idle w a) anew)
-    (read_begins_lem : (x : ℕ) → a.phase ≡ Idle → P (on_bus (Reading x) a.word a) (read_begins x))
-    (read_ends_lem : (x : ℕ) → a.phase ≡ Reading x → P (on_bus Idle a.word a) (read_ends x))
-    (write_begins_lem : (x d : ℕ) → a.phase ≡ Idle → P (on_bus (Writing x d) a.word a) (write_begins x))
-    (write_ends : (x d : ℕ) → a.phase ≡ Writing x d → P (on_bus Idle a.word a) (written x d))
-    (levels_come : (x d : ℕ) → P (surroundings_after a (new_levels x d)) (levels x d)) where
+-- What is shown of the surroundings that each act leaves: nothing happens, all is made anew, a cycle begins or ends, or levels come.
+pub record SurroundingsAfterEachAct (P : Surroundings → Act → Type 0) (a : Surroundings) : Type 0 where
+  pub at_rest : P a nothing
+  pub made_anew : (w : ℕ) → P (on_bus Idle w a) anew
+  pub read_starts : (x : ℕ) → a.phase ≡ Idle → P (on_bus (Reading x) a.word a) (read_begins x)
+  pub read_over : (x : ℕ) → a.phase ≡ Reading x → P (on_bus Idle a.word a) (read_ends x)
+  pub write_starts : (x d : ℕ) → a.phase ≡ Idle → P (on_bus (Writing x d) a.word a) (write_begins x)
+  pub write_over : (x d : ℕ) → a.phase ≡ Writing x d → P (on_bus Idle a.word a) (written x d)
+  pub levels_put : (x d : ℕ) → P (surroundings_after a (new_levels x d)) (levels x d)
+
+module _ (P : Surroundings → Act → Type 0) (a : Surroundings) (shown : SurroundingsAfterEachAct P a) where
   by_phase : (ph : Phase) → a.phase ≡ ph → accepts a.edition ph cycle_ended ≡ true → P (on_bus Idle (cond (of_mode_word ph) (brought ph) a.word) a) (ending ph)
   by_phase Idle phase ok = absurd (contrary false refl ok)
-  by_phase (Reading x) phase ok = read_ends_lem x phase
+  by_phase (Reading x) phase ok = shown.read_over x phase
   by_phase (Writing x d) phase ok = go (eqb x 3 && bit_of d 7)
     where
       go : (mode : Bool) → P (on_bus Idle (cond mode d a.word) a) (cond mode anew (written x d))
-      go true = renewal d
-      go false = write_ends x d phase
+      go true = shown.made_anew d
+      go false = shown.write_over x d phase
 
   by_name : (ok : Bool) (v : Kind) → accepts a.edition a.phase v ≡ ok → P (cond ok (surroundings_after a v) a) (cond ok (act_of a.phase v) nothing)
-  by_name false v e = still
-  by_name true reset e = renewal 0x9b
-  by_name true (read_begun x) e = read_begins_lem x (is_idle a.phase (both (readable_at a.edition x) (free a.phase) e).1)
+  by_name false v e = shown.at_rest
+  by_name true reset e = shown.made_anew 0x9b
+  by_name true (read_begun x) e = shown.read_starts x (is_idle a.phase (both (readable_at a.edition x) (free a.phase) e).1)
   by_name true cycle_ended e = by_phase a.phase refl e
-  by_name true (write_begun x d) e = write_begins_lem x d (is_idle a.phase (both (ltb x 4) (free a.phase) e).1)
-  by_name true (new_levels x d) e = levels_come x d
+  by_name true (write_begun x d) e = shown.write_starts x d (is_idle a.phase (both (ltb x 4) (free a.phase) e).1)
+  by_name true (new_levels x d) e = shown.levels_put x d
   by_name true unknown e = absurd (contrary false refl e)
 
   pub by_event : (e : Event) → P (surroundings_next a e) (act a e)

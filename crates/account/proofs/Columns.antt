@@ -1,10 +1,6 @@
 -- The summary's columns are the chip's modes and directions.
 -- Rests on Words, on control's AsByte and SameWords, and on bits' Tested.
-use mathlib.Core.Path.{◌≡◌, ◌∙◌, ap, sym}
-use mathlib.Core.Bool.{Bool, cond, ◌&&◌}
-use Prim.Native.Nat.{ℕ, ◌%◌}
-use native.Mathlib.Omega.{arith}
-use lib.Dec.{T, eqb}
+use Rattle.std.proofs.Common.{◌≡◌, ◌∙◌, ap, sym, Bool, cond, ◌&&◌, ℕ, ◌%◌, arith, T, eqb}
 use Rattle.bits.specs.Bit.{bit_of}
 use Rattle.bits.proofs.Tested.{all, same, bits}
 use Rattle.control.specs.declared.Group.{Group}

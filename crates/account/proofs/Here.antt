@@ -1,9 +1,6 @@
 -- What an account that agrees with a chip finds in its tables, and around it, under the chip's own word.
 -- Rests on Agrees, Words and Ports.
-use mathlib.Core.Path.{◌≡◌, ◌∙◌, ap}
-use mathlib.Core.Bool.{true}
-use Prim.Native.Nat.{ℕ, ◌<◌}
-use lib.Dec.{lit<}
+use Rattle.std.proofs.Common.{◌≡◌, ◌∙◌, ap, true, ℕ, ◌<◌, lit<}
 use Rattle.bits.specs.Bit.{bit_of}
 use Rattle.control.specs.declared.Group.{Group}
 use Rattle.control.specs.declared.Group.TheVariants.{A, B}

@@ -1,8 +1,6 @@
 -- INTR is what the account says, by the sheet's equation.
 -- Rests on Truth, Columns, Moves, Agrees and Here, and on fates' Tables.
-use mathlib.Core.Path.{◌≡◌, refl, sym}
-use mathlib.Core.Bool.{Bool, true, false, not, ◌&&◌}
-use Prim.Native.Nat.{ℕ}
+use Rattle.std.proofs.Common.{◌≡◌, refl, sym, Bool, true, false, not, ◌&&◌, ℕ}
 use Rattle.bits.specs.Bit.{bit_of}
 use Rattle.bus.specs.declared.Phase.{Phase}
 use Rattle.bus.specs.declared.Phase.TheVariants.{Idle, Reading, Writing}

@@ -1,9 +1,6 @@
 -- Reads, writes to ports A and B and levels leave port C's latch and the enables; and the mode word, as all but a mode word and a reset do.
 -- Rests on ByAct and on chip's OnPort.
-use mathlib.Core.Path.{◌≡◌, refl, ap}
-use mathlib.Core.Bool.{Bool, true, false, cond}
-use Prim.Native.Nat.{ℕ}
-use lib.Dec.{eqb}
+use Rattle.std.proofs.Common.{◌≡◌, refl, ap, Bool, true, false, cond, ℕ, eqb}
 use Rattle.control.specs.declared.Group.{Group}
 use Rattle.control.specs.Mode.{strobed_input}
 use Rattle.chip.specs.declared.Port.{Port}

@@ -12,13 +12,16 @@ pub mod Pins
 pub mod Moves
 pub mod Ports
 pub mod Agrees
+pub mod Opened
 pub mod Here
 pub mod Interrupts
 pub mod Views
 pub mod Reasons
 pub mod Numbers
+pub mod Accounted
 pub mod Account
 pub mod Unreached
+pub mod Lines
 pub mod Script
 pub mod Texts
 pub mod RunNumbers

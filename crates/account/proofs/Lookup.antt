@@ -1,11 +1,7 @@
 -- The lookup of a role answers by the summary.
 -- Rests on Signals.
-use mathlib.Core.Path.{◌≡◌, refl}
-use mathlib.Core.Bool.{Bool, true, false, or-true}
-use Prim.Native.Nat.{ℕ}
-use native.Mathlib.Omega.{arith}
-use lib.Dec.{ltb}
-use borrow.Author.Tests.{lt-ltb, le-ltb}
+use Rattle.std.proofs.Common.{◌≡◌, refl, Bool, true, false, ℕ, arith, ltb, lt-ltb, le-ltb}
+use mathlib.Core.Bool.{or-true}
 use Rattle.control.specs.Role.{number}
 use Rattle.control.specs.Lookup.{lookup_of}
 use Rattle.account.specs.Summary.{Signal, io, INTR, IBF, OBF, STB, ACK, signal_at, is_in, role_number}

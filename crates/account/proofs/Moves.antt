@@ -1,8 +1,7 @@
 -- What each move of a channel leaves of its latch, of its flag and of a byte that was given, in the account's shapes.
 -- Rests on bits' Logic, chip's ConditionsLeft and laws' Forcing.
-use mathlib.Core.Path.{◌≡◌, ◌∙◌, refl, ap, sym}
-use mathlib.Core.Bool.{Bool, true, false, cond, not, ◌&&◌, ◌||◌, and-false, and-true, or-false, or-true}
-use Prim.Native.Nat.{ℕ}
+use Rattle.std.proofs.Common.{◌≡◌, ◌∙◌, refl, ap, sym, Bool, true, false, cond, not, ◌&&◌, ◌||◌, ℕ}
+use mathlib.Core.Bool.{and-false, and-true, or-false, or-true}
 use Rattle.bits.proofs.Logic.{either_way}
 use Rattle.chip.specs.declared.channel.Side.{Side}
 use Rattle.chip.specs.declared.channel.Side.TheVariants.{Input, Output}

@@ -1,10 +1,6 @@
 -- The number of an event is the account's, place by place.
 -- Rests on the bus's ByKind, and fates' Accepted.
-use mathlib.Core.Path.{◌≡◌, refl}
-use mathlib.Core.Bool.{cond}
-use Prim.Native.Nat.{ℕ, zero, suc}
-use native.Mathlib.Omega.{arith}
-use borrow.Author.Tests.{le-ltb}
+use Rattle.std.proofs.Common.{◌≡◌, refl, cond, ℕ, zero, suc, arith, le-ltb}
 use Rattle.bus.specs.Kinds.{is_kind}
 use Rattle.bus.proofs.ByKind.{by_kind}
 use Rattle.bus.specs.Event.{event}

@@ -1,11 +1,7 @@
 -- The bit that a program puts at a pin of port C goes on as the account says: the latch of a free pin, or the enable of a line.
 -- Rests on Words, Columns, Signals, ByAct, Kept, BitSet, bits' Tested and BitLaws, chip's SettingsAfter, and fates' PinNamed.
-use mathlib.Core.Path.{◌≡◌, ◌∙◌, refl, ap, sym}
-use mathlib.Core.Bool.{Bool, true, false, cond, ◌&&◌, ◌||◌, and-false}
-use Prim.Native.Nat.{ℕ, ◌/◌, ◌%◌, ◌<◌}
-use native.Mathlib.Omega.{arith}
-use lib.Dec.{eqb, ltb}
-use borrow.Author.Tests.{eqb-true}
+use Rattle.std.proofs.Common.{◌≡◌, ◌∙◌, refl, ap, sym, Bool, true, false, cond, ◌&&◌, ◌||◌, ℕ, ◌/◌, ◌%◌, ◌<◌, arith, eqb, ltb, eqb-true}
+use mathlib.Core.Bool.{and-false}
 use Rattle.bits.specs.Bit.{bit_of}
 use Rattle.bits.proofs.Tested.{bits}
 use Rattle.bits.proofs.BitLaws.{bit_of_assembled}
@@ -96,12 +92,15 @@ module _ (c : Chip) (n : ℕ) (hn : n < 8) where
 
     set_bit : cond (eqb n m && settable (signal_at w n) (is_in w n)) v now ≡ bit_here set n (signal_at w n)
     set_bit =
-        by_signal Set n
-        (λ free. sym (rw (set_latch core m v (signal_at w m) (is_in w m)) (put_bit core.c.latch m n v (free_out (signal_at w m) (is_in w m)) hn
-        ∙ rw (moved (λ k. free_out (signal_at w k) (is_in w k)) n m, free))))
-        (λ e. set_nothing) (λ e. set_nothing) (λ e. set_nothing)
-        (λ g at e. set_line g Input at (ap is_line e))
-        (λ g at e. set_line g Output at (ap is_line e))
+        by_signal Set n (record {
+          free = λ free. sym (rw (set_latch core m v (signal_at w m) (is_in w m)) (put_bit core.c.latch m n v (free_out (signal_at w m) (is_in w m)) hn
+              ∙ rw (moved (λ k. free_out (signal_at w k) (is_in w k)) n m, free)));
+          interrupt = λ e. set_nothing;
+          full = λ e. set_nothing;
+          vacant = λ e. set_nothing;
+          strobe = λ g at e. set_line g Input at (ap is_line e);
+          acknowledge = λ g at e. set_line g Output at (ap is_line e);
+        })
         w hn refl
 
   abbrev Goes : Core → Bool → Type 0
@@ -127,21 +126,27 @@ module _ (c : Chip) (n : ℕ) (hn : n < 8) where
   lines_written x d two =
       put_here x d
       ∙ rw (eqb-true x 2 two)
-      (by_signal (Written d) n
-      (λ free. sym (bit_of_assembled (λ n. cond (writable w n) (bit_of d n) (bit_of core.c.latch n)) n hn
-      ∙ rw (role_same w n hn, out_same (signal_at w n) (is_in w n), plain_same w A, free)))
-      (λ e. refl) (λ e. refl) (λ e. refl) (λ g at e. refl) (λ g at e. refl)
+      (by_signal (Written d) n (record {
+        free = λ free. sym (bit_of_assembled (λ n. cond (writable w n) (bit_of d n) (bit_of core.c.latch n)) n hn
+            ∙ rw (role_same w n hn, out_same (signal_at w n) (is_in w n), plain_same w A, free));
+        interrupt = λ e. refl;
+        full = λ e. refl;
+        vacant = λ e. refl;
+        strobe = λ g at e. refl;
+        acknowledge = λ g at e. refl;
+      })
       w hn refl)
 
   pub bit_next : (e : Event) → Goes (stepped c e).chip.core (bit_after (surroundings_here c) n now (act (surroundings_here c) e))
   bit_next =
-      by_act (λ c' t. Goes c' (bit_after (surroundings_here c) n now t)) c
-      refl
-      (λ v. mode_word_bit core v n hn (signal_at (after_mode_word core v).word n))
-      (λ x. kept_bit _ core (kept_begun core x) n)
-      (λ x. kept_bit _ core (kept_ended core x) n)
-      (λ x. refl)
-      named
-      lines_written
-      (λ x d two three. put_here x d ∙ rw (two, three) (kept_bit _ core (kept_stored core x d) n))
-      (λ x d. kept_bit _ core (kept_levelled core x d) n)
+      by_act (λ c' t. Goes c' (bit_after (surroundings_here c) n now t)) c (record {
+        at_rest = refl;
+        made_anew = λ v. mode_word_bit core v n hn (signal_at (after_mode_word core v).word n);
+        read_starts = λ x. kept_bit _ core (kept_begun core x) n;
+        read_over = λ x. kept_bit _ core (kept_ended core x) n;
+        write_starts = λ x. refl;
+        pin_put = named;
+        lines_written = lines_written;
+        port_written = λ x d two three. put_here x d ∙ rw (two, three) (kept_bit _ core (kept_stored core x d) n);
+        levels_put = λ x d. kept_bit _ core (kept_levelled core x d) n;
+      })

@@ -1,11 +1,8 @@
 -- The latches of ports A and B, IBF, the byte that a read was given, and OBF go on as the account says.
 -- Rests on Columns, ByAct, Moves, bits' Logic, control's Strobed, chip's ConditionsLeft, OnPort, Flags, SettingsAfter,
 -- ReadsAfter and LevelsAfter, and fates' PinNamed and Tables.
-use mathlib.Core.Path.{◌≡◌, refl, ap, sym}
-use mathlib.Core.Bool.{Bool, true, false, cond, not, ◌&&◌, and-false, and-true}
-use Prim.Native.Nat.{ℕ, ◌/◌, ◌%◌}
-use lib.Dec.{eqb}
-use borrow.Author.Tests.{eqb-true}
+use Rattle.std.proofs.Common.{◌≡◌, refl, ap, sym, Bool, true, false, cond, not, ◌&&◌, ℕ, ◌/◌, ◌%◌, eqb, eqb-true}
+use mathlib.Core.Bool.{and-false, and-true}
 use Rattle.bits.specs.Bit.{bit_of}
 use Rattle.bits.proofs.Logic.{turned}
 use Rattle.bus.specs.Event.{Event}
@@ -84,89 +81,94 @@ module _ (c : Chip) (g : Group) where
       → (channel_of (stepped c e).chip.core g Output).latch ≡ output_after (surroundings_here c) g (channel_of core g Output).latch (act (surroundings_here c) e)
   unfolding stored_by
   output_next =
-      by_act (λ c' t. (channel_of c' g Output).latch ≡ output_after (surroundings_here c) g (channel_of core g Output).latch t) c
-      refl
-      (λ v. rw (mode_word_channel core v g Output) (clear_zeroes (channel_of core g Output)))
-      (λ x. rw (begun_output core x g))
-      (λ x. rw (ended_output core x g))
-      (λ x. refl)
-      (λ x d three seven. rw (put Output d seven, own_same x g, control_not_own x three g) (forced_latch (channel_of core g Output) Output (named Output d) (bit_of d 0)))
-      (λ x d two. rw (latched_port core d g, own_same x g, lines_not_own x two g))
-      (λ x d two three. rw (port_on core x (storing d) g, own_same x g, keeps_here w g)
-      (written_latch (port_of core g) d (own_address x g) (output_of w g) (strobed_output w g)))
-      (λ x d. rw (levels_output core x d g) (handed_latch (channel_of core g Output) Empty (eqb x 2 && line_falls core d g Output)))
+      by_act (λ c' t. (channel_of c' g Output).latch ≡ output_after (surroundings_here c) g (channel_of core g Output).latch t) c (record {
+        at_rest = refl;
+        made_anew = λ v. rw (mode_word_channel core v g Output) (clear_zeroes (channel_of core g Output));
+        read_starts = λ x. rw (begun_output core x g);
+        read_over = λ x. rw (ended_output core x g);
+        write_starts = λ x. refl;
+        pin_put = λ x d three seven. rw (put Output d seven, own_same x g, control_not_own x three g) (forced_latch (channel_of core g Output) Output (named Output d) (bit_of d 0));
+        lines_written = λ x d two. rw (latched_port core d g, own_same x g, lines_not_own x two g);
+        port_written = λ x d two three. rw (port_on core x (storing d) g, own_same x g, keeps_here w g)
+            (written_latch (port_of core g) d (own_address x g) (output_of w g) (strobed_output w g));
+        levels_put = λ x d. rw (levels_output core x d g) (handed_latch (channel_of core g Output) Empty (eqb x 2 && line_falls core d g Output));
+      })
 
   pub obf_next : (e : Event)
       → vacant (channel_of (stepped c e).chip.core g Output) ≡ obf_after (surroundings_here c) g (vacant (channel_of core g Output)) (act (surroundings_here c) e)
   unfolding stored_by fallen
   obf_next =
-      by_act (λ c' t. vacant (channel_of c' g Output) ≡ obf_after (surroundings_here c) g (vacant (channel_of core g Output)) t) c
-      refl
-      (λ v. rw (mode_word_channel core v g Output, clear_empties (channel_of core g Output)))
-      (λ x. rw (begun_output core x g))
-      (λ x. rw (ended_output core x g))
-      (λ x. refl)
-      (λ x d three seven. rw (put Output d seven, named_same Output x d three, own_same x g, control_not_own x three g, and-true (vacant (channel_of core g Output)))
-      (forced_vacant (channel_of core g Output) (named Output d) (bit_of d 0)))
-      (λ x d two. rw (unforced Output x d (two_not_three x two), latched_port core d g, own_same x g, lines_not_own x two g) (sym (and-true (vacant (channel_of core g Output)))))
-      (λ x d two three. rw (unforced Output x d three, port_on core x (storing d) g, own_same x g, gives_here w g)
-      (written_vacant (port_of core g) d (own_address x g) (output_of w g) (strobed_output w g) (giving_is_output w g)))
-      (λ x d. rw (levels_output core x d g, gives_here w g, line_same g Output)
-      (taken_vacant (channel_of core g Output) (eqb x 2) (strobed_output w g) (fallen core.c.outside d (line_pin g Output))))
+      by_act (λ c' t. vacant (channel_of c' g Output) ≡ obf_after (surroundings_here c) g (vacant (channel_of core g Output)) t) c (record {
+        at_rest = refl;
+        made_anew = λ v. rw (mode_word_channel core v g Output, clear_empties (channel_of core g Output));
+        read_starts = λ x. rw (begun_output core x g);
+        read_over = λ x. rw (ended_output core x g);
+        write_starts = λ x. refl;
+        pin_put = λ x d three seven. rw (put Output d seven, named_same Output x d three, own_same x g, control_not_own x three g, and-true (vacant (channel_of core g Output)))
+            (forced_vacant (channel_of core g Output) (named Output d) (bit_of d 0));
+        lines_written = λ x d two. rw (unforced Output x d (two_not_three x two), latched_port core d g, own_same x g, lines_not_own x two g) (sym (and-true (vacant (channel_of core g Output))));
+        port_written = λ x d two three. rw (unforced Output x d three, port_on core x (storing d) g, own_same x g, gives_here w g)
+            (written_vacant (port_of core g) d (own_address x g) (output_of w g) (strobed_output w g) (giving_is_output w g));
+        levels_put = λ x d. rw (levels_output core x d g, gives_here w g, line_same g Output)
+            (taken_vacant (channel_of core g Output) (eqb x 2) (strobed_output w g) (fallen core.c.outside d (line_pin g Output)));
+      })
 
   pub input_next : (e : Event)
       → (channel_of (stepped c e).chip.core g Input).latch ≡ input_after (surroundings_here c) g (channel_of core g Input).latch (act (surroundings_here c) e)
   unfolding stored_by fallen
   input_next =
-      by_act (λ c' t. (channel_of c' g Input).latch ≡ input_after (surroundings_here c) g (channel_of core g Input).latch t) c
-      refl
-      (λ v. rw (mode_word_channel core v g Input) (clear_zeroes (channel_of core g Input)))
-      (λ x. rw (begun_input core x g) (handed_latch (channel_of core g Input) Fetching (strobed_input w g && own_address x g)))
-      (λ x. rw (ended_input core x g) (ended_latch (channel_of core g Input) (strobed_input w g && own_address x g)))
-      (λ x. refl)
-      (λ x d three seven. rw (put Input d seven) (forced_latch (channel_of core g Input) Input (named Input d) (bit_of d 0)))
-      (λ x d two. rw (latched_port core d g))
-      (λ x d two three. rw (port_on core x (storing d) g)
-      (ap (λ ch. ch.latch) (written_input (port_of core g) d (own_address x g) (output_of w g) (strobed_output w g))))
-      (λ x d. rw (levels_input core x d g, takes_here w g, line_same g Input, own_same x g, outside_here c g)
-      (under_latch (channel_of core g Input) (port_of core g).outside d (eqb x 2) (strobed_input w g) (fallen core.c.outside d (line_pin g Input))
-      (own_address x g) (not (bit_of core.c.outside (line_pin g Input)))))
+      by_act (λ c' t. (channel_of c' g Input).latch ≡ input_after (surroundings_here c) g (channel_of core g Input).latch t) c (record {
+        at_rest = refl;
+        made_anew = λ v. rw (mode_word_channel core v g Input) (clear_zeroes (channel_of core g Input));
+        read_starts = λ x. rw (begun_input core x g) (handed_latch (channel_of core g Input) Fetching (strobed_input w g && own_address x g));
+        read_over = λ x. rw (ended_input core x g) (ended_latch (channel_of core g Input) (strobed_input w g && own_address x g));
+        write_starts = λ x. refl;
+        pin_put = λ x d three seven. rw (put Input d seven) (forced_latch (channel_of core g Input) Input (named Input d) (bit_of d 0));
+        lines_written = λ x d two. rw (latched_port core d g);
+        port_written = λ x d two three. rw (port_on core x (storing d) g)
+            (ap (λ ch. ch.latch) (written_input (port_of core g) d (own_address x g) (output_of w g) (strobed_output w g)));
+        levels_put = λ x d. rw (levels_input core x d g, takes_here w g, line_same g Input, own_same x g, outside_here c g)
+            (under_latch (channel_of core g Input) (port_of core g).outside d (eqb x 2) (strobed_input w g) (fallen core.c.outside d (line_pin g Input))
+            (own_address x g) (not (bit_of core.c.outside (line_pin g Input))));
+      })
 
   pub ibf_next : (e : Event)
       → full (channel_of (stepped c e).chip.core g Input)
       ≡ ibf_after (surroundings_here c) g (full (channel_of core g Input)) (given (channel_of core g Input)) (act (surroundings_here c) e)
   unfolding stored_by fallen
   ibf_next =
-      by_act (λ c' t. full (channel_of c' g Input) ≡ ibf_after (surroundings_here c) g (full (channel_of core g Input)) (given (channel_of core g Input)) t) c
-      refl
-      (λ v. rw (mode_word_channel core v g Input, clear_empties (channel_of core g Input)))
-      (λ x. rw (begun_input core x g) (begun_full (channel_of core g Input) (strobed_input w g && own_address x g)))
-      (λ x. rw (ended_input core x g, takes_here w g, own_same x g) (ended_full (channel_of core g Input) (strobed_input w g) (own_address x g)))
-      (λ x. refl)
-      (λ x d three seven. rw (put Input d seven, named_same Input x d three) (forced_full (channel_of core g Input) (named Input d) (bit_of d 0)))
-      (λ x d two. rw (unforced Input x d (two_not_three x two), latched_port core d g))
-      (λ x d two three. rw (unforced Input x d three, port_on core x (storing d) g)
-      (ap full (written_input (port_of core g) d (own_address x g) (output_of w g) (strobed_output w g))))
-      (λ x d. rw (levels_input core x d g, takes_here w g, line_same g Input)
-      (under_full (channel_of core g Input) (port_of core g).outside d (eqb x 2) (strobed_input w g) (fallen core.c.outside d (line_pin g Input))
-      (own_address x g && lets_through core g)))
+      by_act (λ c' t. full (channel_of c' g Input) ≡ ibf_after (surroundings_here c) g (full (channel_of core g Input)) (given (channel_of core g Input)) t) c (record {
+        at_rest = refl;
+        made_anew = λ v. rw (mode_word_channel core v g Input, clear_empties (channel_of core g Input));
+        read_starts = λ x. rw (begun_input core x g) (begun_full (channel_of core g Input) (strobed_input w g && own_address x g));
+        read_over = λ x. rw (ended_input core x g, takes_here w g, own_same x g) (ended_full (channel_of core g Input) (strobed_input w g) (own_address x g));
+        write_starts = λ x. refl;
+        pin_put = λ x d three seven. rw (put Input d seven, named_same Input x d three) (forced_full (channel_of core g Input) (named Input d) (bit_of d 0));
+        lines_written = λ x d two. rw (unforced Input x d (two_not_three x two), latched_port core d g);
+        port_written = λ x d two three. rw (unforced Input x d three, port_on core x (storing d) g)
+            (ap full (written_input (port_of core g) d (own_address x g) (output_of w g) (strobed_output w g)));
+        levels_put = λ x d. rw (levels_input core x d g, takes_here w g, line_same g Input)
+            (under_full (channel_of core g Input) (port_of core g).outside d (eqb x 2) (strobed_input w g) (fallen core.c.outside d (line_pin g Input))
+            (own_address x g && lets_through core g));
+      })
 
-  -- Event by event the channel is the one that `ibf-next` finds. What follows of it is by other laws, and no row can be left out.
+  -- Event by event the channel is the one that `ibf_next` finds. What follows of it is by other laws, and no row can be left out.
   pub given_next : (e : Event)
       → given (channel_of (stepped c e).chip.core g Input)
       ≡ given_after (surroundings_here c) g (full (channel_of core g Input)) (given (channel_of core g Input)) (act (surroundings_here c) e)
   unfolding stored_by fallen
   given_next =
-      by_act (λ c' t. given (channel_of c' g Input) ≡ given_after (surroundings_here c) g (full (channel_of core g Input)) (given (channel_of core g Input)) t) c
-      refl
-      (λ v. rw (mode_word_channel core v g Input, clear_empties (channel_of core g Input)))
-      (λ x. rw (begun_input core x g, takes_here w g, own_same x g) (begun_given (channel_of core g Input) (strobed_input w g) (own_address x g)))
-      (λ x. rw (ended_input core x g, takes_here w g, own_same x g) (ended_given (channel_of core g Input) (strobed_input w g) (own_address x g)))
-      (λ x. refl)
-      (λ x d three seven. rw (put Input d seven) (forced_given (channel_of core g Input) (named Input d) (bit_of d 0)))
-      (λ x d two. rw (latched_port core d g))
-      (λ x d two three. rw (port_on core x (storing d) g)
-      (ap given (written_input (port_of core g) d (own_address x g) (output_of w g) (strobed_output w g))))
-      (λ x d. rw (levels_input core x d g, takes_here w g, line_same g Input)
-      (under_given (channel_of core g Input) (port_of core g).outside d (eqb x 2) (strobed_input w g) (fallen core.c.outside d (line_pin g Input))
-      (own_address x g && lets_through core g)))
+      by_act (λ c' t. given (channel_of c' g Input) ≡ given_after (surroundings_here c) g (full (channel_of core g Input)) (given (channel_of core g Input)) t) c (record {
+        at_rest = refl;
+        made_anew = λ v. rw (mode_word_channel core v g Input, clear_empties (channel_of core g Input));
+        read_starts = λ x. rw (begun_input core x g, takes_here w g, own_same x g) (begun_given (channel_of core g Input) (strobed_input w g) (own_address x g));
+        read_over = λ x. rw (ended_input core x g, takes_here w g, own_same x g) (ended_given (channel_of core g Input) (strobed_input w g) (own_address x g));
+        write_starts = λ x. refl;
+        pin_put = λ x d three seven. rw (put Input d seven) (forced_given (channel_of core g Input) (named Input d) (bit_of d 0));
+        lines_written = λ x d two. rw (latched_port core d g);
+        port_written = λ x d two three. rw (port_on core x (storing d) g)
+            (ap given (written_input (port_of core g) d (own_address x g) (output_of w g) (strobed_output w g)));
+        levels_put = λ x d. rw (levels_input core x d g, takes_here w g, line_same g Input)
+            (under_given (channel_of core g Input) (port_of core g).outside d (eqb x 2) (strobed_input w g) (fallen core.c.outside d (line_pin g Input))
+            (own_address x g && lets_through core g));
+      })

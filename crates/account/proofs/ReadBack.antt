@@ -1,12 +1,6 @@
 -- A read of control answers the last mode word of the history, from every power-up and from any chip.
--- Rests on Account and Words, on bits' Logic and on laws' Cycles.
-use mathlib.Core.Path.{◌≡◌, ◌∙◌, refl, ap, sym, subst}
-use mathlib.Core.Bool.{Bool, true, false, cond, not}
-use mathlib.Core.List.{List, [], ◌∷◌}
-use mathlib.Core.Logic.{◌⊎◌, inl, inr, ⊎_elim}
-use Prim.Native.Nat.{ℕ}
-use lib.Dec.{eqb}
-use borrow.Author.Tests.{eqb-true}
+-- Rests on Words, Agrees and Accounted, on bits' Logic and on laws' Cycles.
+use Rattle.std.proofs.Common.{◌≡◌, ◌∙◌, refl, ap, sym, subst, Bool, true, false, cond, not, List, [], ◌∷◌, ◌⊎◌, inl, inr, ⊎_elim, ℕ, eqb, eqb-true}
 use Rattle.bits.specs.Bit.{bit_of}
 use Rattle.bits.specs.Sum.{byte_by}
 use Rattle.bits.proofs.Logic.{contrary, both, by_test}
@@ -21,11 +15,12 @@ use Rattle.laws.proofs.Cycles.{read_answers_lem}
 use Rattle.fates.specs.Kinds.{Kind, reset, cycle_ended, unknown, read_begun, write_begun, new_levels, kind_of, free, accepts}
 use Rattle.fates.specs.Surroundings.{Surroundings, of_mode_word, brought, at_power_up, surroundings_after, surroundings_next, surroundings_over}
 use Rattle.fates.specs.Promise.{run}
-use Rattle.account.specs.Account.{Account, account_next, opened}
+use Rattle.account.specs.Account.{Account, account_next}
 use Rattle.account.specs.Promise.{surroundings_here, over, account_of, Accounted}
 use Rattle.account.specs.ReadBack.{Brings, BroughtBy, LastWord, ReadsBack}
 use Rattle.account.proofs.Words.{with_bit_7_set}
-use Rattle.account.proofs.Account.{account, account_from}
+use Rattle.account.proofs.Agrees.{agrees_of}
+use Rattle.account.proofs.Accounted.{accounted}
 
 -- An event brings the word that is then in force; or it brings none, and leaves the one that was.
 abbrev Goes : Surroundings → Event → ℕ → Type 0
@@ -133,11 +128,11 @@ reads_back c a es k set = record {
   answered = λ d ok. read_answers_lem (run c es) 3 d ok ∙ k.reads 3 ∙ ap (λ (s : Surroundings). byte_by (bit_of s.word)) (over_surroundings a es);
 }
 
+-- From any chip, reached by a history or not.
+pub read_back_from : (c : Chip) (es : List Event) → ReadsBack c (surroundings_here c) es
+read_back_from c es = reads_back c (account_of c) es (accounted c (account_of c) es (agrees_of c)) (with_bit_7_set c.core.word)
+
 -- From power-up, of either edition and under any levels: where no word was brought it is 9B.
 pub read_back : (ed : Edition) (l : Levels) (es : List Event) → ReadsBack (power_up_as ed l) (at_power_up ed l) es
 unfolding bit_of
-read_back ed l es = reads_back (power_up_as ed l) (opened ed l) es (account ed l es) refl
-
--- From any chip, reached by a history or not.
-pub read_back_from : (c : Chip) (es : List Event) → ReadsBack c (surroundings_here c) es
-read_back_from c es = reads_back c (account_of c) es (account_from c es) (with_bit_7_set c.core.word)
+read_back ed l es = read_back_from (power_up_as ed l) es

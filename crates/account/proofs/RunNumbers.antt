@@ -1,13 +1,6 @@
 -- What a run gives back is what the plain words say.
 -- Rests on text's FirstLine.
-use mathlib.Core.Path.{◌≡◌, ◌∙◌, refl}
-use mathlib.Core.Bool.{Bool, true, false, cond, not}
-use mathlib.Core.List.{List, [], ◌∷◌}
-use Prim.Native.Nat.{ℕ, suc, ◌+◌, ◌*◌, ◌<◌}
-use native.Mathlib.Omega.{arith}
-use lib.Dec.{eqb}
-use lib.ListN.{length}
-use borrow.Author.Tests.{lt-ltb, le-ltb}
+use Rattle.std.proofs.Common.{◌≡◌, ◌∙◌, refl, Bool, true, false, cond, not, List, [], ◌∷◌, ℕ, suc, ◌+◌, ◌*◌, ◌<◌, arith, eqb, length, lt-ltb, le-ltb}
 use Rattle.bits.specs.Bit.{num}
 use Rattle.text.specs.Lines.{Line, ended, rest, before_lines, lines_of, line_count}
 use Rattle.text.proofs.FirstLine.{a_line}

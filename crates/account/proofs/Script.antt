@@ -1,35 +1,14 @@
 -- The answers to every script are the account's.
--- Rests on Account, Agrees and Views, and on fates' ScriptRun.
-use mathlib.Core.Path.{◌≡◌, ◌∙◌, refl}
-use mathlib.Core.List.{List, [], ◌∷◌}
-use Prim.Native.Nat.{ℕ}
-use Rattle.bus.specs.Event.{Event}
+-- Rests on Opened and Lines, and on fates' ScriptRun.
+use Rattle.std.proofs.Common.{◌∙◌, List, ℕ}
 use Rattle.chip.specs.declared.Edition.{Edition}
-use Rattle.chip.specs.declared.Chip.{Chip}
 use Rattle.chip.specs.State.{all_high, power_up_as}
-use Rattle.chip.specs.Pins.{pins_of}
-use Rattle.chip.specs.Step.{device, step_of, stepped}
 use Rattle.text.specs.History.{history_of}
-use Rattle.bus.specs.Begun.{given_in}
-use Rattle.script.specs.Answers.{by_device, levels_from, line_after}
-use Rattle.script.specs.History.{answers_to}
-use Rattle.fates.proofs.ScriptRun.{run_kept}
-use Rattle.account.specs.Account.{Account, account_next, opened}
-use Rattle.account.specs.Script.{line_by, lines_by, AnsweredBy}
-use Rattle.account.proofs.Agrees.{Agrees, agrees_opened, agrees_next}
-use Rattle.account.proofs.Views.{levels_shown_lem}
-use Rattle.account.proofs.Account.{number_told_lem, byte_told_lem}
-
-line_is : (c : Chip) (a : Account) (e : Event) → Agrees c a → line_after (by_device device pins_of) (given_in device c e) ≡ line_by a e
-unfolding step_of levels_from
-line_is c a e k =
-    let levels = levels_shown_lem (stepped c e).chip (account_next a e) (agrees_next c a e k) in
-    cc (number_told_lem c a k e, byte_told_lem c a k e, levels 0, levels 1, levels 2)
-
-lines_are : (es : List Event) (c : Chip) (a : Account) → Agrees c a → answers_to device pins_of c es ≡ lines_by a es
-unfolding step_of
-lines_are [] c a k = refl
-lines_are (e ∷ es) c a k = cc (line_is c a e k, lines_are es (stepped c e).chip (account_next a e) (agrees_next c a e k))
+use Rattle.fates.proofs.ScriptRun.{answered_as_history}
+use Rattle.account.specs.Account.{opened}
+use Rattle.account.specs.Script.{AnsweredBy}
+use Rattle.account.proofs.Opened.{agrees_opened}
+use Rattle.account.proofs.Lines.{lines_are}
 
 pub answered_by : (ed : Edition) (text : List ℕ) → AnsweredBy ed text
-answered_by ed text = (run_kept ed text).answers ∙ lines_are (history_of text) (power_up_as ed all_high) (opened ed all_high) (agrees_opened ed all_high)
+answered_by ed text = answered_as_history ed text ∙ lines_are (history_of text) (power_up_as ed all_high) (opened ed all_high) (agrees_opened ed all_high)

@@ -1,10 +1,6 @@
 -- The summary's signals are the chip's roles, and each stands at its own pins.
 -- Rests on Words, Columns, bits' Tested, and control's PinByMasks and RoleWords.
-use mathlib.Core.Path.{◌≡◌, ◌∙◌, refl, sym, subst}
-use mathlib.Core.Bool.{Bool, true, false, cond}
-use Prim.Native.Nat.{ℕ, ◌%◌, ◌<◌}
-use native.Mathlib.Omega.{arith}
-use lib.Dec.{T, eqb, eqb→eq}
+use Rattle.std.proofs.Common.{◌≡◌, ◌∙◌, refl, sym, subst, Bool, true, false, cond, ℕ, ◌%◌, ◌<◌, arith, T, eqb, eqb→eq}
 use Rattle.bits.specs.Bit.{bit_of}
 use Rattle.bits.proofs.Tested.{all, each, numbers_of_two}
 use Rattle.control.specs.declared.Group.{Group}
@@ -55,14 +51,16 @@ stands n (OBF g) = own g (group_at n)
 stands n (STB g) = eqb n (strobe_pin g Input)
 stands n (ACK g) = eqb n (strobe_pin g Output)
 
--- Which signal a pin can be, for whoever goes by cases.
-module _ (P : Signal → Type 0) (n : ℕ)
-    (free : P io)
-    (interrupt : P (INTR (group_at n)))
-    (full : P (IBF (group_at n)))
-    (vacant : P (OBF (group_at n)))
-    (strobe : (g : Group) → n ≡ strobe_pin g Input → P (STB g))
-    (acknowledge : (g : Group) → n ≡ strobe_pin g Output → P (ACK g)) where
+-- What is shown of each signal that pin n can be: it is free, or an INTR, an IBF or an OBF of the pin's group, or the line of a channel.
+pub record OfEachSignal (P : Signal → Type 0) (n : ℕ) : Type 0 where
+  pub free : P io
+  pub interrupt : P (INTR (group_at n))
+  pub full : P (IBF (group_at n))
+  pub vacant : P (OBF (group_at n))
+  pub strobe : (g : Group) → n ≡ strobe_pin g Input → P (STB g)
+  pub acknowledge : (g : Group) → n ≡ strobe_pin g Output → P (ACK g)
+
+module _ (P : Signal → Type 0) (n : ℕ) (shown : OfEachSignal P n) where
   own_is : (g h : Group) → T (own g h) → h ≡ g
   own_is A A t = refl
   own_is A B t = absurd t
@@ -70,12 +68,12 @@ module _ (P : Signal → Type 0) (n : ℕ)
   own_is B B t = refl
 
   by_stand : (s : Signal) → T (stands n s) → P s
-  by_stand io t = free
-  by_stand (INTR g) t = subst (λ (h : Group). P (INTR h)) (own_is g (group_at n) t) interrupt
-  by_stand (IBF g) t = subst (λ (h : Group). P (IBF h)) (own_is g (group_at n) t) full
-  by_stand (OBF g) t = subst (λ (h : Group). P (OBF h)) (own_is g (group_at n) t) vacant
-  by_stand (STB g) t = strobe g (eqb→eq n (strobe_pin g Input) t)
-  by_stand (ACK g) t = acknowledge g (eqb→eq n (strobe_pin g Output) t)
+  by_stand io t = shown.free
+  by_stand (INTR g) t = subst (λ (h : Group). P (INTR h)) (own_is g (group_at n) t) shown.interrupt
+  by_stand (IBF g) t = subst (λ (h : Group). P (IBF h)) (own_is g (group_at n) t) shown.full
+  by_stand (OBF g) t = subst (λ (h : Group). P (OBF h)) (own_is g (group_at n) t) shown.vacant
+  by_stand (STB g) t = shown.strobe g (eqb→eq n (strobe_pin g Input) t)
+  by_stand (ACK g) t = shown.acknowledge g (eqb→eq n (strobe_pin g Output) t)
 
   pub by_signal : (w : ℕ) → n < 8 → P (signal_at w n)
   unfolding bit_of

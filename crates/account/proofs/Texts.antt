@@ -1,7 +1,7 @@
 -- The whole case and the other scripts of specs/Texts.antt have the answers that the rules list. The checker computes them by the account,
--- without a chip.
--- Rests on Script and on text's Quoted.
-use mathlib.Core.Path.{◌≡◌, ◌∙◌, refl}
+-- and ask the chip at power-up alone.
+-- Rests on Agrees and Lines, on fates' ScriptRun and on text's Quoted.
+use Rattle.std.proofs.Common.{◌≡◌, ◌∙◌, refl, List, ℕ}
 use Rattle.bits.specs.Bit.{bit_of}
 use Rattle.bus.specs.Kinds.{is_kind, operands_of}
 use Rattle.chip.specs.declared.Edition.{Edition}
@@ -16,16 +16,27 @@ use Rattle.text.specs.History.{history_of}
 use Rattle.text.specs.Quoted.{answered, listed}
 use Rattle.text.proofs.Quoted.{answered_alike}
 use Rattle.script.specs.Answers.{by_device, line_text, answers_of}
-use Rattle.account.specs.Account.{opened}
+use Rattle.fates.proofs.ScriptRun.{answered_as_history}
+use Rattle.account.specs.Account.{Account}
+use Rattle.account.specs.Promise.{account_of}
 use Rattle.account.specs.Script.{lines_by}
 use Rattle.account.specs.Texts.{texts}
-use Rattle.account.proofs.Script.{answered_by}
+use Rattle.account.proofs.Agrees.{agrees_of}
+use Rattle.account.proofs.Lines.{lines_are}
 
-as_listed : (ed : Edition) → answered (λ text. lines_by (opened ed all_high) (history_of text)) (texts ed) ≡ listed (texts ed)
+-- The account with which the history of a script begins.
+abbrev start : Edition → Account
+start ed = account_of (power_up_as ed all_high)
+
+by_account : (ed : Edition) (text : List ℕ) → answers_of (by_device device pins_of) (power_up_as ed all_high) text ≡ lines_by (start ed) (history_of text)
+by_account ed text = answered_as_history ed text ∙ lines_are (history_of text) (power_up_as ed all_high) (start ed) (agrees_of (power_up_as ed all_high))
+
+as_listed : (ed : Edition) → answered (λ text. lines_by (start ed) (history_of text)) (texts ed) ≡ listed (texts ed)
 unfolding bit_of digit_value digit_code pair_value is_kind operands_of leading_byte is_frame frame_of lines_of frame_in line_text
 as_listed Older = refl
 as_listed Newer = refl
 
 pub texts_answered : (ed : Edition) → answered (answers_of (by_device device pins_of) (power_up_as ed all_high)) (texts ed) ≡ listed (texts ed)
 texts_answered ed =
-    answered_alike (answers_of (by_device device pins_of) (power_up_as ed all_high)) (λ text. lines_by (opened ed all_high) (history_of text)) (answered_by ed) (texts ed) ∙ as_listed ed
+    answered_alike (answers_of (by_device device pins_of) (power_up_as ed all_high)) (λ text. lines_by (start ed) (history_of text)) (by_account ed) (texts ed)
+    ∙ as_listed ed

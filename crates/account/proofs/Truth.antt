@@ -1,9 +1,6 @@
 -- An equation of truth values holds where it holds in every row of its table, which antt computes.
 -- Rests on bits' Tested.
-use mathlib.Core.Path.{◌≡◌}
-use mathlib.Core.Bool.{Bool, true, false, ◌&&◌}
-use Prim.Native.Nat.{ℕ, zero, suc}
-use lib.Dec.{T}
+use Rattle.std.proofs.Common.{◌≡◌, Bool, true, false, ◌&&◌, ℕ, zero, suc, T}
 use Rattle.bits.proofs.Tested.{left, right, same, same_is}
 
 -- A function of n truth values.

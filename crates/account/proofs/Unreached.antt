@@ -1,9 +1,7 @@
 -- In states that no history reaches an output marked fetching counts as empty, and bit 7 of the mode word as set: nothing that is seen, over
 -- any history, tells it from the other.
--- Rests on Words, Moves, Pins, Agrees and Account.
-use mathlib.Core.Path.{◌≡◌, ◌∙◌, refl, ap, sym}
-use mathlib.Core.List.{List}
-use Prim.Native.Nat.{ℕ}
+-- Rests on Words, Moves, Pins, Agrees and Accounted.
+use Rattle.std.proofs.Common.{◌≡◌, ◌∙◌, refl, ap, sym, List, ℕ}
 use Rattle.bus.specs.Event.{Event}
 use Rattle.control.specs.declared.Group.{Group}
 use Rattle.control.specs.declared.Group.TheVariants.{A, B}
@@ -19,7 +17,7 @@ use Rattle.account.proofs.Words.{signal_alike, with_bit_7_alike, with_bit_7_set}
 use Rattle.account.proofs.Moves.{full, vacant, given}
 use Rattle.account.proofs.Pins.{same_bit}
 use Rattle.account.proofs.Agrees.{Agrees, agrees_of}
-use Rattle.account.proofs.Account.{accounted, account_from}
+use Rattle.account.proofs.Accounted.{accounted}
 
 -- Two chips that keep to one account.
 same_sight : (c c' : Chip) (a : Account) (es : List Event) → Accounted c a es → Accounted c' a es → SameSight c c' es
@@ -35,7 +33,7 @@ same_sight c c' a es k k' = record {
 
 -- So it is with a chip that agrees with another's account.
 same_account : (c c' : Chip) → Agrees c' (account_of c) → (es : List Event) → SameSight c c' es
-same_account c c' k es = same_sight c c' (account_of c) es (account_from c es) (accounted c' (account_of c) es k)
+same_account c c' k es = same_sight c c' (account_of c) es (accounted c (account_of c) es (agrees_of c)) (accounted c' (account_of c) es k)
 
 -- What the account has of a group's channels is the same.
 record SameChannels (c c' : Chip) (h : Group) : Type 0 where

@@ -1,11 +1,6 @@
 -- What is seen of a chip is what an account that agrees with it shows.
 -- Rests on Agrees, Here, Interrupts, Words, Columns and Signals, and on bits' Sum.
-use mathlib.Core.Path.{◌≡◌, ◌∙◌, refl, ap, ap₂, sym}
-use mathlib.Core.Bool.{Bool, true, false, cond, not}
-use Prim.Native.Nat.{ℕ, zero, suc, ◌<◌}
-use native.Mathlib.Omega.{arith}
-use lib.Dec.{eqb, lit<}
-use borrow.Author.Tests.{ne_eqb}
+use Rattle.std.proofs.Common.{◌≡◌, ◌∙◌, refl, ap, ap₂, sym, Bool, true, false, cond, not, ℕ, zero, suc, ◌<◌, arith, eqb, lit<, ne_eqb}
 use Rattle.bits.specs.Bit.{bit_of, with_bit}
 use Rattle.bits.specs.Sum.{byte_by}
 use Rattle.bits.proofs.Sum.{byte_same}
@@ -108,10 +103,14 @@ module _ (c : Chip) (a : Account) (k : Agrees c a) where
   unfolding flag_of
   told_same n hn =
       ap (read_as c n) (role_same w n hn)
-      ∙ by_signal (Told n) n (told_free n hn)
-      (λ e. intr_same c a k (group_at n)) (λ e. sym (k.ibf (group_at n))) (λ e. sym (k.obf (group_at n)))
-      (λ g at e. told_line n hn g Input at (STB g) e refl)
-      (λ g at e. told_line n hn g Output at (ACK g) e refl)
+      ∙ by_signal (Told n) n (record {
+        free = told_free n hn;
+        interrupt = λ e. intr_same c a k (group_at n);
+        full = λ e. sym (k.ibf (group_at n));
+        vacant = λ e. sym (k.obf (group_at n));
+        strobe = λ g at e. told_line n hn g Input at (STB g) e refl;
+        acknowledge = λ g at e. told_line n hn g Output at (ACK g) e refl;
+      })
       w hn refl
       ∙ sym (ap (told_of a n) (signal_here c a k n))
 

@@ -1,10 +1,8 @@
 -- INTR's waveform is the sheet's equation: a half is up exactly while INTE, the flag and the line are high and the port is not being served.
 -- Rests on ByEvent, Signals and Truth, on chip's OnPort, and on fates' Tables.
-use mathlib.Core.Path.{◌≡◌, ◌∙◌, refl, sym}
-use mathlib.Core.Bool.{Bool, true, false, cond, not, ◌&&◌, ◌||◌, and-false, and-true}
-use Prim.Native.Nat.{ℕ}
-use lib.Dec.{eqb}
-use borrow.Author.Tests.{eqb-true, eqb-false, ne_eqb}
+use Rattle.std.proofs.Common.{◌≡◌, ◌∙◌, refl, sym, Bool, true, false, cond, not, ◌&&◌, ◌||◌, ℕ, eqb, eqb-true, ne_eqb}
+use mathlib.Core.Bool.{and-false, and-true}
+use borrow.Author.Tests.{eqb-false}
 use Rattle.bits.specs.Bit.{bit_of}
 use Rattle.bus.specs.Event.{Event}
 use Rattle.bus.specs.declared.Phase.TheVariants.{Idle, Reading, Writing}
@@ -154,4 +152,13 @@ module _ (a : Account) (even : Even a) where
       (bit_of d (strobe_pin g Output)) (served a.surroundings g Output))
 
   pub even_next : (e : Event) → Even (account_next a e)
-  even_next e = by_event Goes a.surroundings even even_renewed even_read even_read_end even_write even_written even_levels e
+  even_next =
+      by_event Goes a.surroundings (record {
+        at_rest = even;
+        made_anew = even_renewed;
+        read_starts = even_read;
+        read_over = even_read_end;
+        write_starts = even_write;
+        write_over = even_written;
+        levels_put = even_levels;
+      })

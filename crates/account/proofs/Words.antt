@@ -1,12 +1,7 @@
 -- Mode words with the same bits 0 to 6 have the same place in the summary; so bit 7 is asked for nothing.
 -- Rests on bits' Logic and laws' PlainBits.
-use mathlib.Core.Path.{◌≡◌, ◌∙◌, refl, ap, ap₂, sym}
-use mathlib.Core.Bool.{Bool, true, false, cond}
-use Prim.Native.Nat.{ℕ, ◌+◌, ◌/◌, ◌%◌, ◌^◌, ◌<◌}
-use native.Mathlib.Omega.{arith}
-use lib.Dec.{eqb, lit<}
-use lib.ListN.{get_or}
-use borrow.Author.Tests.{eqb-true, eqb-false, eq-eqb}
+use Rattle.std.proofs.Common.{◌≡◌, ◌∙◌, refl, ap, ap₂, sym, Bool, true, false, cond, ℕ, ◌+◌, ◌/◌, ◌%◌, ◌^◌, ◌<◌, arith, eqb, lit<, get_or, eqb-true, eq-eqb}
+use borrow.Author.Tests.{eqb-false}
 use Rattle.bits.specs.Bit.{bit_of}
 use Rattle.bits.proofs.Logic.{either_way}
 use Rattle.control.specs.declared.Group.{Group}

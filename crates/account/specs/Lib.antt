@@ -8,4 +8,5 @@ pub mod Unreached
 pub mod ReadBack
 pub mod Script
 pub mod Texts
+pub mod AnyDevice
 pub mod Decided

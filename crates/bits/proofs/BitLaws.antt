@@ -1,15 +1,8 @@
 -- Laws of bits: a byte is its eight bits, and each bit of what was assembled can be read back.
 -- Rests on the tests of Tested and the table's law of Tabled.
-use mathlib.Core.Path.{◌≡◌, ◌∙◌, refl, sym}
-use mathlib.Core.Bool.{Bool, true, false, cond}
-use mathlib.Core.List.{List, [], ◌∷◌}
-use Prim.Native.Nat.{ℕ, zero, suc, ◌+◌, ◌*◌, ◌/◌, ◌%◌, ◌^◌, ◌<◌}
-use native.Mathlib.Nat.{div-one, div-eq_of_lt, pow-zero, pow-succ', div-div-eq-div-mul, pow-le-pow_right, lt_of_lt_of_le}
-use native.Mathlib.Omega.{arith}
-use lib.Dec.{eqb, lit<}
-use lib.ListN.{get_or}
-use lib.Pow.{pow_pos}
-use borrow.Author.Tests.{ne_eqb}
+use Rattle.std.proofs.Common.{◌≡◌, ◌∙◌, refl, ap, sym, Bool, true, false, cond, List, [], ◌∷◌, ℕ, zero, suc, ◌+◌, ◌*◌, ◌/◌, ◌%◌, ◌^◌, ◌<◌, div-one, lt_of_lt_of_le, arith, eqb, lit<, get_or, pow_pos, ne_eqb}
+use native.Mathlib.Nat.{div-eq_of_lt, pow-zero, pow-succ', div-div-eq-div-mul, pow-le-pow_right}
+use lib.Bits.{bit_and, and_mask}
 use Rattle.bits.specs.Table.{table}
 use Rattle.bits.specs.Bit.{bit_of, num, value_of, assembled, with_bit}
 use Rattle.bits.proofs.Tested.{numbers}
@@ -30,6 +23,11 @@ none x n h = rw (div-eq_of_lt h)
 
 pub bit_above : (x n : ℕ) → x < 256 → 7 < n → bit_of x n ≡ false
 bit_above x n hx hn = none x n (lt_of_lt_of_le hx (pow-le-pow_right (lit< tt) hn))
+
+-- The mask 1 leaves of a number, shifted down to bit n, that bit.
+pub masked : (x n : ℕ) → eqb (bit_and (x / 2 ^ n) 1) 1 ≡ bit_of x n
+unfolding bit_of
+masked x n = ap (λ (k : ℕ). eqb k 1) (and_mask (x / 2 ^ n) 1)
 
 -- Bit n of a number that was put together is the n-th of its bits.
 pub bit_of_value : (bs : List Bool) (n : ℕ) → bit_of (value_of bs) n ≡ get_or bs n false

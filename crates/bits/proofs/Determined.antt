@@ -1,6 +1,6 @@
 -- A contract determines what comes of a call: two outcomes that it allows are equal. It is said of what Rattle makes of a function, its
 -- signature `ended` and `Reads.Learnt`, what its clauses tell a caller, and of no copy of these: a weaker clause breaks it. Rests on nothing.
-use mathlib.Core.Path.{◌≡◌, ◌∙◌, ap, ap₂, sym}
+use Rattle.std.proofs.Common.{◌≡◌, ◌∙◌, ap, ap₂, sym}
 use contract.Lifetimes.{Lfts}
 use denote.Triple.Entry.{Args, Res}
 use denote.Triple.Clauses.{Ended, Lasts, AtExit, at_exit}

@@ -1,11 +1,9 @@
 -- What follows of truth values: a contradiction, the parts of a conjunction and of a disjunction, what holds either way, and a test of two
 -- numbers turned round.
 -- Rests on nothing.
-use mathlib.Core.Path.{◌≡◌, ◌∙◌, refl, sym, subst}
-use mathlib.Core.Bool.{Bool, true, false, cond, ◌&&◌, ◌||◌, and-eq-true_iff}
-use Prim.Native.Nat.{ℕ}
-use lib.Dec.{T, eqb}
-use borrow.Author.Tests.{eqb-true, eqb-false, eq-eqb, ne_eqb}
+use Rattle.std.proofs.Common.{◌≡◌, ◌∙◌, refl, sym, subst, Bool, true, false, cond, ◌&&◌, ◌||◌, ℕ, T, eqb, eqb-true, eq-eqb, ne_eqb}
+use mathlib.Core.Bool.{and-eq-true_iff}
+use borrow.Author.Tests.{eqb-false}
 
 -- What is so and not so.
 pub contrary : (b : Bool) → b ≡ false → b ≡ true → ⊥

@@ -1,14 +1,10 @@
 -- Laws of masks: `&`, `|` and `!` work bit by bit, and a mask with its complement chooses between two bytes.
 -- Rests on Tested and BitLaws.
-use mathlib.Core.Path.{◌≡◌, ◌∙◌, refl, ap}
-use mathlib.Core.Bool.{Bool, true, false, cond, not, ◌&&◌, ◌||◌}
-use Prim.Native.Nat.{ℕ, ◌*◌, ◌-◌, ◌/◌, ◌%◌, ◌^◌, ◌<◌}
-use native.Mathlib.Nat.{mod-lt}
-use native.Mathlib.Omega.{arith}
-use lib.Dec.{T, eqb, lit<}
+use Rattle.std.proofs.Common.{◌≡◌, ◌∙◌, refl, ap, Bool, true, false, cond, not, ◌&&◌, ◌||◌, List, [], ◌∷◌, get_or, ℕ, ◌*◌, ◌-◌, ◌/◌, ◌%◌, ◌^◌, ◌<◌, mod-lt, arith, T, eqb, eqb→eq, lit<}
+use mir.Val.{bool_byte}
 use lib.Bits.{bit_and, bit_or, and_shr, or_shr, and_mod, or_mod, and_lt, or_lt}
-use Rattle.bits.specs.Bit.{bit_of, assembled, with_bit, blend_of}
-use Rattle.bits.proofs.Tested.{all, same, bits, bits_of_two}
+use Rattle.bits.specs.Bit.{bit_of, value_of, byte_of, assembled, with_bit, blend_of}
+use Rattle.bits.proofs.Tested.{all, same, bits, bits_of_two, each_list}
 use Rattle.bits.proofs.BitLaws.{bit_of_assembled, assembled_same, byte_by_bits}
 
 -- An operation of masks works bit by bit: it commutes with shifts and remainders, and a test covers the two bits at one place.
@@ -78,3 +74,21 @@ blend_puts x n on hn =
     (λ k. cond (bit_of (1 * 2 ^ n % 256) k) (bit_of (cond on 255 0) k) (bit_of x k))
     (λ k. cond (eqb k n) on (bit_of x k))
     (λ k hk. rw (one_bit n k hn hk, full on k hk))
+
+-- A byte's bits, each shifted to its place, joined by `|`: the byte of these bits, by a test at all 256 of them.
+abbrev shifted : Bool → ℕ → ℕ
+shifted b n = bool_byte b * 2 ^ n % 256
+
+abbrev all_shifted : List Bool → ℕ
+all_shifted bs =
+    let at : ℕ → ℕ = λ n. shifted (get_or bs n false) n in
+    bit_or (bit_or (bit_or (bit_or (bit_or (bit_or (bit_or (at 7) (at 6)) (at 5)) (at 4)) (at 3)) (at 2)) (at 1)) (bool_byte (get_or bs 0 false))
+
+pub joined : (h g f e d c b a : Bool)
+    → bit_or (bit_or (bit_or (bit_or (bit_or (bit_or (bit_or (shifted h 7) (shifted g 6)) (shifted f 5)) (shifted e 4)) (shifted d 3)) (shifted c 2)) (shifted b 1))
+    (bool_byte a)
+    ≡ byte_of h g f e d c b a
+unfolding value_of
+joined h g f e d c b a =
+    let bs = a ∷ b ∷ c ∷ d ∷ e ∷ f ∷ g ∷ h ∷ [] in
+    eqb→eq (all_shifted bs) (value_of bs) (each_list (λ bs. eqb (all_shifted bs) (value_of bs)) bs tt)

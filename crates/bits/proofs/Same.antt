@@ -1,11 +1,6 @@
 -- The test of two lists answers exactly whether they are equal.
 -- Rests on Logic.
-use mathlib.Core.Path.{◌≡◌, ◌∙◌, refl, ap}
-use mathlib.Core.Bool.{true, false, ◌&&◌}
-use mathlib.Core.List.{List, [], ◌∷◌}
-use Prim.Native.Nat.{ℕ}
-use lib.Dec.{eqb}
-use borrow.Author.Tests.{eqb-true, eq-eqb}
+use Rattle.std.proofs.Common.{◌≡◌, ◌∙◌, refl, ap, true, false, ◌&&◌, List, [], ◌∷◌, ℕ, eqb, eqb-true, eq-eqb}
 use Rattle.bits.specs.Same.{same_bytes}
 use Rattle.bits.proofs.Logic.{both, contrary}
 

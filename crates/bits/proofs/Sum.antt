@@ -1,9 +1,6 @@
 -- The sum of eight bits is the byte that the definitions put together of them.
 -- Rests on BitLaws.
-use mathlib.Core.Path.{◌≡◌, ◌∙◌}
-use mathlib.Core.Bool.{Bool}
-use Prim.Native.Nat.{ℕ, ◌+◌, ◌*◌, ◌<◌}
-use native.Mathlib.Omega.{arith}
+use Rattle.std.proofs.Common.{◌≡◌, ◌∙◌, Bool, ℕ, ◌+◌, ◌*◌, ◌<◌, arith}
 use Rattle.bits.specs.Bit.{num, value_of, assembled}
 use Rattle.bits.specs.Sum.{byte_by}
 use Rattle.bits.proofs.BitLaws.{assembled_same}

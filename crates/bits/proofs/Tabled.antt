@@ -1,10 +1,7 @@
 -- A rule written out as a table has the rule's answer at each place. One law for every table: where antt finds a constant
 -- array equal to the rule's table, each entry of the array is the rule's.
 -- Rests on nothing.
-use mathlib.Core.Path.{◌≡◌, ◌∙◌, ap}
-use Prim.Native.Nat.{ℕ, zero, suc, ◌+◌, ◌<◌}
-use native.Mathlib.Nat.{add-zero, zero-add, add-suc, suc-add, le_of_suc-le-suc, not-suc-le-zero}
-use lib.ListN.{get_or}
+use Rattle.std.proofs.Common.{◌≡◌, ◌∙◌, ap, ℕ, zero, suc, ◌+◌, ◌<◌, add-zero, zero-add, add-suc, suc-add, le_of_suc-le-suc, not-suc-le-zero, get_or}
 use Rattle.bits.specs.Table.{from, table}
 
 from_at : {A : Type 0} (f : ℕ → A) (d : A) (n i k : ℕ) → k < n → get_or (from f i n) k d ≡ f (i + k)

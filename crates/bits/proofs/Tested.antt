@@ -1,13 +1,6 @@
 -- A test that antt computes at every number below a bound, and the laws that turn it into the fact at each of them.
 -- Rests on nothing.
-use mathlib.Core.Path.{◌≡◌, refl, subst, sym}
-use mathlib.Core.Bool.{Bool, true, false, not, ◌&&◌}
-use mathlib.Core.List.{List, [], ◌∷◌}
-use mathlib.Core.Logic.{⊎_elim}
-use Prim.Native.Nat.{ℕ, zero, suc, ◌<◌}
-use native.Mathlib.Nat.{not-suc-le-zero, eq-or-lt_of_le, le_of_suc-le-suc}
-use lib.Dec.{T, eqb, eqb→eq}
-use lib.ListN.{length}
+use Rattle.std.proofs.Common.{◌≡◌, refl, subst, sym, Bool, true, false, not, ◌&&◌, List, [], ◌∷◌, ⊎_elim, ℕ, zero, suc, ◌<◌, not-suc-le-zero, eq-or-lt_of_le, le_of_suc-le-suc, T, eqb, eqb→eq, length}
 
 pub left : (a b : Bool) → T (a && b) → T a
 left true b t = tt

@@ -5,6 +5,7 @@ ghost use Rattle.std.specs.Prelude.{◌≡◌, cond};
 ghost use Rattle.bits.specs.Bit.{bit_of, with_bit, byte_of, blend_of};
 
 /// Whether bit n of x is set. A byte has no bit above 7, so none is set there.
+#[tactic(auto, using(crate::proofs::BitLaws::bit_above, crate::proofs::BitLaws::masked))]
 pub fn bit(x: u8, n: u8) -> bool
     ensures { result ≡ bit_of x n }
 {
@@ -15,6 +16,7 @@ pub fn bit(x: u8, n: u8) -> bool
 }
 
 /// x with bit n put to on; x itself where n is above 7.
+#[tactic(auto, using(crate::proofs::BitLaws::with_above, crate::proofs::MaskLaws::blend_puts))]
 pub fn with_bit(x: u8, n: u8, on: bool) -> u8
     ensures { result ≡ with_bit x n on }
 {
@@ -25,6 +27,7 @@ pub fn with_bit(x: u8, n: u8, on: bool) -> u8
 }
 
 /// The byte of which these are the bits 7 to 0.
+#[tactic(auto, using(crate::proofs::MaskLaws::joined))]
 pub fn byte(h: bool, g: bool, f: bool, e: bool, d: bool, c: bool, b: bool, a: bool) -> u8
     ensures { result ≡ byte_of h g f e d c b a }
 {
@@ -39,6 +42,7 @@ pub fn byte(h: bool, g: bool, f: bool, e: bool, d: bool, c: bool, b: bool, a: bo
 }
 
 /// The bits of x where the mask has a one, and those of y elsewhere.
+#[tactic(auto, using(crate::proofs::MaskLaws::masks_blend))]
 pub fn blend(mask: u8, x: u8, y: u8) -> u8
     ensures { result ≡ blend_of mask x y }
 {

@@ -1,9 +1,7 @@
 -- The beginning of a cycle, in every state of any device: of a write it changes nothing but the phase of the bus, and only that of a read has a byte
 -- to give; operands that a kind lacks are ignored ("Events and numbers").
 -- Rests on Outcomes.
-use mathlib.Core.Path.{◌≡◌, ◌∙◌, refl, ap, sym}
-use Prim.Native.Nat.{ℕ}
-use borrow.Author.Tests.{ne_eqb}
+use Rattle.std.proofs.Common.{◌≡◌, ◌∙◌, refl, ap, sym, ℕ, ne_eqb}
 use Rattle.bus.specs.Kinds.{is_kind}
 use Rattle.bus.specs.Kinds as kinds
 use Rattle.bus.specs.declared.Phase.TheVariants.{Writing}

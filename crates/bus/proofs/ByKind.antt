@@ -1,16 +1,9 @@
 -- The numbers that are kinds, and those that are none: what holds of each of the five, and of every number that is none, holds of every
 -- number.
 -- Rests on bits' Logic.
-use mathlib.Core.Path.{◌≡◌, ◌∙◌, refl, ap, subst, sym}
-use mathlib.Core.Bool.{true, false, cond, not, not-not}
-use mathlib.Core.List.{[], ◌∷◌}
-use Prim.Native.Nat.{ℕ, zero, suc, ◌<◌}
-use native.Mathlib.Omega.{arith}
-use lib.Dec.{eqb}
-use lib.ListN.{get_or}
-use borrow.Author.Tests.{ne_eqb}
+use Rattle.std.proofs.Common.{◌≡◌, ◌∙◌, refl, ap, subst, sym, true, false, cond, not, [], ◌∷◌, ℕ, zero, suc, ◌<◌, arith, eqb, get_or, ne_eqb, Some, None, unwrap_or}
+use mathlib.Core.Bool.{not-not}
 use Rattle.bits.proofs.Logic.{contrary}
-use Rattle.std.specs.Prelude.{Some, None, unwrap_or}
 use Rattle.std.proofs.lemmas.Option.{none-some}
 use Rattle.bus.specs.Kinds.{reset, begin_read, end_cycle, begin_write, outside_levels, is_kind, no_kind}
 use Rattle.bus.specs.Answers.{kind_number, kind_numbered}

@@ -1,9 +1,6 @@
 -- The end of a cycle on any device, by the phase that it finds.
 -- Rests on nothing.
-use mathlib.Core.Path.{◌≡◌, refl, ap}
-use mathlib.Core.Bool.{cond}
-use Prim.Native.Nat.{ℕ}
-use lib.Dec.{eqb}
+use Rattle.std.proofs.Common.{◌≡◌, refl, ap, cond, ℕ, eqb}
 use Rattle.bus.specs.Kinds.{is_kind}
 use Rattle.bus.specs.Kinds as kinds
 use Rattle.bus.specs.declared.Phase.{Phase}

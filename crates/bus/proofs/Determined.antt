@@ -1,7 +1,6 @@
 -- The contract of each public function of the bus leaves no choice. Those of `judge` and of the steps say the number and the byte that an answer
 -- tells, and no two answers tell the same. Rests on bits' Determined.
-use mathlib.Core.Path.{◌≡◌, ◌∙◌, refl, ap, ap₂}
-use Rattle.std.specs.Prelude.{cond, ℕ, eqb, Result, Ok, Err}
+use Rattle.std.proofs.Common.{◌≡◌, ◌∙◌, refl, ap, ap₂, cond, ℕ, eqb, Result, Ok, Err}
 use Rattle.bits.proofs.Determined.{Determines, equation_determines, equations_determine}
 use Rattle.bus.specs.Answers.{refusal_number, frame_number, number_told, byte_told}
 use Rattle.bus.specs.declared.refusals.Refusal.{Refusal}

@@ -1,10 +1,7 @@
 -- The end of a cycle, a reset and levels, in every state of any device: an end is accepted exactly while a cycle runs, and the others in any phase
 -- ("Events and numbers").
 -- Rests on Outcomes and ByPhase.
-use mathlib.Core.Path.{◌≡◌, refl}
-use Prim.Native.Nat.{ℕ}
-use native.Mathlib.Omega.{arith}
-use borrow.Author.Tests.{lt-ltb}
+use Rattle.std.proofs.Common.{◌≡◌, refl, ℕ, arith, lt-ltb}
 use Rattle.bus.specs.Kinds.{is_kind}
 use Rattle.bus.specs.Kinds as kinds
 use Rattle.bus.specs.declared.Phase.{Phase}

@@ -1,6 +1,6 @@
 -- The facts about cycles hold of every device, in every state.
 -- Rests on Outcomes, Numbering, Places, Beginnings, Endings, Phases and Begun.
-use mathlib.Core.Path.{◌≡◌, refl, subst}
+use Rattle.std.proofs.Common.{◌≡◌, refl, subst}
 use Rattle.bus.specs.declared.Limits.{Limits}
 use Rattle.bus.specs.Device.{Device}
 use Rattle.bus.specs.Facts.{Facts}

@@ -1,13 +1,7 @@
 -- The number of an event is n exactly when the first row of the table that applies has the number n, and 0 exactly when none applies
 -- ("Events and numbers").
 -- Rests on bits' Logic.
-use mathlib.Core.Path.{◌≡◌, refl, sym}
-use mathlib.Core.Bool.{Bool, true, false, cond}
-use mathlib.Core.Logic.{inl, inr, ⊎_elim}
-use mathlib.Core.List.{List, [], ◌∷◌}
-use Prim.Native.Nat.{ℕ, zero, suc}
-use native.Mathlib.Omega.{arith}
-use lib.ListN.{get_or}
+use Rattle.std.proofs.Common.{◌≡◌, refl, sym, Bool, true, false, cond, inl, inr, ⊎_elim, List, [], ◌∷◌, ℕ, zero, suc, arith, get_or}
 use Rattle.bits.proofs.Logic.{contrary}
 use Rattle.bus.specs.Kinds.{no_kind}
 use Rattle.bus.specs.declared.Phase.{Phase}

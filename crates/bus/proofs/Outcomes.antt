@@ -1,10 +1,7 @@
 -- The two outcomes of an event on any device: accepted where its number is 0, and otherwise refused, which changes nothing.
 -- Rests on nothing.
-use mathlib.Core.Path.{◌≡◌, ◌∙◌, refl, sym, subst}
-use mathlib.Core.Bool.{Bool, true, false}
-use Prim.Native.Nat.{ℕ}
-use lib.Dec.{eqb}
-use borrow.Author.Tests.{eqb-true, eqb-false, ne_eqb}
+use Rattle.std.proofs.Common.{◌≡◌, ◌∙◌, refl, sym, subst, Bool, true, false, ℕ, eqb, eqb-true, ne_eqb}
+use borrow.Author.Tests.{eqb-false}
 use Rattle.bus.specs.Device.{Device, Given, gives, number_in, after_in, byte_in, step_in}
 use Rattle.bus.specs.Cycles.{refused_in}
 

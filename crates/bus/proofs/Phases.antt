@@ -1,11 +1,7 @@
 -- The phase of any device goes by the events alone: after any history it is what its limits and the events say.
 -- Rests on Outcomes and ByKind.
-use mathlib.Core.Path.{◌≡◌, ◌∙◌, refl, ap}
-use mathlib.Core.Bool.{Bool, true, false, cond, not, ◌&&◌, ◌||◌, or-false}
-use mathlib.Core.List.{List, [], ◌∷◌}
-use Prim.Native.Nat.{ℕ}
-use lib.Dec.{eqb, ltb}
-use borrow.Author.Tests.{ne_eqb}
+use Rattle.std.proofs.Common.{◌≡◌, ◌∙◌, refl, ap, Bool, true, false, cond, not, ◌&&◌, ◌||◌, List, [], ◌∷◌, ℕ, eqb, ltb, ne_eqb}
+use mathlib.Core.Bool.{or-false}
 use Rattle.bus.specs.Kinds.{is_kind}
 use Rattle.bus.specs.Event.{Event}
 use Rattle.bus.proofs.ByKind.{by_kind, no_kind_differs}

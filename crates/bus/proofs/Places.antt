@@ -1,10 +1,7 @@
 -- The numbers of the events that name a place, in every state of any device: a missing place comes before an address that is not to be read, and
 -- that before a running cycle ("Events and numbers").
 -- Rests on nothing.
-use mathlib.Core.Path.{◌≡◌, refl}
-use mathlib.Core.Bool.{true}
-use Prim.Native.Nat.{ℕ}
-use borrow.Author.Tests.{lt-ltb, le-ltb}
+use Rattle.std.proofs.Common.{◌≡◌, refl, true, ℕ, lt-ltb, le-ltb}
 use Rattle.bus.specs.Kinds.{is_kind}
 use Rattle.bus.specs.declared.Phase.{Phase}
 use Rattle.bus.specs.declared.Phase.TheVariants.{Idle, Reading, Writing}

@@ -11,8 +11,8 @@ use Rattle.bus.specs.Begun.{Begun}
 
 -- Of a state s of a device whose limits are l. The number of every event is the table's: that of the first row that applies. A refusal changes
 -- nothing, and gives 00. Operands that a kind lacks are ignored. Beginnings, ends, resets and levels are accepted or refused by their places and by
--- whether a cycle runs. After any history the phase follows from the events alone, and a cycle that runs was begun by the last accepted beginning; or it
--- ran before the history, in which none began.
+-- whether a cycle runs. After any history the phase follows from the events alone, and a cycle that runs was begun by the last accepted
+-- beginning; or it ran before the history, in which none began.
 pub record Facts {S R : Type 0} (dev : Device S R) (l : Limits) (s : S) : Type 0 where
   pub by_table : (k x d : ℕ) → (step_in dev s k x d).number ≡ number_of l (dev.phase s) k x
   pub numbered : (k x : ℕ) → Numbered l (dev.phase s) k x

@@ -1,30 +1,32 @@
 -- What becomes of an older image: the image of the state that it tells, of the older edition, in which nothing was planted or struck; and
 -- bad bytes are refused.
--- Rests on image's ComesBack, OneImage, Long, OlderComesBack, OlderLong and OlderOneImage.
-use mathlib.Core.Path.{◌≡◌, ◌∙◌, ap}
-use mathlib.Core.Bool.{true, false}
-use mathlib.Core.List.{List}
-use Prim.Native.Nat.{ℕ, ◌<◌}
-use native.Mathlib.Omega.{arith}
-use lib.ListN.{length}
-use borrow.Author.Tests.{eq-eqb, ne_eqb, le-ltb}
+-- Rests on image's SameBytes, ComesBack, OneImage, Long, OlderComesBack, OlderLong and OlderOneImage.
+use Rattle.std.proofs.Common.{◌≡◌, ◌∙◌, refl, ap, true, false, List, ℕ, ◌<◌, arith, w8, Fits, length, eq-eqb, ne_eqb, le-ltb}
 use Rattle.chip.specs.declared.Chip.{Chip}
 use Rattle.image.specs.Places as places
 use Rattle.image.specs.Layout.{image_of}
-use Rattle.image.specs.Loaded.{state_of}
+use Rattle.image.specs.Loaded.{byte_at, state_of}
 use Rattle.image.specs.Good.{has_image, is_image, Bytes}
 use Rattle.image.specs.Slices.{saved_in}
 use Rattle.image.proofs.ComesBack.{comes_back}
 use Rattle.image.proofs.OneImage.{has_image_lem}
 use Rattle.image.proofs.Long.{written_over}
+use Rattle.image.proofs.SameBytes.{bytes_by}
+use Rattle.image.specs.OlderPlaces as older_places
 use Rattle.image.specs.OlderLayout.{older_of}
 use Rattle.image.specs.OlderLoaded.{older_state}
 use Rattle.image.specs.OlderGood.{is_older}
+use Rattle.image.specs.OlderSlices.{converted_in}
 use Rattle.image.specs.Before.{FromBefore}
 use Rattle.image.proofs.OlderComesBack as older
 use Rattle.image.proofs.OlderLong.{is_long}
-use Rattle.image.proofs.OlderOneImage.{older_where, tells_such}
+use Rattle.image.proofs.OlderOneImage.{older_where, tells_such, converted}
 use Rattle.calls.specs.Calls.{last_channel, counter_numbered, tally_answer, convert_answer, convert_image}
+
+-- What the writing of an older image leaves of a slice of any length is what the call leaves.
+pub converted_so : (o l : List ℕ) → ((i : ℕ) → Fits w8 (byte_at o i)) → is_older o ≡ true → converted_in o l ≡ convert_image o l
+unfolding convert_image converted_in saved_in
+converted_so o l each good = rw (good, eq-eqb (length o) older_places.length (is_long o good), converted o (bytes_by o each) good) refl
 
 module _ (o l : List ℕ) where
   -- Bytes that are no older image: number 8, and nothing is written.

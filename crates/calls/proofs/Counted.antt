@@ -1,9 +1,6 @@
 -- A tally by C's numbers of its channel and of itself: they tell where an image has its two bytes.
 -- Rests on nothing.
-use mathlib.Core.Path.{◌≡◌, ◌∙◌, refl, ap}
-use mathlib.Core.List.{List}
-use Prim.Native.Nat.{ℕ, zero, suc, ◌+◌, ◌*◌, ◌≤◌}
-use native.Mathlib.Omega.{arith}
+use Rattle.std.proofs.Common.{◌≡◌, ◌∙◌, refl, ap, List, ℕ, zero, suc, ◌+◌, ◌*◌, ◌≤◌, arith}
 use Rattle.chip.specs.State.{tally_of}
 use Rattle.image.specs.Places as places
 use Rattle.image.specs.Loaded.{wide_at, tally_at, channel_tally, state_of}

@@ -1,6 +1,6 @@
 -- The contract of each public function leaves no choice: of the answer, and of every byte of a slice that is written.
 -- Rests on bits' Determined.
-use mathlib.Core.Path.{ap}
+use Rattle.std.proofs.Common.{ap}
 use Rattle.bits.proofs.Determined.{Determines, equation_determines, equations_determine}
 use Rattle.calls.specs.contracts as calls_says
 use Rattle.calls.proofs as calls

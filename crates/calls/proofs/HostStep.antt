@@ -1,10 +1,6 @@
 -- The step of an image is the step: what it leaves is the image of the state after, refusals included, and bad bytes are left alone.
 -- Rests on image's SameBytes and chip's Outcome.
-use mathlib.Core.Path.{◌≡◌, ◌∙◌, refl, ap, sym, subst}
-use mathlib.Core.Bool.{Bool, true, false, cond}
-use mathlib.Core.List.{List}
-use Prim.Native.Nat.{ℕ}
-use lib.Dec.{eqb}
+use Rattle.std.proofs.Common.{◌≡◌, ◌∙◌, refl, ap, sym, subst, Bool, true, false, cond, List, ℕ, eqb}
 use borrow.Author.Tests.{eqb-false}
 use Rattle.chip.specs.declared.Chip.{Chip}
 use Rattle.chip.specs.Step.{Stepped}

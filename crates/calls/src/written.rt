@@ -32,7 +32,7 @@ pub(super) fn start_as(image: &mut [u8], number: u8, levels: Levels) -> Result<u
     start(image, &Chip::new(edition, levels))
 }
 
-#[tactic(auto, unfolding(crate::specs::Calls::convert_answer, crate::specs::Calls::convert_image))]
+#[tactic(auto, using(crate::proofs::Converted::converted_so), unfolding(crate::specs::Calls::convert_answer, crate::specs::Calls::convert_image, image::specs::Slices::saved_in))]
 pub(super) fn convert(older: &[u8], image: &mut [u8]) -> Result<u16, CallRefusal>
     ensures value { answered result ≡ convert_answer older.now image.old }
     ensures image_after { image.new ≡ convert_image older.now image.old }

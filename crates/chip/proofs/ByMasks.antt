@@ -1,10 +1,7 @@
 -- Port C's latch written under a mask is the latch written pin by pin ("Writes and bit set/reset").
 -- Rests on bits' laws of masks and on control's PinByMasks.
-use mathlib.Core.Path.{◌≡◌, ◌∙◌}
-use mathlib.Core.Bool.{Bool, true, false, cond, ◌||◌}
-use Prim.Native.Nat.{ℕ, ◌<◌}
+use Rattle.std.proofs.Common.{◌≡◌, ◌∙◌, Bool, true, false, cond, ◌||◌, ℕ, ◌<◌, eqb}
 use lib.Bits.{bit_and}
-use lib.Dec.{eqb}
 use Rattle.bits.specs.Bit.{bit_of, blend_of}
 use Rattle.bits.proofs.Tested.{bits}
 use Rattle.bits.proofs.BitLaws.{assembled_same}

@@ -1,8 +1,7 @@
 -- The editions by number: a number that has one is that edition's, and which have one is told by two tests.
 -- Rests on nothing.
-use Rattle.std.proofs.Common.{arith, ◌≡◌, ◌∙◌, refl, sym, ap, cond, not, eqb, ltb, ℕ, zero, suc, Some, None, unwrap_or}
+use Rattle.std.proofs.Common.{arith, ◌≡◌, ◌∙◌, refl, sym, ap, cond, not, eqb, ltb, ℕ, zero, suc, Some, None, unwrap_or, lt-ltb, ne_eqb}
 use Rattle.std.proofs.lemmas.Option.{none-some}
-use borrow.Author.Tests.{lt-ltb, ne_eqb}
 use Rattle.chip.specs.declared.Edition.{Edition}
 use Rattle.chip.specs.declared.Edition.TheVariants.{Older, Newer}
 use Rattle.chip.specs.State.{edition_number, edition_numbered}

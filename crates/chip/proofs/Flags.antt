@@ -1,10 +1,6 @@
 -- The flags of the channels among the pins of port C: the role IBF or OBF is at the pin of a strobed channel, and nowhere else.
 -- Rests on bits' Tested, control's RoleWords, StrobedWords and OneChannel.
-use mathlib.Core.Path.{◌≡◌}
-use mathlib.Core.Bool.{Bool, ◌&&◌}
-use Prim.Native.Nat.{ℕ, ◌%◌, ◌<◌}
-use native.Mathlib.Omega.{arith}
-use lib.Dec.{eqb}
+use Rattle.std.proofs.Common.{◌≡◌, Bool, ◌&&◌, ℕ, ◌%◌, ◌<◌, arith, eqb}
 use Rattle.bits.specs.Bit.{bit_of}
 use Rattle.bits.proofs.Tested.{bits_of_two}
 use Rattle.control.specs.declared.Group.{Group}

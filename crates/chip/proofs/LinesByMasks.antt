@@ -1,10 +1,6 @@
 -- Port C put together by masks is port C pin by pin ("Reads and pins").
 -- Rests on bits' laws of bytes and blends, and on control's PinByMasks.
-use mathlib.Core.Path.{◌≡◌, ◌∙◌, refl, ap, ap₂, sym}
-use mathlib.Core.Bool.{Bool, true, false, cond}
-use mathlib.Core.List.{List, [], ◌∷◌}
-use Prim.Native.Nat.{ℕ, ◌<◌}
-use lib.ListN.{get_or}
+use Rattle.std.proofs.Common.{◌≡◌, ◌∙◌, refl, ap, ap₂, sym, Bool, true, false, cond, List, [], ◌∷◌, ℕ, ◌<◌, get_or}
 use Rattle.bits.specs.Table.{table}
 use Rattle.bits.specs.Bit.{bit_of, blend_of}
 use Rattle.bits.proofs.Tabled.{table_at}

@@ -1,11 +1,6 @@
 -- One pin set by asking the masks is the pin set by its role ("Writes and bit set/reset").
 -- Rests on bits' Tabled and control's PinByMasks.
-use mathlib.Core.Path.{◌≡◌, ◌∙◌, refl, ap, sym}
-use mathlib.Core.Bool.{Bool, true, false, cond}
-use mathlib.Core.List.{List}
-use Prim.Native.Nat.{ℕ, ◌<◌}
-use lib.Dec.{eqb}
-use lib.ListN.{get_or}
+use Rattle.std.proofs.Common.{◌≡◌, ◌∙◌, refl, ap, sym, Bool, true, false, cond, List, ℕ, ◌<◌, eqb, get_or}
 use Rattle.bits.specs.Table.{table}
 use Rattle.bits.specs.Bit.{bit_of, with_bit}
 use Rattle.bits.proofs.Tabled.{table_at}

@@ -18,7 +18,8 @@ pub const ACK_A: u8 = 6;
 /// Summary.
 pub const LINE_B: u8 = 2;
 
-// The pins of port C on which the chip shows whether a byte is there: IBF of group A, OBF of group A, and the pin of group B, which is its IBF or its OBF.
+// The pins of port C on which the chip shows whether a byte is there: IBF of group A, OBF of group A, and the pin of group B, which is its IBF
+// or its OBF.
 pub(super) const IBF_A: u8 = 5;
 
 pub(super) const OBF_A: u8 = 7;

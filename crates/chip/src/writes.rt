@@ -43,9 +43,9 @@ fn latch(word: u8, before: u8, byte: u8) -> u8
 }
 
 impl Core {
-    /// A write of the byte to the address ends: a port that is an output stores it, and offers it where it is strobed; of port C the free outputs that
-    /// the write reaches take it; at the control address it is a command. Data sheet: Mode 0 (Basic Input/Output), Output Control Signal
-    /// Definition (OBF).
+    /// A write of the byte to the address ends: a port that is an output stores it, and offers it where it is strobed; of port C the free
+    /// outputs that the write reaches take it; at the control address it is a command. Data sheet: Mode 0 (Basic Input/Output), Output Control
+    /// Signal Definition (OBF).
     #[tactic(auto, unfolding(crate::specs::Write::after_write_ends))]
     pub fn end_write(&mut self, address: u8, byte: u8)
         ensures { self.new ≡ after_write_ends self.old address byte }

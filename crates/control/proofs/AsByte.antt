@@ -1,8 +1,6 @@
 -- A mode word counts modulo 256, so that what is found by trying every byte holds of every number.
 -- Rests on SameWords.
-use mathlib.Core.Path.{◌≡◌}
-use Prim.Native.Nat.{ℕ, ◌/◌, ◌%◌}
-use native.Mathlib.Omega.{arith}
+use Rattle.std.proofs.Common.{◌≡◌, ℕ, ◌/◌, ◌%◌, arith}
 use Rattle.bits.specs.Bit.{bit_of}
 use Rattle.control.specs.declared.Group.{Group}
 use Rattle.control.specs.declared.Group.TheVariants.{A, B}

@@ -1,12 +1,7 @@
 -- Which ports a mode word strobes, bit by bit: bit 6 is mode 2 of group A, otherwise bit 5 its mode 1, and bit 2 mode 1 of group B; bits 4
 -- and 1 are the directions ("Mode words").
 -- Rests on nothing.
-use mathlib.Core.Path.{◌≡◌}
-use mathlib.Core.Bool.{Bool, not, ◌&&◌, ◌||◌}
-use Prim.Native.Nat.{ℕ, zero, suc, ◌+◌, ◌*◌, ◌/◌, ◌%◌, ◌<◌}
-use native.Mathlib.Omega.{arith}
-use lib.Dec.{eqb}
-use borrow.Author.Tests.{ne_eqb}
+use Rattle.std.proofs.Common.{◌≡◌, Bool, not, ◌&&◌, ◌||◌, ℕ, zero, suc, ◌+◌, ◌*◌, ◌/◌, ◌%◌, ◌<◌, arith, eqb, ne_eqb}
 use Rattle.bits.specs.Bit.{bit_of}
 use Rattle.control.specs.declared.Group.TheVariants.{A, B}
 use Rattle.control.specs.Mode.{mode_of, input_of, strobed_input, strobed_output}

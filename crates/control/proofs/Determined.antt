@@ -1,9 +1,5 @@
 -- The contracts of the public functions leave no choice. Rests on bits' Determined.
-use mathlib.Core.Path.{◌≡◌, ◌∙◌, refl, ap, sym}
-use mathlib.Core.List.{[], ◌∷◌}
-use Prim.Native.Nat.{ℕ}
-use lib.ListN.{get_or}
-use Rattle.std.specs.Prelude.{Option, Some, None}
+use Rattle.std.proofs.Common.{◌≡◌, ◌∙◌, refl, ap, sym, [], ◌∷◌, ℕ, get_or, Option, Some, None}
 use Rattle.bits.proofs.Determined.{Determines, equation_determines}
 use Rattle.control.specs.declared.mode.Mode.{Mode}
 use Rattle.control.specs.declared.mode.Mode.TheVariants.{Zero, One, Two}

@@ -1,4 +1,4 @@
-pub mod ByGroup
+pub mod UnderMasks
 pub mod SameWords
 pub mod ModeTwo
 pub mod PinNamed

@@ -1,8 +1,6 @@
 -- In mode 2 the direction is ignored: whatever it says, the group is strobed both ways and stores what is written ("Mode words").
 -- Rests on nothing.
-use mathlib.Core.Path.{◌≡◌}
-use mathlib.Core.Bool.{true}
-use Prim.Native.Nat.{ℕ}
+use Rattle.std.proofs.Common.{◌≡◌, true, ℕ}
 use Rattle.control.specs.declared.Group.{Group}
 use Rattle.control.specs.Mode.{mode_of, strobed_input, strobed_output, output_of}
 

@@ -1,10 +1,6 @@
 -- The role of a pin can be read off the two masks: what stands above need not ask for a role pin by pin ("Port C roles").
 -- Rests on bits' Tested and BitLaws.
-use mathlib.Core.Path.{◌≡◌, ◌∙◌, refl, ap, sym}
-use mathlib.Core.Bool.{Bool, cond}
-use mathlib.Core.List.{[], ◌∷◌}
-use Prim.Native.Nat.{ℕ, ◌<◌}
-use lib.ListN.{get_or}
+use Rattle.std.proofs.Common.{◌≡◌, ◌∙◌, refl, ap, sym, Bool, cond, [], ◌∷◌, ℕ, ◌<◌, get_or}
 use Rattle.bits.specs.Bit.{bit_of}
 use Rattle.bits.proofs.Tested.{numbers_of_two}
 use Rattle.bits.proofs.BitLaws.{bit_of_assembled}

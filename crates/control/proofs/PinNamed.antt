@@ -1,9 +1,6 @@
 -- A control byte can name none but the eight pins of port C ("Writes and bit set/reset").
 -- Rests on nothing.
-use mathlib.Core.Path.{◌≡◌, ap, subst}
-use mathlib.Core.Bool.{Bool, true, false, cond}
-use Prim.Native.Nat.{ℕ, ◌/◌, ◌%◌, ◌<◌}
-use native.Mathlib.Omega.{arith}
+use Rattle.std.proofs.Common.{◌≡◌, ap, subst, Bool, true, false, cond, ℕ, ◌/◌, ◌%◌, ◌<◌, arith}
 use Rattle.bits.specs.Bit.{bit_of}
 use Rattle.control.specs.declared.word.Control.{Control}
 use Rattle.control.specs.declared.word.Control.TheVariants.{Mode, Bit}

@@ -1,7 +1,6 @@
 -- Mode words that say the same give each pin the same role.
 -- Rests on SameWords and AsByte.
-use mathlib.Core.Path.{◌≡◌}
-use Prim.Native.Nat.{ℕ, ◌%◌}
+use Rattle.std.proofs.Common.{◌≡◌, ℕ, ◌%◌}
 use Rattle.control.specs.declared.Group.TheVariants.{A, B}
 use Rattle.control.proofs.SameWords.{SayTheSame}
 use Rattle.control.proofs.AsByte.{as_byte}

@@ -1,7 +1,6 @@
 -- Two mode words that say the same of each group and of each half of port C.
 -- Rests on nothing.
-use mathlib.Core.Path.{◌≡◌}
-use Prim.Native.Nat.{ℕ}
+use Rattle.std.proofs.Common.{◌≡◌, ℕ}
 use Rattle.control.specs.declared.Group.{Group}
 use Rattle.control.specs.Mode.{mode_of, input_of, upper_input, lower_input, strobed_input, strobed_output}
 

@@ -1,12 +1,7 @@
 -- Strobed ports: in mode 0 a group is not strobed, in mode 1 one way, by the direction of its port, and there is no mode above 2; a
 -- strobed output is an output ("Mode words").
 -- Rests on AsByte and on bits' Logic and Tested.
-use mathlib.Core.Path.{◌≡◌, refl}
-use mathlib.Core.Bool.{Bool, true, false, not, ◌&&◌, ◌||◌}
-use Prim.Native.Nat.{ℕ, ◌%◌, ◌<◌}
-use native.Mathlib.Omega.{arith}
-use lib.Dec.{eqb, ltb}
-use borrow.Author.Tests.{ltb-true, ne_eqb}
+use Rattle.std.proofs.Common.{◌≡◌, refl, Bool, true, false, not, ◌&&◌, ◌||◌, ℕ, ◌%◌, ◌<◌, arith, eqb, ltb, ltb-true, ne_eqb}
 use Rattle.bits.proofs.Logic.{both}
 use Rattle.bits.proofs.Tested.{bits}
 use Rattle.control.specs.declared.Group.{Group}

@@ -48,6 +48,7 @@ pub fn directions(word: u8) -> Directions
 }
 
 /// Whether the group's port takes bytes in by STB. Data sheet: Mode 1 (Strobed Input/Output), Mode 2 (Strobed Bidirectional Bus I/O).
+#[tactic(auto, using(crate::proofs::UnderMasks::a_takes_by_mask, crate::proofs::UnderMasks::b_takes_by_mask))]
 pub fn strobed_input(word: u8, group: Group) -> bool
     ensures { result ≡ strobed_input word group }
 {
@@ -58,6 +59,7 @@ pub fn strobed_input(word: u8, group: Group) -> bool
 }
 
 /// Whether the group's port gives bytes out by ACK. Data sheet: Mode 1 (Strobed Input/Output), Mode 2 (Strobed Bidirectional Bus I/O).
+#[tactic(auto, using(crate::proofs::UnderMasks::a_gives_by_mask, crate::proofs::UnderMasks::b_gives_by_mask))]
 pub fn strobed_output(word: u8, group: Group) -> bool
     ensures { result ≡ strobed_output word group }
 {
@@ -68,6 +70,7 @@ pub fn strobed_output(word: u8, group: Group) -> bool
 }
 
 /// Whether the group's port is an output, so that it stores what is written to it.
+#[tactic(auto, using(crate::proofs::UnderMasks::a_stores_by_mask, crate::proofs::UnderMasks::b_stores_by_mask))]
 pub fn output(word: u8, group: Group) -> bool
     ensures { result ≡ output_of word group }
 {

@@ -8,6 +8,7 @@ ghost use Rattle.control.specs.Pins.{handshake_pins, output_pins};
 const GROUP_A: u64 = 0xf8f8_f8f8_38c8_0000;
 
 /// The pins that take part in a handshake, as ones: group A's, and pins 2 to 0 where group B is in mode 1. Data sheet: Mode Definition Summary.
+#[tactic(auto, using(crate::proofs::UnderMasks::handshakes_by_mask))]
 pub fn handshake(word: u8) -> u8
     ensures { result ≡ handshake_pins word }
 {
@@ -18,6 +19,7 @@ pub fn handshake(word: u8) -> u8
 }
 
 /// The pins that are outputs: those of an output half that no handshake uses.
+#[tactic(auto, using(crate::proofs::UnderMasks::outputs_by_mask))]
 pub fn outputs(word: u8) -> u8
     ensures { result ≡ output_pins word }
 {

@@ -1,11 +1,7 @@
 -- An event is accepted in the history's words exactly where its number is 0, and then the chip is what the step makes of it.
 -- Rests on bits' Logic, the bus's ByKind and Phases, and chip's Outcome.
-use mathlib.Core.Path.{◌≡◌, ◌∙◌, refl, ap, sym}
-use mathlib.Core.Bool.{Bool, true, false, not, cond, ◌&&◌, ◌||◌}
-use Prim.Native.Nat.{ℕ}
-use native.Mathlib.Omega.{arith}
-use lib.Dec.{eqb, ltb}
-use borrow.Author.Tests.{ltb-true, lt-ltb, eqb-true, eqb-false}
+use Rattle.std.proofs.Common.{◌≡◌, ◌∙◌, refl, ap, sym, Bool, true, false, not, cond, ◌&&◌, ◌||◌, ℕ, arith, eqb, ltb, ltb-true, lt-ltb, eqb-true}
+use borrow.Author.Tests.{eqb-false}
 use Rattle.bits.proofs.Logic.{contrary}
 use Rattle.bus.specs.Kinds.{is_kind, no_kind}
 use Rattle.bus.proofs.ByKind.{by_kind, no_row}

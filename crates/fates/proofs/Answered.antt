@@ -1,8 +1,7 @@
 -- The chip in some of the examples, and after a mode word that finds STB low: what it counts and what it shows there, computed by the
 -- checker.
 -- Rests on nothing.
-use mathlib.Core.Path.{◌≡◌, refl}
-use mathlib.Core.List.{◌++◌}
+use Rattle.std.proofs.Common.{◌≡◌, refl, ◌++◌}
 use Rattle.bits.specs.Bit.{bit_of, value_of, with_bit}
 use Rattle.bus.specs.Kinds.{is_kind}
 use Rattle.bus.specs.Event.{event}

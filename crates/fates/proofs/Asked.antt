@@ -1,6 +1,6 @@
 -- What the discipline does not ask, computed.
 -- Rests on nothing.
-use mathlib.Core.Path.{refl}
+use Rattle.std.proofs.Common.{refl}
 use Rattle.bits.specs.Bit.{bit_of, value_of, with_bit}
 use Rattle.bus.specs.Kinds.{is_kind}
 use Rattle.bus.specs.Device.{step_in}
@@ -25,11 +25,11 @@ pub asks_no_more : AsksNoMore
 unfolding bit_of value_of with_bit mode_of input_of upper_input lower_input strobed_input strobed_output output_of control_of uses_of free_role role_of flag_of after_offer after_follow after_hand_over after_end_read after_clear request_of intr_of cleared_port after_mode_word pin_set after_control_word after_read_begins after_read_ends stored_by latch_written after_write_ends fallen edged after_levels_on_c port_after_levels after_levels read_port read_lines read_of drives_port pins_of_port pins_of_lines pins_of number_of is_kind step_of step_in
 asks_no_more = record {
   ibf_is_high = refl;
-  late_levels_kept = (tt, (tt, (tt, (refl, (tt, (tt, (refl, (tt, tt))))))));
+  late_levels_kept = search;
   late_bytes = refl;
   late_tally = refl;
   pin_5_is_low = refl;
-  plain_reads_kept = (tt, (tt, (tt, (tt, (tt, (tt, (tt, (tt, tt))))))));
+  plain_reads_kept = search;
   plain_bytes = refl;
   plain_tally = refl;
 }

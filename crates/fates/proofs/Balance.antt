@@ -1,9 +1,6 @@
 -- A channel's tallies balance after every history: from any chip in which they do, and from every power-up.
--- Rests on Story and EveryByte.
-use mathlib.Core.Path.{◌≡◌, ◌∙◌, refl, ap, sym}
-use mathlib.Core.List.{List}
-use Prim.Native.Nat.{ℕ, ◌+◌, ◌*◌, ◌/◌, ◌%◌}
-use native.Mathlib.Omega.{arith}
+-- Rests on Story and Counted.
+use Rattle.std.proofs.Common.{◌≡◌, ◌∙◌, refl, ap, sym, false, List, ℕ, ◌+◌, ◌*◌, ◌/◌, ◌%◌, arith}
 use Rattle.bits.specs.Bit.{num}
 use Rattle.bus.specs.Event.{Event}
 use Rattle.control.specs.declared.Group.{Group}
@@ -18,10 +15,10 @@ use Rattle.chip.specs.declared.Chip.{Chip}
 use Rattle.chip.specs.declared.Levels.{Levels}
 use Rattle.chip.specs.State.{power_up_as, channel_of, tally_of}
 use Rattle.fates.specs.Effects.{effects}
-use Rattle.fates.specs.Bytes.{offered_at}
-use Rattle.fates.specs.Promise.{run, tallies, surroundings_of, new_bytes, Balanced, SixteenBits}
+use Rattle.fates.specs.Bytes.{Fate, handed_over, overwritten, swallowed, cleared, struck, waiting, offered_at, same}
+use Rattle.fates.specs.Promise.{run, surroundings_of, new_bytes, all_bytes, Balanced, BalancedAfter, SixteenBits}
 use Rattle.fates.proofs.Story.{with_held}
-use Rattle.fates.proofs.EveryByte.{none_counted, fates_from}
+use Rattle.fates.proofs.Counted.{none_counted, one_fate_each_lem, offered_or_planted_lem, tally_counts, offered_counts, planted_counts, waits_there}
 
 -- Whole rounds of 65,536 do not show in a remainder, nor do those that the parts of a sum have made.
 rounds : (n k : ℕ) → (n + 65536 * k) % 65536 ≡ n % 65536
@@ -36,42 +33,51 @@ six_parts a b c d e w =
     ∙ rounds (a % 65536 + b % 65536 + c % 65536 + d % 65536 + e % 65536 + w) (a / 65536 + b / 65536 + c / 65536 + d / 65536 + e / 65536)
 
 -- Tallies that balance do so too when they have gone on by counts of bytes that do.
-counted_on : (t : Tally) (f f' : Fill) (offered planted handed overwritten swallowed cleared struck : ℕ) → Balanced t f
-    → num (is_waiting f) + (offered + planted) ≡ handed + overwritten + swallowed + cleared + struck + num (is_waiting f')
+counted_on : (t : Tally) (f f' : Fill) (offers plants hand_overs overwrites swallows clears strikes : ℕ) → Balanced t f
+    → num (is_waiting f) + (offers + plants) ≡ hand_overs + overwrites + swallows + clears + strikes + num (is_waiting f')
     → Balanced
     (record {
-      offered = (t.offered + offered) % 65536;
-      handed = (t.handed + handed) % 65536;
-      overwritten = (t.overwritten + overwritten) % 65536;
-      swallowed = (t.swallowed + swallowed) % 65536;
-      cleared = (t.cleared + cleared) % 65536;
-      planted = (t.planted + planted) % 65536;
-      struck = (t.struck + struck) % 65536;
+      offered = (t.offered + offers) % 65536;
+      handed = (t.handed + hand_overs) % 65536;
+      overwritten = (t.overwritten + overwrites) % 65536;
+      swallowed = (t.swallowed + swallows) % 65536;
+      cleared = (t.cleared + clears) % 65536;
+      planted = (t.planted + plants) % 65536;
+      struck = (t.struck + strikes) % 65536;
     })
     f'
-counted_on t f f' offered planted handed overwritten swallowed cleared struck before counts =
-    let h = t.handed + handed in
-    let o = t.overwritten + overwritten in
-    let s = t.swallowed + swallowed in
-    let c = t.cleared + cleared in
-    let k = t.struck + struck in
-    let sums : (t.offered + offered + (t.planted + planted)) % 65536 ≡ (h + o + s + c + k + num (is_waiting f')) % 65536 = omega (arith, before, counts) in
-    sym (two_parts (t.offered + offered) (t.planted + planted)) ∙ sums ∙ six_parts h o s c k (num (is_waiting f'))
+counted_on t f f' offers plants hand_overs overwrites swallows clears strikes before counts =
+    let h = t.handed + hand_overs in
+    let o = t.overwritten + overwrites in
+    let s = t.swallowed + swallows in
+    let c = t.cleared + clears in
+    let k = t.struck + strikes in
+    let sums : (t.offered + offers + (t.planted + plants)) % 65536 ≡ (h + o + s + c + k + num (is_waiting f')) % 65536 = omega (arith, before, counts) in
+    sym (two_parts (t.offered + offers) (t.planted + plants)) ∙ sums ∙ six_parts h o s c k (num (is_waiting f'))
 
 -- From any chip whose tallies have sixteen bits and balance: no event, and so no history, puts them out of balance.
 pub stays_balanced : (g : Group) (s : Side) (c : Chip) → SixteenBits (tally_of c g s) → Balanced (tally_of c g s) (channel_of c.core g s).fill
-    → (es : List Event) → Balanced (tallies g s c es) (channel_of (run c es).core g s).fill
+    → (es : List Event) → BalancedAfter g s c es
 stays_balanced g s c small before es =
-    let k = fates_from g s c small es in
     let ch = channel_of c.core g s in
-    let held = with_held ch.fill (offered_at 0 ch.latch) 1 (effects g s (surroundings_of c) es) (new_bytes g s c es) in
-    rw (k.tally_offered, k.tally_handed, k.tally_overwritten, k.tally_swallowed, k.tally_cleared, k.tally_planted, k.tally_struck)
+    let h = offered_at 0 ch.latch in
+    let held = with_held ch.fill h 1 (effects g s (surroundings_of c) es) (new_bytes g s c es) in
+    let count_of = λ (f : Fate) (tallied : same f waiting ≡ false). tally_counts g s f tallied c h 1 es in
+    rw (
+      offered_counts g s c h 1 es small.offered,
+      count_of handed_over refl small.handed,
+      count_of overwritten refl small.overwritten,
+      count_of swallowed refl small.swallowed,
+      count_of cleared refl small.cleared,
+      planted_counts g s c h 1 es small.planted,
+      count_of struck refl small.struck,
+    )
     (counted_on ch.tally ch.fill (channel_of (run c es).core g s).fill _ _ _ _ _ _ _ before
-    (rw (← k.waits_in_the_chip, ← k.offered_or_planted) (sym held ∙ k.one_fate_each)))
+    (rw (← waits_there g s c h 1 es, ← offered_or_planted_lem (new_bytes g s c es)) (sym held ∙ one_fate_each_lem (all_bytes g s c es))))
 
 -- From power-up, whatever the edition and the levels.
 pub balanced : (g : Group) (s : Side) (ed : Edition) (l : Levels) (es : List Event)
-    → Balanced (tallies g s (power_up_as ed l) es) (channel_of (run (power_up_as ed l) es).core g s).fill
+    → BalancedAfter g s (power_up_as ed l) es
 balanced A Input ed l es = stays_balanced A Input (power_up_as ed l) none_counted refl es
 balanced A Output ed l es = stays_balanced A Output (power_up_as ed l) none_counted refl es
 balanced B Input ed l es = stays_balanced B Input (power_up_as ed l) none_counted refl es

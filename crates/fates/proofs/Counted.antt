@@ -1,11 +1,7 @@
 -- Every byte has one fate, and the chip's tallies count them.
 -- Rests on Shapes, Story, Moved, SurroundingsKept and Followed.
-use mathlib.Core.Path.{◌≡◌, ◌∙◌, refl, ap, sym}
-use mathlib.Core.Bool.{Bool, true, false, not, and-true}
-use mathlib.Core.List.{List, [], ◌∷◌, ◌++◌}
-use Prim.Native.Nat.{ℕ, suc, ◌+◌, ◌%◌, ◌<◌}
-use native.Mathlib.Omega.{arith}
-use lib.ListN.{length}
+use Rattle.std.proofs.Common.{◌≡◌, ◌∙◌, refl, ap, sym, Bool, true, false, not, List, [], ◌∷◌, ◌++◌, ℕ, suc, ◌+◌, ◌%◌, ◌<◌, arith, length}
+use mathlib.Core.Bool.{and-true}
 use Rattle.bits.specs.Bit.{num}
 use Rattle.bus.specs.Event.{Event}
 use Rattle.control.specs.declared.Group.{Group}
@@ -15,12 +11,12 @@ use Rattle.chip.specs.declared.channel.Fill.TheVariants.{Empty, Waiting, Fetchin
 use Rattle.chip.specs.declared.channel.Tally.{Tally}
 use Rattle.chip.specs.Channel.{is_waiting, next}
 use Rattle.chip.specs.declared.Chip.{Chip}
-use Rattle.chip.specs.State.{tally_of}
+use Rattle.chip.specs.State.{no_tally, tally_of}
 use Rattle.fates.specs.Surroundings.{surroundings_next}
 use Rattle.fates.specs.Effects.{Effect, effects}
 use Rattle.fates.specs.Left.{left}
 use Rattle.fates.specs.Bytes.{Fate, handed_over, overwritten, swallowed, cleared, struck, waiting, Offer, Byte, bytes, planted_among, offered_among, same, count}
-use Rattle.fates.specs.Promise.{run, tallies, surroundings_of}
+use Rattle.fates.specs.Promise.{run, tallies, surroundings_of, SixteenBits}
 use Rattle.fates.proofs.Shapes.{Shape, shape_of, fate_by, fill_after, is_offer, is_plant, gives, held_after}
 use Rattle.fates.proofs.Story.{story, fated, decided, by_decided, offers_counted, plants_counted}
 use Rattle.fates.proofs.Moved.{tally_for}
@@ -63,6 +59,18 @@ goes_on_lem false t m = ap (λ k. (t + k) % 65536) (omega arith)
 stays_small : (on : Bool) (t : ℕ) → t < 65536 → next on t < 65536
 stays_small true t h = omega arith
 stays_small false t h = h
+
+-- Nothing has been counted at power-up.
+pub none_counted : SixteenBits no_tally
+none_counted = record {
+  offered = omega arith;
+  handed = omega arith;
+  overwritten = omega arith;
+  swallowed = omega arith;
+  cleared = omega arith;
+  planted = omega arith;
+  struck = omega arith;
+}
 
 -- What an effect decides, counted by a fate that has a tally.
 pub count_decided : (x : Fate) → same x waiting ≡ false → (f : Fill) (h : Offer) (n : ℕ) (d : Shape) (bs : List Byte)

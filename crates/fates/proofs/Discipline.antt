@@ -1,31 +1,31 @@
 -- Where the device and the program mind IBF, no input byte is overwritten or swallowed: a read of the port that runs has always found
 -- a byte there.
 -- Rests on Shapes, Tables, SurroundingsKept, Followed, Counted and ReadsRun, on bits' Logic and laws' ChannelPins.
-use mathlib.Core.Path.{◌≡◌, ◌∙◌, refl, ap, sym}
-use mathlib.Core.Bool.{Bool, true, false}
-use mathlib.Core.List.{List, [], ◌∷◌, ◌++◌}
-use Prim.Native.Nat.{ℕ, suc}
-use native.Mathlib.Nat.{zero-add}
+use Rattle.std.proofs.Common.{◌≡◌, ◌∙◌, refl, ap, sym, Bool, true, false, List, [], ◌∷◌, ℕ, suc, zero-add}
 use Rattle.bits.proofs.Logic.{contrary}
 use Rattle.bus.specs.Event.{Event}
 use Rattle.control.specs.declared.Group.{Group}
+use Rattle.control.specs.declared.Group.TheVariants.{A, B}
 use Rattle.chip.specs.declared.channel.Side.TheVariants.{Input}
 use Rattle.chip.specs.declared.channel.Fill.{Fill}
 use Rattle.chip.specs.declared.channel.Fill.TheVariants.{Empty, Waiting, Fetching}
 use Rattle.chip.specs.Channel.{flag_of}
+use Rattle.chip.specs.declared.Edition.{Edition}
 use Rattle.chip.specs.declared.Chip.{Chip}
+use Rattle.chip.specs.declared.Levels.{Levels}
+use Rattle.chip.specs.State.{power_up_as}
 use Rattle.laws.proofs.ChannelPins.{flag_pin_lem}
-use Rattle.fates.specs.Surroundings.{surroundings_next}
+use Rattle.fates.specs.Surroundings.{at_power_up, surroundings_next}
 use Rattle.fates.specs.Effects.{Effect, offered, followed, taken, ended, cleared_away, forced_full, forced_empty, nothing, strobes}
-use Rattle.fates.specs.Bytes.{Fate, overwritten, swallowed, waiting, Offer, offered_at, same, count}
-use Rattle.fates.specs.Promise.{surroundings_of, new_bytes, old_byte}
+use Rattle.fates.specs.Bytes.{Fate, overwritten, swallowed, waiting, Offer, offered_at, bytes_of, same, count}
+use Rattle.fates.specs.Promise.{surroundings_of, all_bytes}
 use Rattle.fates.specs.Discipline.{ibf, strobed_read_runs, HasFound, Minds, Disciplined, NoneLost}
 use Rattle.fates.proofs.Tables.{strobes_same}
 use Rattle.fates.proofs.SurroundingsKept.{surroundings_next_lem}
 use Rattle.fates.proofs.Shapes.{shape_of, fill_after, gives, held_after}
 use Rattle.fates.proofs.Followed.{after, fill, latch, effect_in, shape_in, story_of, next_fill, story_next}
 use Rattle.fates.proofs.Counted.{count_decided, none_yet}
-use Rattle.fates.proofs.ReadsRun.{Reads, reads_next}
+use Rattle.fates.proofs.ReadsRun.{refused, Reads, reads_next}
 
 -- An effect that minds the flag loses no byte, and a read that runs after it has found one.
 record Safe (f : Fill) (r' : Bool) (d : Effect) : Type 0 where
@@ -83,10 +83,20 @@ module _ (g : Group) where
 
   -- From any chip on which a read of the strobed port, if one runs, has found a byte.
   pub disciplined_from : (c : Chip) → HasFound g c → (es : List Event) → Disciplined g (surroundings_of c) c es
-      → NoneLost (old_byte g Input c es ++ new_bytes g Input c es)
+      → NoneLost (all_bytes g Input c es)
   disciplined_from c found es kept =
       let h = offered_at 0 (latch g Input c) in
       record {
         none_overwritten = none_lost_lem overwritten refl (λ c e found minds. (safe c e found minds).not_overwritten) c h 1 es found kept;
         none_swallowed = none_lost_lem swallowed refl (λ c e found minds. (safe c e found minds).not_swallowed) c h 1 es found kept;
       }
+
+-- No read runs at power-up.
+pub no_read : (g : Group) (ed : Edition) (l : Levels) → HasFound g (power_up_as ed l)
+no_read g ed l runs = absurd (refused (strobes 0x9b g Input) runs)
+
+-- The discipline, from power-up.
+pub disciplined : (g : Group) (ed : Edition) (l : Levels) (es : List Event) → Disciplined g (at_power_up ed l) (power_up_as ed l) es
+    → NoneLost (bytes_of g Input ed l es)
+disciplined A ed l es kept = disciplined_from A (power_up_as ed l) (no_read A ed l) es kept
+disciplined B ed l es kept = disciplined_from B (power_up_as ed l) (no_read B ed l) es kept

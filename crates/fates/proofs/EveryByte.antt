@@ -1,10 +1,6 @@
--- What becomes of every byte: the promises of specs/Promise.antt and specs/Discipline.antt, from any chip and from every power-up.
--- Rests on Ordered, Counted, SameByte, InTheLatch, ReadsRun and Discipline.
-use mathlib.Core.Path.{◌≡◌, refl}
-use mathlib.Core.Bool.{Bool, true, false}
-use mathlib.Core.List.{List, ◌++◌}
-use Prim.Native.Nat.{ℕ, ◌≤◌}
-use native.Mathlib.Omega.{arith}
+-- What becomes of every byte: the promise of specs/Promise.antt, from any chip and from every power-up.
+-- Rests on Ordered, Counted, SameByte and InTheLatch.
+use Rattle.std.proofs.Common.{◌≡◌, refl, Bool, true, false, List, ℕ, ◌≤◌, arith}
 use Rattle.bits.specs.Bit.{num}
 use Rattle.bus.specs.Event.{Event}
 use Rattle.control.specs.declared.Group.{Group}
@@ -15,18 +11,14 @@ use Rattle.chip.specs.Channel.{is_waiting}
 use Rattle.chip.specs.declared.Edition.{Edition}
 use Rattle.chip.specs.declared.Chip.{Chip}
 use Rattle.chip.specs.declared.Levels.{Levels}
-use Rattle.chip.specs.State.{no_tally, power_up_as, channel_of, tally_of}
-use Rattle.fates.specs.Surroundings.{at_power_up}
-use Rattle.fates.specs.Effects.{strobes, effects}
-use Rattle.fates.specs.Bytes.{handed_over, overwritten, swallowed, cleared, struck, offered_at, bytes_of}
-use Rattle.fates.specs.Promise.{run, surroundings_of, new_bytes, old_byte, Fates, SixteenBits}
-use Rattle.fates.specs.Discipline.{HasFound, Disciplined, NoneLost}
+use Rattle.chip.specs.State.{power_up_as, channel_of, tally_of}
+use Rattle.fates.specs.Effects.{effects}
+use Rattle.fates.specs.Bytes.{handed_over, overwritten, swallowed, cleared, struck, offered_at}
+use Rattle.fates.specs.Promise.{run, surroundings_of, new_bytes, all_bytes, FatesFrom, FatesFromPowerUp, SixteenBits}
 use Rattle.fates.proofs.Ordered.{story_in_order}
-use Rattle.fates.proofs.Counted.{one_fate_each_lem, offered_or_planted_lem, tally_counts, offered_counts, planted_counts, waits_there}
-use Rattle.fates.proofs.ReadsRun.{refused}
+use Rattle.fates.proofs.Counted.{none_counted, one_fate_each_lem, offered_or_planted_lem, tally_counts, offered_counts, planted_counts, waits_there}
 use Rattle.fates.proofs.SameByte.{as_offered_lem}
 use Rattle.fates.proofs.InTheLatch.{new_held}
-use Rattle.fates.proofs.Discipline.{disciplined_from}
 
 -- What is one or none is at most one.
 at_most : (n : ℕ) (waits : Bool) → n ≡ num waits → n ≤ 1
@@ -35,12 +27,12 @@ at_most n false e = omega (arith, e)
 
 -- From any chip whose tallies have sixteen bits.
 pub fates_from : (g : Group) (s : Side) (c : Chip) → SixteenBits (tally_of c g s) → (es : List Event)
-    → Fates g s c es (tally_of c g s) (new_bytes g s c es) (old_byte g s c es ++ new_bytes g s c es)
+    → FatesFrom g s c es
 fates_from g s c small es =
     let h = offered_at 0 (channel_of c.core g s).latch in
     let waits = waits_there g s c h 1 es in
     record {
-      one_fate_each = one_fate_each_lem (old_byte g s c es ++ new_bytes g s c es);
+      one_fate_each = one_fate_each_lem (all_bytes g s c es);
       at_most_one_waits = at_most _ (is_waiting (channel_of (run c es).core g s).fill) waits;
       waits_in_the_chip = waits;
       held_in_the_latch = new_held g s c es;
@@ -56,31 +48,10 @@ fates_from g s c small es =
       tally_struck = tally_counts g s struck refl c h 1 es small.struck;
     }
 
-pub none_counted : SixteenBits no_tally
-none_counted = record {
-  offered = omega arith;
-  handed = omega arith;
-  overwritten = omega arith;
-  swallowed = omega arith;
-  cleared = omega arith;
-  planted = omega arith;
-  struck = omega arith;
-}
-
 -- From power-up, whatever the edition and the levels: no byte waits there and nothing has been counted.
 pub fates : (g : Group) (s : Side) (ed : Edition) (l : Levels) (es : List Event)
-    → Fates g s (power_up_as ed l) es no_tally (bytes_of g s ed l es) (bytes_of g s ed l es)
+    → FatesFromPowerUp g s ed l es
 fates A Input ed l es = fates_from A Input (power_up_as ed l) none_counted es
 fates A Output ed l es = fates_from A Output (power_up_as ed l) none_counted es
 fates B Input ed l es = fates_from B Input (power_up_as ed l) none_counted es
 fates B Output ed l es = fates_from B Output (power_up_as ed l) none_counted es
-
--- No read runs at power-up.
-pub no_read : (g : Group) (ed : Edition) (l : Levels) → HasFound g (power_up_as ed l)
-no_read g ed l runs = absurd (refused (strobes 0x9b g Input) runs)
-
--- The discipline, from power-up.
-pub disciplined : (g : Group) (ed : Edition) (l : Levels) (es : List Event) → Disciplined g (at_power_up ed l) (power_up_as ed l) es
-    → NoneLost (bytes_of g Input ed l es)
-disciplined A ed l es kept = disciplined_from A (power_up_as ed l) (no_read A ed l) es kept
-disciplined B ed l es kept = disciplined_from B (power_up_as ed l) (no_read B ed l) es kept

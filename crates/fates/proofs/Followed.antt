@@ -1,10 +1,7 @@
 -- One event, followed: the channel's condition, tallies and latch after it, by what the event is to the channel; and the bytes of the
 -- channel from there on.
 -- Rests on Shapes, Story, Moved, SurroundingsKept and Projection.
-use mathlib.Core.Path.{◌≡◌, ◌∙◌, ap}
-use mathlib.Core.Bool.{true, false, ◌||◌}
-use mathlib.Core.List.{List, ◌∷◌, ◌++◌}
-use Prim.Native.Nat.{ℕ, suc}
+use Rattle.std.proofs.Common.{◌≡◌, ◌∙◌, ap, true, false, ◌||◌, List, ◌∷◌, ◌++◌, ℕ, suc}
 use Rattle.bus.specs.Event.{Event}
 use Rattle.control.specs.declared.Group.{Group}
 use Rattle.chip.specs.declared.channel.Side.{Side}
@@ -17,11 +14,12 @@ use Rattle.fates.specs.Surroundings.{surroundings_next}
 use Rattle.fates.specs.Effects.{Effect, effect, effects}
 use Rattle.fates.specs.Bytes.{Fate, waiting, Offer, Byte, same}
 use Rattle.fates.specs.Promise.{surroundings_of, handshake_alone}
+use Rattle.fates.specs.Follows.{clears_now}
 use Rattle.fates.proofs.Shapes.{Shape, shape_of, fill_after, latch_after, is_offer, is_plant, gives, held_after}
 use Rattle.fates.proofs.Story.{story, decided, story_step}
 use Rattle.fates.proofs.Moved.{tally_after, moved_so, tally_for, tally_gives}
 use Rattle.fates.proofs.SurroundingsKept.{surroundings_next_lem}
-use Rattle.fates.proofs.Projection.{clears_now, follows}
+use Rattle.fates.proofs.Projection.{follows}
 
 -- The chip that an event leaves.
 abbrev pub after : Chip → Event → Chip

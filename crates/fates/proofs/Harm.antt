@@ -1,9 +1,6 @@
 -- What the discipline forbids, and the bytes that are lost by it, from every chip.
 -- Rests on Shapes, Moved, Tables, SurroundingsKept and Followed, on bits' Logic and laws' ChannelPins.
-use mathlib.Core.Path.{◌≡◌, ◌∙◌, refl, ap, ap₂, subst}
-use mathlib.Core.Bool.{true, false}
-use mathlib.Core.List.{List, [], ◌∷◌}
-use Prim.Native.Nat.{ℕ}
+use Rattle.std.proofs.Common.{◌≡◌, ◌∙◌, refl, ap, ap₂, subst, true, false, List, [], ◌∷◌, ℕ}
 use Rattle.bits.specs.Bit.{bit_of}
 use Rattle.bits.proofs.Logic.{contrary}
 use Rattle.bus.specs.Event.{Event}

@@ -1,9 +1,6 @@
 -- A byte that waits is in the latch: each byte that still waits at the end of a history has the value that the chip's channel holds then.
--- Rests on Shapes, Story, SurroundingsKept, Projection, Followed and SameByte, and on bits' Logic.
-use mathlib.Core.Path.{◌≡◌, ◌∙◌, refl, ap, sym, subst}
-use mathlib.Core.Bool.{Bool, true, false, cond, ◌||◌}
-use mathlib.Core.List.{List, [], ◌∷◌, ◌++◌}
-use Prim.Native.Nat.{ℕ, suc}
+-- Rests on Shapes, Story, SurroundingsKept, Followed and SameByte, and on bits' Logic.
+use Rattle.std.proofs.Common.{◌≡◌, ◌∙◌, refl, ap, sym, subst, Bool, true, false, cond, ◌||◌, List, [], ◌∷◌, ℕ, suc}
 use Rattle.bits.proofs.Logic.{contrary}
 use Rattle.bus.specs.Event.{Event}
 use Rattle.control.specs.declared.Group.{Group}
@@ -16,11 +13,11 @@ use Rattle.fates.specs.Surroundings.{surroundings_next}
 use Rattle.fates.specs.Effects.{Effect, cleared_away, nothing, strobes, when, own_effect, clears, effect, effects}
 use Rattle.fates.specs.Left.{left}
 use Rattle.fates.specs.Bytes.{waiting, Offer, offered_at, bytes, same}
-use Rattle.fates.specs.Promise.{surroundings_of, new_bytes, old_byte, HeldInTheLatch, WaitsByHandshake}
+use Rattle.fates.specs.Promise.{surroundings_of, new_bytes, all_bytes, HeldInTheLatch, WaitsByHandshake}
+use Rattle.fates.specs.Follows.{clears_now}
 use Rattle.fates.proofs.SurroundingsKept.{surroundings_next_lem}
 use Rattle.fates.proofs.Shapes.{Shape, shape_of, fill_after, is_offer, is_plant, held_after, none_waits}
 use Rattle.fates.proofs.Story.{story, decided_each, bytes_step}
-use Rattle.fates.proofs.Projection.{clears_now}
 use Rattle.fates.proofs.Followed.{after, fill, latch, effect_in, shape_in, story_on}
 use Rattle.fates.proofs.SameByte.{strobed_alone, alone, cleared_now, alone_kept, Holds, holds_next}
 
@@ -107,5 +104,5 @@ module _ (g : Group) (s : Side) where
   new_held c es = coming_held c (fill g s c) (offered_at 0 (latch g s c)) 1 es (λ alone. refl)
 
   -- With the byte that may wait at the start.
-  pub held_from : (c : Chip) → WaitsByHandshake g s c → (es : List Event) → HeldInTheLatch g s c es (old_byte g s c es ++ new_bytes g s c es)
+  pub held_from : (c : Chip) → WaitsByHandshake g s c → (es : List Event) → HeldInTheLatch g s c es (all_bytes g s c es)
   held_from c fills es = held_along c (fill g s c) (offered_at 0 (latch g s c)) 1 es fills (λ alone. refl)

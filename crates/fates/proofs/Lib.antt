@@ -10,6 +10,7 @@ pub mod Projection
 pub mod Followed
 pub mod Ordered
 pub mod Counted
+pub mod Powered
 pub mod Shown
 pub mod SameByte
 pub mod InTheLatch

@@ -1,9 +1,6 @@
 -- The tally of n offers is n modulo 65,536, without writing n of them out.
--- Rests on EveryByte.
-use mathlib.Core.Path.{◌≡◌, ◌∙◌, refl, ap}
-use Prim.Native.Nat.{ℕ, zero, suc, ◌%◌}
-use native.Mathlib.Nat.{zero-add}
-use native.Mathlib.Omega.{arith}
+-- Rests on Powered.
+use Rattle.std.proofs.Common.{◌≡◌, ◌∙◌, refl, ap, ℕ, zero, suc, ◌%◌, zero-add, arith}
 use Rattle.bits.specs.Bit.{bit_of}
 use Rattle.bus.specs.declared.Phase.TheVariants.{Idle}
 use Rattle.control.specs.declared.Group.TheVariants.{A}
@@ -19,7 +16,7 @@ use Rattle.fates.specs.Left.{left}
 use Rattle.fates.specs.Bytes.{bytes, offered_among}
 use Rattle.fates.specs.Promise.{run}
 use Rattle.fates.specs.Examples.{times, strobed_times}
-use Rattle.fates.proofs.EveryByte.{fates}
+use Rattle.fates.proofs.Powered.{offered_since}
 
 -- Port A in mode 1, an input, with the levels x on its lines and every line of port C high.
 abbrev strobing : Edition → ℕ → Surroundings
@@ -32,7 +29,7 @@ offers_of ed (suc n) v k x f l = let rest = offers_of ed n v (suc (suc (suc k)))
 
 pub many_offers : (ed : Edition) (n v : ℕ) → (tally_of (run (power_up_as ed all_high) (strobed_times n v)) A Input).offered ≡ n % 65536
 unfolding bit_of
-many_offers ed n v = (fates A Input ed all_high (strobed_times n v)).tally_offered ∙ ap (λ k. k % 65536) (zero-add _ ∙ offers_of ed n v 3 0xff Empty 0)
+many_offers ed n v = offered_since ed all_high (strobed_times n v) A Input ∙ ap (λ k. k % 65536) (zero-add _ ∙ offers_of ed n v 3 0xff Empty 0)
 
 pub seventy_thousand : (ed : Edition) → (tally_of (run (power_up_as ed all_high) (strobed_times 70000 0x41)) A Input).offered ≡ 4464
 seventy_thousand ed = many_offers ed 70000 0x41

@@ -1,8 +1,6 @@
 -- What an effect does to the chip's channel is what the table of Shapes says: to its condition, its latch and its tallies.
 -- Rests on Shapes and on chip's ConditionsLeft.
-use mathlib.Core.Path.{◌≡◌, ◌∙◌, refl}
-use mathlib.Core.Bool.{false}
-use Prim.Native.Nat.{ℕ}
+use Rattle.std.proofs.Common.{◌≡◌, ◌∙◌, refl, false, ℕ}
 use Rattle.chip.specs.declared.channel.Side.{Side}
 use Rattle.chip.specs.declared.channel.Side.TheVariants.{Input, Output}
 use Rattle.chip.specs.declared.channel.Fill.{Fill}
@@ -10,28 +8,13 @@ use Rattle.chip.specs.declared.channel.Fill.TheVariants.{Empty, Waiting, Fetchin
 use Rattle.chip.specs.declared.channel.Tally.{Tally}
 use Rattle.chip.specs.declared.channel.Channel.{Channel}
 use Rattle.chip.specs.Channel.{has_room, next}
-use Rattle.chip.specs.Moves.{after_offer, after_follow, after_hand_over, after_end_read, after_clear, after_plant, after_strike}
+use Rattle.chip.specs.Moves.{after_offer, after_follow, after_end_read, after_clear}
 use Rattle.chip.proofs.ConditionsLeft.{leaves, hand_over_leaves, hand_over_keeps, hand_over_counts, plants, planted_so, struck_so}
 use Rattle.fates.specs.Effects.{Effect, offered, followed, taken, ended, cleared_away, forced_full, forced_empty, nothing}
 use Rattle.fates.specs.Left.{room_in, after_taken, after_forced_full, after_forced_empty}
 use Rattle.fates.specs.Bytes.{Fate, handed_over, overwritten, swallowed, cleared, struck, waiting, same}
+use Rattle.fates.specs.Follows.{emptied, moved}
 use Rattle.fates.proofs.Shapes.{Shape, shape_of, fill_after, latch_after, is_offer, is_plant, gives}
-
--- What a channel is left in when its byte is taken.
-abbrev pub emptied : Side → Fill
-emptied Input = Fetching
-emptied Output = Empty
-
--- The channel's own moves, by effect.
-abbrev pub moved : Side → Channel → Effect → Channel
-moved s ch (offered v) = after_offer ch v
-moved s ch (followed v) = after_follow ch v
-moved s ch taken = after_hand_over ch (emptied s)
-moved s ch ended = after_end_read ch
-moved s ch cleared_away = after_clear ch
-moved s ch forced_full = after_plant s ch
-moved s ch forced_empty = after_strike ch
-moved s ch nothing = ch
 
 -- The tallies after an effect: that of the fate that it gives has gone on, and those of the offers and of what is planted where it brings a byte.
 abbrev pub tally_after : Side → Fill → Shape → Tally → Tally

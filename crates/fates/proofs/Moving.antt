@@ -1,8 +1,7 @@
 -- A channel that moves as an effect says: the shapes in which the step's rules say it, beside the effects of the history.
--- Rests on Moved and on bits' Logic.
-use mathlib.Core.Path.{◌≡◌, ◌∙◌, refl, ap}
-use mathlib.Core.Bool.{Bool, true, false, cond, ◌&&◌, and-false}
-use Prim.Native.Nat.{ℕ}
+-- Rests on bits' Logic.
+use Rattle.std.proofs.Common.{◌≡◌, ◌∙◌, refl, ap, Bool, true, false, cond, ◌&&◌, ℕ}
+use mathlib.Core.Bool.{and-false}
 use Rattle.bits.proofs.Logic.{contrary}
 use Rattle.chip.specs.declared.channel.Side.{Side}
 use Rattle.chip.specs.declared.channel.Side.TheVariants.{Input, Output}
@@ -10,7 +9,7 @@ use Rattle.chip.specs.declared.channel.Channel.{Channel}
 use Rattle.chip.specs.Moves.{after_force}
 use Rattle.chip.specs.Write.{stored_in}
 use Rattle.fates.specs.Effects.{Effect, offered, forced_full, forced_empty, nothing, says_full, when}
-use Rattle.fates.proofs.Moved.{moved}
+use Rattle.fates.specs.Follows.{moved}
 
 -- The channel ch' is as ch says, and its latch too where it is sure: a port that is a plain output has its latch written and no byte offered.
 pub record Goes (sure : Bool) (ch' ch : Channel) : Type 0 where

@@ -1,11 +1,7 @@
 -- A line that is low at power-up makes no fall until an event has raised it: up to then STB brings in no byte, and ACK takes none.
--- Rests on Shapes, Story, Counted, Shown and EveryByte, and on bits' Logic.
-use mathlib.Core.Path.{◌≡◌, ◌∙◌, refl, ap}
-use mathlib.Core.Bool.{Bool, true, false, cond, ◌&&◌, and-false}
-use mathlib.Core.List.{List, [], ◌∷◌}
-use Prim.Native.Nat.{ℕ, suc}
-use native.Mathlib.Nat.{zero-add}
-use lib.Dec.{eqb}
+-- Rests on Shapes, Story, Counted, Shown and Powered, and on bits' Logic.
+use Rattle.std.proofs.Common.{◌≡◌, ◌∙◌, refl, ap, Bool, true, false, cond, ◌&&◌, List, [], ◌∷◌, ℕ, suc, zero-add, eqb}
+use mathlib.Core.Bool.{and-false}
 use Rattle.bits.specs.Bit.{bit_of}
 use Rattle.bits.proofs.Logic.{either_way}
 use Rattle.bus.specs.Event.{Event}
@@ -16,19 +12,18 @@ use Rattle.chip.specs.declared.channel.Fill.{Fill}
 use Rattle.chip.specs.declared.channel.Fill.TheVariants.{Empty}
 use Rattle.chip.specs.declared.Edition.{Edition}
 use Rattle.chip.specs.declared.Levels.{Levels}
-use Rattle.chip.specs.State.{power_up_as}
 use Rattle.fates.specs.Kinds.{Kind, reset, cycle_ended, unknown, read_begun, write_begun, new_levels, kind_of, accepts}
 use Rattle.fates.specs.Surroundings.{Surroundings, brought, levels_after, surroundings_after, surroundings_next, at_power_up}
 use Rattle.fates.specs.Effects.{Effect, offered, followed, taken, ended, cleared_away, forced_full, forced_empty, nothing, port_number, strobe_pin, full_pin, strobes, read_runs, write_runs, of_pin, says_full, when, own_effect, clears, effect_of, effect, effects}
 use Rattle.fates.specs.Left.{left}
-use Rattle.fates.specs.Bytes.{handed_over, Offer, offered_at, bytes, bytes_of, offered_among, count}
-use Rattle.fates.specs.Promise.{tallies}
+use Rattle.fates.specs.Bytes.{handed_over, Offer, offered_at, bytes, offered_among, count}
+use Rattle.fates.specs.Promise.{NoneOffered, NoneHandedOver}
 use Rattle.fates.specs.Raised.{raises, NeverRaised}
 use Rattle.fates.proofs.Shapes.{shape_of, fill_after, is_offer, held_after}
 use Rattle.fates.proofs.Story.{story, story_step, offers_counted}
 use Rattle.fates.proofs.Counted.{count_decided, none_yet}
 use Rattle.fates.proofs.Shown.{takes}
-use Rattle.fates.proofs.EveryByte.{fates}
+use Rattle.fates.proofs.Powered.{offered_since, handed_since}
 
 -- What the line of a channel does: STB offers, and ACK takes.
 abbrev by_line : Side → Effect → Bool
@@ -124,14 +119,14 @@ none_handed f h n (d ∷ ds) still =
 
 -- From a power-up that finds the line low, and as long as no event raises it: STB has brought in no byte, and the chip counts none;
 pub low_offers_nothing : (g : Group) (ed : Edition) (l : Levels) (es : List Event) → bit_of l.c (strobe_pin g Input) ≡ false → NeverRaised (strobe_pin g Input) es
-    → (offered_among (bytes_of g Input ed l es) ≡ 0) × ((tallies g Input (power_up_as ed l) es).offered ≡ 0)
+    → NoneOffered g ed l es
 low_offers_nothing g ed l es low kept =
     let none = none_offered_lem Empty (offered_at 0 0) 1 (effects g Input (at_power_up ed l) es) (effects_unmoved g Input (at_power_up ed l) es low kept) in
-    (none, (fates g Input ed l es).tally_offered ∙ rw (none))
+    record { by_events = none; by_tally = offered_since ed l es g Input ∙ rw (none) }
 
 -- ACK has taken none of those that were written, and the chip counts none.
 pub low_takes_nothing : (g : Group) (ed : Edition) (l : Levels) (es : List Event) → bit_of l.c (strobe_pin g Output) ≡ false → NeverRaised (strobe_pin g Output) es
-    → (count handed_over (bytes_of g Output ed l es) ≡ 0) × ((tallies g Output (power_up_as ed l) es).handed ≡ 0)
+    → NoneHandedOver g ed l es
 low_takes_nothing g ed l es low kept =
     let none = none_handed Empty (offered_at 0 0) 1 (effects g Output (at_power_up ed l) es) (effects_unmoved g Output (at_power_up ed l) es low kept) in
-    (none, (fates g Output ed l es).tally_handed ∙ rw (none))
+    record { by_events = none; by_tally = handed_since ed l es g Output ∙ rw (none) }

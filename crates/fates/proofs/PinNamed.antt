@@ -1,9 +1,6 @@
 -- The pin that a bit set/reset word names, by its bits and by division.
 -- Rests on bits' Tested.
-use mathlib.Core.Path.{◌≡◌}
-use Prim.Native.Nat.{ℕ, ◌+◌, ◌*◌, ◌/◌, ◌%◌, ◌<◌}
-use native.Mathlib.Omega.{arith}
-use lib.Dec.{eqb}
+use Rattle.std.proofs.Common.{◌≡◌, ℕ, ◌+◌, ◌*◌, ◌/◌, ◌%◌, ◌<◌, arith, eqb}
 use Rattle.bits.specs.Bit.{bit_of, num}
 use Rattle.bits.proofs.Tested.{numbers}
 use Rattle.fates.specs.Effects.{pin_named}

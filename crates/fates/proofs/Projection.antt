@@ -1,11 +1,9 @@
 -- Each channel of the chip moves as its own history says: what an event is to the channel, in the history's words, is what the step
 -- does to it. One lemma over the four channels.
--- Rests on PinNamed, Tables, Accepted, Moved, Moving, the bus's ByKind, control's Strobed, and chip's OnPort, Surrounded, SettingsAfter,
+-- Rests on PinNamed, Tables, Accepted, Moving, the bus's ByKind, control's Strobed, and chip's OnPort, Surrounded, SettingsAfter,
 -- ReadsAfter, WritesAfter and LevelsAfter.
-use mathlib.Core.Path.{◌≡◌, ◌∙◌, refl, ap, sym}
-use mathlib.Core.Bool.{Bool, true, false, not, ◌&&◌, ◌||◌, or-false}
-use Prim.Native.Nat.{ℕ, ◌/◌, ◌%◌}
-use lib.Dec.{eqb}
+use Rattle.std.proofs.Common.{◌≡◌, ◌∙◌, refl, ap, sym, Bool, true, false, not, ◌&&◌, ◌||◌, ℕ, ◌/◌, ◌%◌, eqb}
+use mathlib.Core.Bool.{or-false}
 use Rattle.bits.specs.Bit.{bit_of}
 use Rattle.bus.proofs.ByKind.{by_kind}
 use Rattle.bus.specs.Event.{Event, event}
@@ -34,13 +32,12 @@ use Rattle.chip.specs.Levels.{fallen, after_levels}
 use Rattle.chip.proofs.LevelsAfter.{levels_input, levels_output}
 use Rattle.chip.specs.Step.{device, on_bus, after_end, stepped}
 use Rattle.fates.specs.Kinds.{Kind, read_begun, cycle_ended, new_levels, kind_of, accepts}
-use Rattle.fates.specs.Surroundings.{Surroundings}
 use Rattle.fates.specs.Effects.{offered, followed, taken, ended, nothing, levels_on, strobes, when, own_effect, clears, effect_of, effect}
 use Rattle.fates.specs.Promise.{surroundings_of, handshake_alone}
+use Rattle.fates.specs.Follows.{moved, clears_now}
 use Rattle.fates.proofs.PinNamed.{pin_same}
 use Rattle.fates.proofs.Tables.{own_same, line_same, full_same, strobes_same}
 use Rattle.fates.proofs.Accepted.{no_kind_accepted, by_outcome}
-use Rattle.fates.proofs.Moved.{moved}
 use Rattle.fates.proofs.Moving.{Goes, goes, at_rest, moves, forcing, levelling, writing}
 
 module _ (ed : Edition) (c : Core) (g : Group) where
@@ -129,10 +126,6 @@ module _ (ed : Edition) (c : Core) (g : Group) where
       (goes
       (levelling Output (channel_of c g Output) taken nothing (eqb x 2) (strobed_output c.word g) (fallen c.c.outside d (line_pin g Output))
       false false))
-
--- An event is accepted and clears every channel.
-abbrev pub clears_now : Surroundings → Event → Bool
-clears_now a e = accepts a.edition a.phase (kind_of e) && clears a.phase (kind_of e)
 
 module _ (c : Chip) (g : Group) (s : Side) where
   abbrev Follows : Event → Type 0

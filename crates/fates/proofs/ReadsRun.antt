@@ -1,9 +1,7 @@
 -- Reads of a strobed port run from the effect that takes a byte to the one that ends the read: from the history alone.
 -- Rests on bits' Logic.
-use mathlib.Core.Path.{◌≡◌, refl}
-use mathlib.Core.Bool.{Bool, true, false, cond, ◌&&◌, and-false}
-use Prim.Native.Nat.{ℕ}
-use lib.Dec.{ltb, eqb}
+use Rattle.std.proofs.Common.{◌≡◌, refl, Bool, true, false, cond, ◌&&◌, ℕ, ltb, eqb}
+use mathlib.Core.Bool.{and-false}
 use Rattle.bits.specs.Bit.{bit_of}
 use Rattle.bits.proofs.Logic.{contrary}
 use Rattle.bus.specs.Event.{Event}

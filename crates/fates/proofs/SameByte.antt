@@ -1,12 +1,8 @@
 -- Each byte handed over is the byte offered or planted: where the handshake alone fills the latch, the latch has the value that the history
 -- works out, and what takes a byte shows the latch.
--- Rests on Shapes, Story, SurroundingsKept, Projection, Followed and Shown, and on bits' Logic.
-use mathlib.Core.Path.{◌≡◌, ◌∙◌, refl, ap, sym, subst}
-use mathlib.Core.Bool.{Bool, true, false, cond, ◌&&◌, or-true}
-use mathlib.Core.List.{List, [], ◌∷◌}
-use Prim.Native.Nat.{ℕ, suc, ◌+◌}
-use native.Mathlib.Omega.{arith}
-use lib.Dec.{T}
+-- Rests on Shapes, Story, SurroundingsKept, Followed and Shown, and on bits' Logic.
+use Rattle.std.proofs.Common.{◌≡◌, ◌∙◌, refl, ap, sym, subst, Bool, true, false, cond, ◌&&◌, List, [], ◌∷◌, ℕ, suc, ◌+◌, arith, T}
+use mathlib.Core.Bool.{or-true}
 use Rattle.bits.proofs.Logic.{contrary, both}
 use Rattle.bus.specs.Event.{Event}
 use Rattle.bus.specs.declared.Phase.{Phase}
@@ -21,10 +17,10 @@ use Rattle.fates.specs.Surroundings.{Surroundings, word_after, surroundings_afte
 use Rattle.fates.specs.Effects.{cleared_away, strobes, clears, effect}
 use Rattle.fates.specs.Bytes.{handed_over, Offer, offered_at, Byte, same}
 use Rattle.fates.specs.Promise.{surroundings_of, Each, Shows, ShownAt, handshake_alone}
+use Rattle.fates.specs.Follows.{clears_now}
 use Rattle.fates.proofs.Shapes.{fate_by, latch_after, held_after, held_latch}
 use Rattle.fates.proofs.Story.{story, decided_each}
 use Rattle.fates.proofs.SurroundingsKept.{surroundings_next_lem}
-use Rattle.fates.proofs.Projection.{clears_now}
 use Rattle.fates.proofs.Followed.{after, fill, latch, shape_in, story_of, next_latch, story_next}
 use Rattle.fates.proofs.Shown.{taken_shows}
 

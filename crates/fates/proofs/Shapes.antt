@@ -1,9 +1,7 @@
 -- What an effect does, in one table: the fate that it gives a byte that waits, the byte that it brings, and what it leaves of the channel's
 -- condition and latch. An effect has one of four shapes, and the theorems go by the shape: one more effect is one more row.
 -- Rests on bits' Logic.
-use mathlib.Core.Path.{◌≡◌, refl, subst}
-use mathlib.Core.Bool.{Bool, true, false, cond, ◌&&◌}
-use Prim.Native.Nat.{ℕ}
+use Rattle.std.proofs.Common.{◌≡◌, refl, subst, Bool, true, false, cond, ◌&&◌, ℕ}
 use Rattle.bits.proofs.Logic.{either_way}
 use Rattle.chip.specs.declared.channel.Side.{Side}
 use Rattle.chip.specs.declared.channel.Side.TheVariants.{Input, Output}

@@ -2,10 +2,7 @@
 -- with it.
 -- Rests on Tables, Accepted, Shapes, Followed, bits' Logic, the bus's ByKind, chip's LevelsAfter, Strobed and Outcome, and laws' OwnPort
 -- and Falls.
-use mathlib.Core.Path.{◌≡◌, ◌∙◌, refl, ap, sym, subst}
-use mathlib.Core.Bool.{Bool, true, false, cond}
-use Prim.Native.Nat.{ℕ}
-use lib.Dec.{T, eqb}
+use Rattle.std.proofs.Common.{◌≡◌, ◌∙◌, refl, ap, sym, subst, Bool, true, false, cond, ℕ, T, eqb}
 use borrow.Author.Tests.{not-true}
 use Rattle.bits.specs.Bit.{bit_of}
 use Rattle.bits.proofs.Logic.{both}

@@ -1,10 +1,6 @@
 -- No byte is lost exactly where each has one of the other four fates.
 -- Rests on nothing.
-use mathlib.Core.Path.{◌≡◌, refl}
-use mathlib.Core.List.{List, [], ◌∷◌}
-use Prim.Native.Nat.{ℕ, ◌+◌}
-use native.Mathlib.Omega.{arith}
-use Rattle.std.specs.Prelude.{◌↔◌}
+use Rattle.std.proofs.Common.{◌≡◌, refl, List, [], ◌∷◌, ℕ, ◌+◌, arith, ◌↔◌}
 use Rattle.bits.specs.Bit.{num}
 use Rattle.fates.specs.Bytes.{Fate, handed_over, overwritten, swallowed, cleared, struck, waiting, Byte, same}
 use Rattle.fates.specs.Promise.{Each}

@@ -1,11 +1,7 @@
 -- A channel's condition and the byte that it holds, followed from effect to effect, beside the fates, which look ahead in the list.
 -- Rests on Shapes.
-use mathlib.Core.Path.{◌≡◌, refl}
-use mathlib.Core.Bool.{false, cond, ◌||◌, and-false}
-use mathlib.Core.List.{List, [], ◌∷◌, ◌++◌}
-use Prim.Native.Nat.{ℕ, suc, ◌+◌}
-use native.Mathlib.Omega.{arith}
-use lib.ListN.{length}
+use Rattle.std.proofs.Common.{◌≡◌, refl, false, cond, ◌||◌, List, [], ◌∷◌, ◌++◌, ℕ, suc, ◌+◌, arith, length}
+use mathlib.Core.Bool.{and-false}
 use Rattle.bits.specs.Bit.{num}
 use Rattle.chip.specs.declared.channel.Side.{Side}
 use Rattle.chip.specs.declared.channel.Side.TheVariants.{Input, Output}

@@ -1,8 +1,6 @@
 -- The chip's bus phase, edition, mode word and outside levels are those that the history works out for itself.
 -- Rests on Accepted, the bus's ByKind, and chip's Surrounded, SettingsAfter, ReadsAfter, WritesAfter and LevelsAfter.
-use mathlib.Core.Path.{◌≡◌, refl}
-use mathlib.Core.Bool.{true, cond}
-use Prim.Native.Nat.{ℕ}
+use Rattle.std.proofs.Common.{◌≡◌, refl, true, cond, ℕ}
 use Rattle.bus.proofs.ByKind.{by_kind}
 use Rattle.bus.specs.Event.{Event, event}
 use Rattle.bus.specs.Device.{after_in}

@@ -1,9 +1,6 @@
 -- The history's table of the four channels is the chip's: the same port, the same pins, and strobed under the same mode words.
 -- Rests on control's ByBits.
-use mathlib.Core.Path.{◌≡◌, refl, sym}
-use mathlib.Core.Bool.{true}
-use Prim.Native.Nat.{ℕ}
-use lib.Dec.{eqb}
+use Rattle.std.proofs.Common.{◌≡◌, refl, sym, true, ℕ, eqb}
 use Rattle.control.specs.declared.Group.{Group}
 use Rattle.control.specs.declared.Group.TheVariants.{A, B}
 use Rattle.control.proofs.ByBits.{a_takes, a_gives, b_takes, b_gives}

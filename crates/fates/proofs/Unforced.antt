@@ -1,10 +1,6 @@
 -- Where no program forces a flag, no byte is planted and none is struck: from any chip, and from every power-up.
 -- Rests on Shapes, Story and Counted.
-use mathlib.Core.Path.{◌≡◌, ◌∙◌, refl, ap}
-use mathlib.Core.Bool.{false}
-use mathlib.Core.List.{List, [], ◌∷◌, ◌++◌}
-use Prim.Native.Nat.{ℕ, suc}
-use native.Mathlib.Nat.{zero-add}
+use Rattle.std.proofs.Common.{◌≡◌, ◌∙◌, refl, ap, false, List, [], ◌∷◌, ℕ, suc, zero-add}
 use Rattle.bus.specs.Event.{Event}
 use Rattle.control.specs.declared.Group.{Group}
 use Rattle.chip.specs.declared.channel.Side.{Side}
@@ -18,7 +14,7 @@ use Rattle.fates.specs.Surroundings.{Surroundings, at_power_up, surroundings_nex
 use Rattle.fates.specs.Effects.{Effect, offered, followed, taken, ended, cleared_away, forced_full, forced_empty, nothing, effect, effects}
 use Rattle.fates.specs.Left.{left}
 use Rattle.fates.specs.Bytes.{struck, Offer, offered_at, bytes, bytes_of, planted_among, count}
-use Rattle.fates.specs.Promise.{surroundings_of, new_bytes, old_byte}
+use Rattle.fates.specs.Promise.{surroundings_of, new_bytes, all_bytes}
 use Rattle.fates.specs.Discipline.{Unforced, NeverForced, NoneForced}
 use Rattle.fates.proofs.Shapes.{shape_of, fill_after, is_plant, gives, held_after}
 use Rattle.fates.proofs.Story.{story, story_step, plants_counted}
@@ -66,7 +62,7 @@ module _ (g : Group) (s : Side) where
       (zero-add _ ∙ none_struck_lem (surroundings_next a e) (fill_after s f d) (held_after s f h n d) (suc n) es free.1)
 
   -- From any chip.
-  pub unforced_from : (c : Chip) (es : List Event) → NeverForced g s (surroundings_of c) es → NoneForced (new_bytes g s c es) (old_byte g s c es ++ new_bytes g s c es)
+  pub unforced_from : (c : Chip) (es : List Event) → NeverForced g s (surroundings_of c) es → NoneForced (new_bytes g s c es) (all_bytes g s c es)
   unforced_from c es free =
       let ch = channel_of c.core g s in
       record {

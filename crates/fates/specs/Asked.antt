@@ -41,8 +41,8 @@ one_handed_over = record { offered = 1; handed = 1; overwritten = 0; swallowed =
 abbrev pub none_offered : Tally
 none_offered = record { offered = 0; handed = 0; overwritten = 0; swallowed = 0; cleared = 0; planted = 0; struck = 0 }
 
--- In the one levels come onto port A while STB is low and IBF is high, and the byte that was offered has them. In the other reads begin in mode 0 while
--- pin 5 is low, and there are no bytes. Both keep to the discipline. No byte is lost, by the events and by the chip's tallies.
+-- In the one levels come onto port A while STB is low and IBF is high, and the byte that was offered has them. In the other reads begin in mode
+-- 0 while pin 5 is low, and there are no bytes. Both keep to the discipline. No byte is lost, by the events and by the chip's tallies.
 pub record AsksNoMore : Type 0 where
   pub ibf_is_high : bit_of (pins_of (after strobed_early) 2).levels 5 ≡ true
   pub late_levels_kept : Disciplined A (at_power_up Older all_high) (power_up_with all_high) settles_late

@@ -30,6 +30,15 @@ example l es g s bs = record { start = l; history = es; group = g; side = s; sai
 abbrev pub bytes_in : Edition → Example → List Byte
 bytes_in ed x = bytes_of x.group x.side ed x.start x.history
 
+-- The bytes that the definitions find in each example, and those that it says.
+abbrev pub found_in : Edition → List Example → List (List Byte)
+found_in ed [] = []
+found_in ed (x ∷ xs) = bytes_in ed x ∷ found_in ed xs
+
+abbrev pub said_of : List Example → List (List Byte)
+said_of [] = []
+said_of (x ∷ xs) = x.said ∷ said_of xs
+
 -- The byte v, offered at place n and decided at place m.
 infixl 70 ◌at◌is◌at◌
 abbrev pub ◌at◌is◌at◌ : ℕ → ℕ → Fate → ℕ → Byte

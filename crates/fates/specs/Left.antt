@@ -1,5 +1,5 @@
--- What the effects leave in a channel, one after the other: its condition, and what its latch holds ("State", "Handshake", "Forcing the flags"). A byte
--- that is planted needs both: it comes where there is room, with the latch's value.
+-- What the effects leave in a channel, one after the other: its condition, and what its latch holds ("State", "Handshake", "Forcing the flags").
+-- A byte that is planted needs both: it comes where there is room, with the latch's value.
 use Rattle.std.specs.Prelude.{Bool, true, false, ℕ}
 use Rattle.chip.specs.declared.channel.Side.{Side}
 use Rattle.chip.specs.declared.channel.Side.TheVariants.{Input, Output}

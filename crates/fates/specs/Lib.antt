@@ -5,10 +5,12 @@ pub mod Left
 pub mod Bytes
 pub mod Raised
 pub mod Promise
+pub mod Follows
 pub mod Discipline
 pub mod ScriptRun
 pub mod Examples
 pub mod Numbers
 pub mod Spared
 pub mod Asked
+pub mod Kept
 pub mod Harm

@@ -1,5 +1,5 @@
 -- What is promised of the chip, its tallies, its answers and its pins, by the bytes of each channel over a history.
-use Rattle.std.specs.Prelude.{◌≡◌, Bool, true, List, [], ◌∷◌, ℕ, zero, suc, ◌+◌, ◌%◌, ◌<◌, ◌≤◌, length}
+use Rattle.std.specs.Prelude.{◌≡◌, Bool, true, List, [], ◌∷◌, ◌++◌, ℕ, zero, suc, ◌+◌, ◌%◌, ◌<◌, ◌≤◌, length}
 use Rattle.bits.specs.Bit.{num}
 use Rattle.bus.specs.Event.{Event}
 use Rattle.control.specs.declared.Group.{Group}
@@ -9,14 +9,16 @@ use Rattle.chip.specs.declared.channel.Fill.{Fill}
 use Rattle.chip.specs.declared.channel.Fill.TheVariants.{Empty, Waiting, Fetching}
 use Rattle.chip.specs.declared.channel.Tally.{Tally}
 use Rattle.chip.specs.Channel.{is_waiting}
+use Rattle.chip.specs.declared.Edition.{Edition}
+use Rattle.chip.specs.declared.Levels.{Levels}
 use Rattle.chip.specs.declared.Chip.{Chip}
-use Rattle.chip.specs.State.{channel_of, tally_of}
+use Rattle.chip.specs.State.{no_tally, power_up_as, channel_of, tally_of}
 use Rattle.chip.specs.Pins.{pins_of}
 use Rattle.chip.specs.Step.{stepped}
 use Rattle.fates.specs.Surroundings.{Surroundings}
 use Rattle.fates.specs.Effects.{Effect, port_number, strobes, effects}
 use Rattle.fates.specs.Left.{Left, left}
-use Rattle.fates.specs.Bytes.{handed_over, overwritten, swallowed, cleared, struck, waiting, Byte, Offer, offered_at, with_fate, bytes, planted_among, offered_among, count}
+use Rattle.fates.specs.Bytes.{handed_over, overwritten, swallowed, cleared, struck, waiting, Byte, Offer, offered_at, with_fate, bytes, bytes_of, planted_among, offered_among, count}
 
 -- The chip after a history: each event meets the chip that the one before it left.
 abbrev pub run : Chip → List Event → Chip
@@ -56,6 +58,10 @@ held_byte Fetching o n later = []
 abbrev pub old_byte : Group → Side → Chip → List Event → List Byte
 old_byte g s c es =
     held_byte (channel_of c.core g s).fill (offered_at 0 (channel_of c.core g s).latch) 1 (effects g s (surroundings_of c) es)
+
+-- All bytes of a history that begins there: the one that waited, if any, and those that came since.
+abbrev pub all_bytes : Group → Side → Chip → List Event → List Byte
+all_bytes g s c es = old_byte g s c es ++ new_bytes g s c es
 
 -- Something that holds of each byte.
 abbrev pub Each : (Byte → Type 0) → List Byte → Type 0
@@ -116,11 +122,33 @@ pub record Fates (g : Group) (s : Side) (c : Chip) (es : List Event) (start : Ta
   pub tally_planted : (tallies g s c es).planted ≡ (start.planted + planted_among new) % 65536
   pub tally_struck : (tallies g s c es).struck ≡ (start.struck + count struck all) % 65536
 
+-- From a power-up of this edition under these levels nothing has been counted, and no byte waits.
+abbrev pub FatesFromPowerUp : Group → Side → Edition → Levels → List Event → Type 0
+FatesFromPowerUp g s ed l es = Fates g s (power_up_as ed l) es no_tally (bytes_of g s ed l es) (bytes_of g s ed l es)
+
+-- From any chip the counts go on from its tallies, and a byte that waits in it is among all bytes.
+abbrev pub FatesFrom : Group → Side → Chip → List Event → Type 0
+FatesFrom g s c es = Fates g s c es (tally_of c g s) (new_bytes g s c es) (all_bytes g s c es)
+
 -- A channel's tallies balance: what was offered or planted is what was handed over, overwritten, swallowed, cleared and struck, and the byte
 -- that may still wait; as far as tallies tell, which begin again after 65,535.
 abbrev pub Balanced : Tally → Fill → Type 0
 Balanced t f =
     (t.offered + t.planted) % 65536 ≡ (t.handed + t.overwritten + t.swallowed + t.cleared + t.struck + num (is_waiting f)) % 65536
+
+-- They balance after the events es from the chip c.
+abbrev pub BalancedAfter : Group → Side → Chip → List Event → Type 0
+BalancedAfter g s c es = Balanced (tallies g s c es) (channel_of (run c es).core g s).fill
+
+-- From a power-up of this edition under these levels no byte was offered to the group's input, by the events and by the chip's tally.
+pub record NoneOffered (g : Group) (ed : Edition) (l : Levels) (es : List Event) : Type 0 where
+  pub by_events : offered_among (bytes_of g Input ed l es) ≡ 0
+  pub by_tally : (tallies g Input (power_up_as ed l) es).offered ≡ 0
+
+-- None of those that were written to its output was handed over.
+pub record NoneHandedOver (g : Group) (ed : Edition) (l : Levels) (es : List Event) : Type 0 where
+  pub by_events : count handed_over (bytes_of g Output ed l es) ≡ 0
+  pub by_tally : (tallies g Output (power_up_as ed l) es).handed ≡ 0
 
 -- Tallies of sixteen bits, as the type makes them.
 pub record SixteenBits (t : Tally) : Type 0 where

@@ -1,5 +1,5 @@
--- What surrounds a channel, worked out from the events alone: the bus phase, the mode word and the levels outside ("State"), for a chip whose edition is
--- named.
+-- What surrounds a channel, worked out from the events alone: the bus phase, the mode word and the levels outside ("State"), for a chip whose
+-- edition is named.
 use Rattle.std.specs.Prelude.{Bool, false, cond, ◌&&◌, List, [], ◌∷◌, ℕ, eqb}
 use Rattle.bits.specs.Bit.{bit_of}
 use Rattle.bus.specs.Event.{Event}

@@ -1,8 +1,6 @@
 -- Without the other group's events a history is the same to a group: it leaves the same of it, and gives its channels the same bytes.
 -- Rests on Alike, Seen, Bus, Beside, ByHistory, Heard, Effects, bits' Logic, and fates' SurroundingsKept.
-use mathlib.Core.Path.{◌≡◌, ◌∙◌, refl, ap, sym}
-use mathlib.Core.Bool.{true, false, not}
-use mathlib.Core.List.{List, ◌∷◌}
+use Rattle.std.proofs.Common.{◌≡◌, ◌∙◌, refl, ap, sym, true, false, not, List, ◌∷◌}
 use borrow.Author.Tests.{not-true}
 use Rattle.bits.proofs.Logic.{both}
 use Rattle.bus.specs.Event.{Event}

@@ -1,9 +1,7 @@
 -- A chip without the other group's events beside the chip with them: events keep them alike in what belongs to the group.
 -- Rests on Alike, OneEvent, Together, Bus, bits' Logic, the bus's ByKind, laws' Editions and Interrupts, and fates' Accepted and
 -- SurroundingsKept.
-use mathlib.Core.Path.{◌≡◌, ◌∙◌, refl, ap, sym, subst}
-use mathlib.Core.Bool.{Bool, true, false, cond}
-use Prim.Native.Nat.{ℕ}
+use Rattle.std.proofs.Common.{◌≡◌, ◌∙◌, refl, ap, sym, subst, Bool, true, false, cond, ℕ}
 use Rattle.bits.proofs.Logic.{contrary}
 use Rattle.bus.specs.Event.{Event, event}
 use Rattle.bus.proofs.ByKind.{by_kind}

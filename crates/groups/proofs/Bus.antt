@@ -1,8 +1,6 @@
 -- The bus of a history beside that of the same history without one group's events, from the events alone.
 -- Rests on bits' Logic.
-use mathlib.Core.Path.{◌≡◌, ◌∙◌, refl}
-use mathlib.Core.Bool.{Bool, true, false, cond, not, ◌&&◌}
-use lib.Dec.{ltb}
+use Rattle.std.proofs.Common.{◌≡◌, ◌∙◌, refl, Bool, true, false, cond, not, ◌&&◌, ltb}
 use Rattle.bits.proofs.Logic.{contrary, both}
 use Rattle.bus.specs.Event.{Event}
 use Rattle.bus.specs.declared.Phase.{Phase}

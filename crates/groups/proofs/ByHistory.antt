@@ -1,8 +1,6 @@
 -- The way through a history and the same history without the other group's events, in step.
 -- Rests on Beside, bits' Logic, and fates' SurroundingsKept.
-use mathlib.Core.Path.{◌≡◌}
-use mathlib.Core.Bool.{true, false}
-use mathlib.Core.List.{List, [], ◌∷◌}
+use Rattle.std.proofs.Common.{◌≡◌, true, false, List, [], ◌∷◌}
 use Rattle.bits.proofs.Logic.{neither, by_test}
 use Rattle.bus.specs.Event.{Event}
 use Rattle.control.specs.declared.Group.{Group}

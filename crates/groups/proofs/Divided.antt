@@ -1,13 +1,10 @@
 -- The chip is divided between the two groups without a rest: a pin belongs to one group, and chips that are the same in both groups, the mode
 -- word, the edition and the bus are the same chip.
--- Rests on Alike, and on bits' Tested and BitLaws.
-use mathlib.Core.Path.{◌≡◌, ◌∙◌, refl, ap, sym}
-use mathlib.Core.Bool.{Bool, true, false, not, ◌&&◌}
-use Prim.Native.Nat.{ℕ, ◌<◌}
-use lib.Dec.{eqb}
+-- Rests on Alike and Pins, and on bits' Tested and BitLaws.
+use Rattle.std.proofs.Common.{◌≡◌, ◌∙◌, refl, ap, sym, Bool, true, false, not, ◌&&◌, ℕ, ◌<◌, eqb}
 use Rattle.bits.specs.Bit.{bit_of}
 use Rattle.bits.proofs.Tested.{bits}
-use Rattle.bits.proofs.BitLaws.{bit_of_assembled, assembled_same, assembled_bits}
+use Rattle.bits.proofs.BitLaws.{assembled_same, assembled_bits}
 use Rattle.control.specs.declared.Group.{Group}
 use Rattle.control.specs.declared.Group.TheVariants.{A, B}
 use Rattle.chip.specs.declared.Chip.{Chip}
@@ -16,6 +13,7 @@ use Rattle.groups.specs.Belongings.{its_pin, at_its_pins}
 use Rattle.groups.specs.Doings.{acts_on}
 use Rattle.groups.specs.Divided.{PinDivided, LinesOfBytes, SameInAll}
 use Rattle.groups.proofs.Alike.{port_by_parts}
+use Rattle.groups.proofs.Pins.{bit_at}
 
 pub pin_divided : (n : ℕ) → n < 8 → PinDivided n
 pin_divided n small = record { belongs = bits 8 (its_pin A) (λ n. not (its_pin B n)) tt n small; acted = acted }
@@ -25,9 +23,6 @@ pin_divided n small = record { belongs = bits 8 (its_pin A) (λ n. not (its_pin 
     acted B = bits 8 (acts_on B) (λ n. its_pin B n && not (eqb n 3)) tt n small
 
 -- Bytes that have the same bits at the pins of both groups.
-pub bit_at : (g : Group) (x n : ℕ) → n < 8 → its_pin g n ≡ true → bit_of (at_its_pins g x) n ≡ bit_of x n
-bit_at g x n small its = bit_of_assembled (λ n. its_pin g n && bit_of x n) n small ∙ rw (its)
-
 same_byte : (x y : ℕ) → x < 256 → y < 256 → ((g : Group) → at_its_pins g x ≡ at_its_pins g y) → x ≡ y
 same_byte x y hx hy same =
     sym (assembled_bits x hx) ∙ assembled_same (bit_of x) (bit_of y) (λ n small. go n small (its_pin B n) refl) ∙ assembled_bits y hy

@@ -1,10 +1,7 @@
 -- What an event is to the channels of a group: nothing where it is the other group's, and else the same without the other group's events.
 -- Rests on Alike, Pins, Places, Bus, bits' Logic, and fates' PinNamed and Tables.
-use mathlib.Core.Path.{◌≡◌, ◌∙◌, refl, ap₂}
-use mathlib.Core.Bool.{Bool, true, false, cond, not, ◌&&◌, and-false, and-not_self}
-use Prim.Native.Nat.{ℕ, ◌/◌, ◌%◌}
-use lib.Dec.{eqb}
-use borrow.Author.Tests.{eqb-true}
+use Rattle.std.proofs.Common.{◌≡◌, ◌∙◌, refl, ap₂, Bool, true, false, cond, not, ◌&&◌, ℕ, ◌/◌, ◌%◌, eqb, eqb-true}
+use mathlib.Core.Bool.{and-false, and-not_self}
 use Rattle.bits.specs.Bit.{bit_of}
 use Rattle.bits.proofs.Logic.{contrary, turned}
 use Rattle.bus.specs.Event.{Event}

@@ -1,11 +1,7 @@
 -- Each example of specs/Excluded.antt changes the group that it names, and what is done there is no group's. The checker computes the pins by
 -- the account, without a chip.
 -- Rests on the account.
-use mathlib.Core.Path.{◌≡◌, ◌∙◌, refl, ap, sym}
-use mathlib.Core.Bool.{false}
-use mathlib.Core.List.{List, [], ◌∷◌, ◌++◌}
-use Prim.Native.Nat.{ℕ}
-use lib.Dec.{eqb}
+use Rattle.std.proofs.Common.{◌≡◌, ◌∙◌, refl, ap, sym, false, List, [], ◌∷◌, ◌++◌, ℕ, eqb}
 use borrow.Author.Tests.{eqb-false}
 use Rattle.bits.specs.Bit.{bit_of, value_of}
 use Rattle.bus.specs.Event.{Event}

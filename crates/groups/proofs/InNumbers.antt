@@ -1,6 +1,6 @@
 -- The numbers of specs/InNumbers.antt are the chip's, computed by the checker.
 -- Rests on nothing.
-use mathlib.Core.Path.{◌≡◌, refl}
+use Rattle.std.proofs.Common.{◌≡◌, refl}
 use Rattle.bits.specs.Bit.{bit_of, value_of, with_bit}
 use Rattle.bus.specs.Kinds.{is_kind}
 use Rattle.bus.specs.Device.{step_in}
@@ -26,7 +26,10 @@ use Rattle.fates.specs.Promise.{run}
 use Rattle.groups.specs.Belongings.{belongings_of}
 use Rattle.groups.specs.InNumbers.{moment, scale_has, printer_has}
 
-pub in_numbers :
-    (belongings_of A (run (power_up_with all_high) moment) ≡ scale_has) × (belongings_of B (run (power_up_with all_high) moment) ≡ printer_has)
+pub scale_in_numbers : belongings_of A (run (power_up_with all_high) moment) ≡ scale_has
 unfolding bit_of value_of with_bit mode_of input_of upper_input lower_input strobed_input strobed_output output_of control_of uses_of free_role role_of flag_of after_offer after_follow after_hand_over after_end_read after_clear request_of intr_of reason_of explained_in cleared_port after_mode_word pin_set after_control_word after_read_begins after_read_ends stored_by latch_written after_write_ends fallen edged after_levels_on_c port_after_levels after_levels read_port read_lines read_of drives_port pins_of_port pins_of_lines pins_of number_of is_kind step_of step_in
-in_numbers = (refl, refl)
+scale_in_numbers = refl
+
+pub printer_in_numbers : belongings_of B (run (power_up_with all_high) moment) ≡ printer_has
+unfolding bit_of value_of with_bit mode_of input_of upper_input lower_input strobed_input strobed_output output_of control_of uses_of free_role role_of flag_of after_offer after_follow after_hand_over after_end_read after_clear request_of intr_of reason_of explained_in cleared_port after_mode_word pin_set after_control_word after_read_begins after_read_ends stored_by latch_written after_write_ends fallen edged after_levels_on_c port_after_levels after_levels read_port read_lines read_of drives_port pins_of_port pins_of_lines pins_of number_of is_kind step_of step_in
+printer_in_numbers = refl

@@ -1,13 +1,7 @@
 -- A group is in the way of an event exactly where the step refuses with 4 what an idle bus would accept.
 -- Rests on bits' Logic, fates' SurroundingsKept, the account, Bus and Runs.
-use mathlib.Core.Path.{◌≡◌, ◌∙◌, refl, ap, sym}
-use mathlib.Core.Bool.{Bool, true, false, cond, not, ◌&&◌}
-use mathlib.Core.List.{List, [], ◌∷◌}
-use Prim.Native.Nat.{ℕ, zero, suc}
-use native.Mathlib.Omega.{arith}
-use lib.Dec.{eqb, ltb}
-use borrow.Author.Tests.{eq-eqb, le-ltb, not-true}
-use Rattle.std.specs.Prelude.{◌↔◌}
+use Rattle.std.proofs.Common.{◌≡◌, ◌∙◌, refl, ap, sym, Bool, true, false, cond, not, ◌&&◌, List, [], ◌∷◌, ℕ, zero, suc, arith, eqb, ltb, eq-eqb, le-ltb, ◌↔◌}
+use borrow.Author.Tests.{not-true}
 use Rattle.bits.proofs.Logic.{contrary, both, neither}
 use Rattle.bus.specs.Event.{Event}
 use Rattle.bus.specs.declared.Phase.{Phase}

@@ -6,6 +6,7 @@ pub mod Rules
 pub mod Spared
 pub mod OneEvent
 pub mod Apart
+pub mod LeftAlone
 pub mod Together
 pub mod Bus
 pub mod Beside
@@ -18,6 +19,8 @@ pub mod InNumbers
 pub mod Excluded
 pub mod SideBySide
 pub mod Kept
+pub mod NothingElse
+pub mod OwnLines
 pub mod Lines
 pub mod Runs
 pub mod InTheWay

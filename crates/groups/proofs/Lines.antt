@@ -1,7 +1,6 @@
 -- What is seen before and after levels on port C, computed by the account, without a chip.
 -- Rests on the account.
-use mathlib.Core.Path.{◌≡◌}
-use mathlib.Core.List.{List, [], ◌∷◌, ◌++◌}
+use Rattle.std.proofs.Common.{◌≡◌, List, [], ◌∷◌, ◌++◌, ℕ}
 use Rattle.bits.specs.Bit.{bit_of, value_of}
 use Rattle.bus.specs.Event.{Event}
 use Rattle.bus.specs.Histories.{levels}
@@ -12,7 +11,6 @@ use Rattle.account.specs.Views.{levels_shown, mask_shown, read_answer}
 use Rattle.account.specs.Promise.{over}
 use Rattle.account.proofs.Account.{account}
 use Rattle.groups.specs.Lines.{sight_after, at_work, LinesInNumbers}
-use Prim.Native.Nat.{ℕ}
 
 -- What is seen of a port, by the account.
 abbrev shown : List Event → ℕ → List ℕ

@@ -1,10 +1,7 @@
 -- One event that is harmless to a group leaves the chip alike in what belongs to it, from every chip.
 -- Rests on Alike, Places, Rules, Spared, bits' Logic, the bus's ByKind, chip's WritesAfter, laws' Interrupts, and fates' Tables and
 -- Accepted.
-use mathlib.Core.Path.{◌≡◌, ◌∙◌, refl, sym}
-use mathlib.Core.Bool.{true, false}
-use Prim.Native.Nat.{ℕ}
-use lib.Dec.{eqb, ltb}
+use Rattle.std.proofs.Common.{◌≡◌, ◌∙◌, refl, sym, true, false, ℕ, eqb, ltb}
 use Rattle.bits.specs.Bit.{bit_of}
 use Rattle.bits.proofs.Logic.{contrary, both, one_of}
 use Rattle.bus.specs.Event.{Event, event}

@@ -1,11 +1,6 @@
 -- The pins of port C, and bytes that differ only at the pins on which the other group acts.
 -- Rests on Alike, and on bits' Logic, BitLaws and Sum.
-use mathlib.Core.Path.{◌≡◌, ◌∙◌, refl, ap, sym}
-use mathlib.Core.Bool.{Bool, true, false, not, ◌&&◌}
-use Prim.Native.Nat.{ℕ, ◌<◌}
-use native.Mathlib.Omega.{arith}
-use lib.Dec.{eqb}
-use borrow.Author.Tests.{ltb-true, lt-ltb, le-ltb, eqb-true, eq-eqb, ne_eqb}
+use Rattle.std.proofs.Common.{◌≡◌, ◌∙◌, refl, ap, sym, Bool, true, false, not, ◌&&◌, ℕ, ◌<◌, arith, eqb, ltb-true, lt-ltb, le-ltb, eqb-true, eq-eqb, ne_eqb}
 use Rattle.bits.specs.Bit.{bit_of, assembled}
 use Rattle.bits.proofs.Logic.{contrary}
 use Rattle.bits.proofs.BitLaws.{bit_of_assembled}
@@ -13,9 +8,13 @@ use Rattle.bits.proofs.Sum.{byte_same}
 use Rattle.control.specs.declared.Group.{Group}
 use Rattle.control.specs.declared.Group.TheVariants.{A, B}
 use Rattle.chip.specs.Handshakes.{group_at}
-use Rattle.groups.specs.Belongings.{its_pin}
+use Rattle.groups.specs.Belongings.{its_pin, at_its_pins}
 use Rattle.groups.specs.Doings.{other, acts_on, elsewhere}
 use Rattle.groups.proofs.Alike.{SameAt, at_its_pin}
+
+-- What a byte has at the group's pins are its own bits there.
+pub bit_at : (g : Group) (x n : ℕ) → n < 8 → its_pin g n ≡ true → bit_of (at_its_pins g x) n ≡ bit_of x n
+bit_at g x n small its = bit_of_assembled (λ n. its_pin g n && bit_of x n) n small ∙ rw (its)
 
 -- No group acts on a pin of the other.
 not_acted : (g : Group) (n : ℕ) → its_pin g n ≡ true → acts_on (other g) n ≡ false

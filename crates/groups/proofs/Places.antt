@@ -1,10 +1,7 @@
 -- Where a group's events come: never at the other group's port, nor as a mode word. From the events alone.
 -- Rests on Alike, Pins and bits' Logic.
-use mathlib.Core.Path.{◌≡◌, ◌∙◌, refl, ap, sym}
-use mathlib.Core.Bool.{true, false, not, ◌&&◌}
-use Prim.Native.Nat.{ℕ, ◌/◌, ◌%◌}
-use lib.Dec.{eqb}
-use borrow.Author.Tests.{eqb-true, not-true}
+use Rattle.std.proofs.Common.{◌≡◌, ◌∙◌, refl, ap, sym, true, false, not, ◌&&◌, ℕ, ◌/◌, ◌%◌, eqb, eqb-true}
+use borrow.Author.Tests.{not-true}
 use Rattle.bits.specs.Bit.{bit_of}
 use Rattle.bits.proofs.Logic.{contrary, both, one_of}
 use Rattle.bus.specs.declared.Phase.TheVariants.{Reading, Writing}

@@ -1,6 +1,6 @@
 -- The rules that an event applies to the port at its address, each by name.
 -- Rests on nothing.
-use Prim.Native.Nat.{ℕ}
+use Rattle.std.proofs.Common.{ℕ}
 use Rattle.control.specs.declared.Group.{Group}
 use Rattle.control.specs.Mode.{strobed_input}
 use Rattle.chip.specs.declared.Port.{Port}

@@ -1,10 +1,7 @@
 -- A cycle of a group, in plain numbers and in the words of Doings.
 -- Rests on bits' Logic and fates' PinNamed.
-use mathlib.Core.Path.{◌≡◌, ◌∙◌, refl, ap, sym}
-use mathlib.Core.Bool.{Bool, true, false, not, ◌&&◌}
-use Prim.Native.Nat.{ℕ, ◌+◌, ◌*◌, ◌/◌, ◌%◌}
-use lib.Dec.{eqb}
-use borrow.Author.Tests.{eqb-true, not-true}
+use Rattle.std.proofs.Common.{◌≡◌, ◌∙◌, refl, ap, sym, Bool, true, false, not, ◌&&◌, ℕ, ◌+◌, ◌*◌, ◌/◌, ◌%◌, eqb, eqb-true}
+use borrow.Author.Tests.{not-true}
 use Rattle.bits.specs.Bit.{bit_of, num}
 use Rattle.bits.proofs.Logic.{contrary, both, one_of}
 use Rattle.bus.specs.declared.Phase.{Phase}

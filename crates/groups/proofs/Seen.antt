@@ -1,8 +1,6 @@
 -- Of chips alike in what belongs to a group, the same is seen of it.
 -- Rests on Alike, bits' BitLaws, fates' Tables, and on laws' OwnPort, ChannelPins and PortC.
-use mathlib.Core.Path.{◌≡◌, ◌∙◌, refl, ap, sym}
-use mathlib.Core.Bool.{Bool, true, false, ◌&&◌}
-use Prim.Native.Nat.{ℕ, ◌<◌}
+use Rattle.std.proofs.Common.{◌≡◌, ◌∙◌, refl, ap, sym, Bool, true, false, ◌&&◌, ℕ, ◌<◌}
 use Rattle.bits.specs.Bit.{bit_of}
 use Rattle.bits.proofs.BitLaws.{assembled_same}
 use Rattle.control.specs.declared.Group.{Group}

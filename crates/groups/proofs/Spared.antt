@@ -1,9 +1,8 @@
 -- What the other group's events leave of the chip: a rule at another port's address, bit set/reset of another pin, and levels on port C
 -- that differ elsewhere.
 -- Rests on Alike, Pins, bits' BitLaws, and on chip's OnPort, OneChannel, SettingsAfter, WritesAfter and LevelsAfter.
-use mathlib.Core.Path.{◌≡◌, ◌∙◌, refl, ap}
-use mathlib.Core.Bool.{Bool, true, false, and-false, and-not_self}
-use Prim.Native.Nat.{ℕ, ◌/◌, ◌%◌}
+use Rattle.std.proofs.Common.{◌≡◌, ◌∙◌, refl, ap, Bool, true, false, ℕ, ◌/◌, ◌%◌}
+use mathlib.Core.Bool.{and-false, and-not_self}
 use Rattle.bits.specs.Bit.{bit_of, with_bit}
 use Rattle.bits.proofs.BitLaws.{bit_of_with}
 use Rattle.control.specs.declared.Group.{Group}

@@ -1,9 +1,6 @@
 -- Chips alike in what belongs to a group stay so under one and the same event.
 -- Rests on Alike, Rules, bits' BitLaws, and chip's OnPort, OneChannel and LevelsAfter.
-use mathlib.Core.Path.{◌≡◌, ◌∙◌, refl, ap, sym, subst}
-use mathlib.Core.Bool.{Bool, true, false, cond}
-use Prim.Native.Nat.{ℕ}
-use lib.Dec.{eqb}
+use Rattle.std.proofs.Common.{◌≡◌, ◌∙◌, refl, ap, sym, subst, Bool, true, false, cond, ℕ, eqb}
 use Rattle.bits.specs.Bit.{bit_of}
 use Rattle.bits.proofs.BitLaws.{bit_of_assembled, bit_of_with}
 use Rattle.bus.specs.declared.Phase.{Phase}

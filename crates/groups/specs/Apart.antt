@@ -5,9 +5,11 @@ use Rattle.bus.specs.Event.{Event, event}
 use Rattle.bus.specs.Histories.{write, levels, read_from, cycle_end}
 use Rattle.control.specs.declared.Group.{Group}
 use Rattle.chip.specs.declared.channel.Side.{Side}
+use Rattle.chip.specs.declared.Edition.{Edition}
 use Rattle.chip.specs.declared.Chip.{Chip}
+use Rattle.chip.specs.declared.Levels.{Levels}
 use Rattle.fates.specs.Effects.{port_number}
-use Rattle.fates.specs.Bytes.{values_and_fates}
+use Rattle.fates.specs.Bytes.{bytes_of, values_and_fates}
 use Rattle.fates.specs.Promise.{run, new_bytes, old_byte}
 use Rattle.groups.specs.Belongings.{belongings_of}
 use Rattle.groups.specs.Doings.{acts_on}
@@ -39,3 +41,8 @@ pub record SameTo (g : Group) (c : Chip) (es es' : List Event) : Type 0 where
   pub belongings : belongings_of g (run c es) ≡ belongings_of g (run c es')
   pub bytes : (s : Side)
       → values_and_fates (old_byte g s c es ++ new_bytes g s c es) ≡ values_and_fates (old_byte g s c es' ++ new_bytes g s c es')
+
+-- Two histories from a power-up of this edition, under these levels, bring a channel of the group the same bytes, with the same values and the
+-- same fates. No byte waits at a power-up.
+abbrev pub SameBytes : Group → Side → Edition → Levels → List Event → List Event → Type 0
+SameBytes g s ed l es es' = values_and_fates (bytes_of g s ed l es) ≡ values_and_fates (bytes_of g s ed l es')

@@ -1,10 +1,6 @@
 -- A state that has an image comes back from it.
 -- Rests on bits' Logic.
-use mathlib.Core.Path.{◌≡◌, refl, ap}
-use mathlib.Core.Bool.{Bool, true, false, ◌&&◌}
-use Prim.Native.Nat.{ℕ, ◌+◌, ◌*◌, ◌/◌, ◌%◌, ◌<◌}
-use native.Mathlib.Omega.{arith}
-use borrow.Author.Tests.{ltb-true, lt-ltb, le-ltb}
+use Rattle.std.proofs.Common.{◌≡◌, refl, ap, Bool, true, false, ◌&&◌, ℕ, ◌+◌, ◌*◌, ◌/◌, ◌%◌, ◌<◌, arith, ltb-true, lt-ltb, le-ltb}
 use Rattle.bits.specs.Bit.{bit_of, value_of}
 use Rattle.bits.proofs.Logic.{both}
 use Rattle.bus.specs.declared.Phase.{Phase}

@@ -1,11 +1,7 @@
 -- The two bytes of a bus that fits in an edition: they come back from what they tell, for a read, a write and neither.
 -- Rests on bits' Logic.
-use mathlib.Core.Path.{◌≡◌, refl, sym}
-use mathlib.Core.Bool.{Bool, true, false, not, ◌&&◌, ◌||◌}
-use Prim.Native.Nat.{ℕ, ◌%◌, ◌<◌, ◌≤◌}
-use native.Mathlib.Omega.{arith}
-use lib.Dec.{eqb, ltb}
-use borrow.Author.Tests.{eqb-true, ltb-true, ltb-false, not-true, lt-ltb}
+use Rattle.std.proofs.Common.{◌≡◌, refl, sym, Bool, true, false, not, ◌&&◌, ◌||◌, ℕ, ◌%◌, ◌<◌, ◌≤◌, arith, eqb, ltb, eqb-true, ltb-true, ltb-false, lt-ltb}
+use borrow.Author.Tests.{not-true}
 use Rattle.bits.proofs.Logic.{both, one_of, contrary}
 use Rattle.chip.specs.Addresses.{control}
 use Rattle.image.specs.Places as places

@@ -1,10 +1,6 @@
 -- An older image whose bytes are put to the places of an image: they are one, but for the bus, and are judged alike.
 -- Rests on SameBytes.
-use mathlib.Core.Path.{◌≡◌, refl, subst}
-use mathlib.Core.Bool.{◌&&◌}
-use mathlib.Core.List.{List}
-use Prim.Native.Nat.{ℕ, ◌*◌, ◌-◌}
-use lib.ListN.{length, set, take, drop, replicate}
+use Rattle.std.proofs.Common.{◌≡◌, refl, subst, ◌&&◌, List, ℕ, ◌*◌, ◌-◌, length, set, take, drop, replicate}
 use lib.Seq.{sets}
 use Rattle.bus.specs.declared.Phase.TheVariants.{Idle}
 use Rattle.image.specs.Places as now

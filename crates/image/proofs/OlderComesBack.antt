@@ -1,8 +1,6 @@
 -- A state of the older edition in which nothing was planted or struck comes back from its older image; and an older image tells such a state.
 -- Rests on ComesBack.
-use mathlib.Core.Path.{◌≡◌, refl, sym}
-use mathlib.Core.List.{List}
-use Prim.Native.Nat.{ℕ}
+use Rattle.std.proofs.Common.{◌≡◌, refl, sym, List, ℕ}
 use Rattle.bus.specs.declared.Phase.{Phase}
 use Rattle.bus.specs.declared.Phase.TheVariants.{Idle, Reading, Writing}
 use Rattle.control.specs.declared.Group.TheVariants.{A, B}

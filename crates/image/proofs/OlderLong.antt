@@ -1,10 +1,6 @@
 -- An older image is as long as older images are.
 -- Rests on Long.
-use mathlib.Core.Path.{◌≡◌}
-use mathlib.Core.Bool.{true}
-use mathlib.Core.List.{List}
-use Prim.Native.Nat.{ℕ}
-use lib.ListN.{length}
+use Rattle.std.proofs.Common.{◌≡◌, true, List, ℕ, length}
 use Rattle.image.proofs.Long.{long_and_more}
 use Rattle.image.specs.OlderPlaces as places
 use Rattle.image.specs.OlderGood.{bytes_fit, is_older}

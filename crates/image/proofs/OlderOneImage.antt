@@ -1,10 +1,7 @@
 -- Older images are of the states of the older edition that have an image, and become those images.
 -- Rests on Fitting, Parts, MovedBytes and OlderSameBytes.
-use mathlib.Core.Path.{◌≡◌, ◌∙◌, refl, ap, sym}
-use mathlib.Core.Bool.{true, ◌&&◌, and-true}
-use mathlib.Core.List.{List}
-use Prim.Native.Nat.{ℕ}
-use lib.Dec.{ltb}
+use Rattle.std.proofs.Common.{◌≡◌, ◌∙◌, refl, ap, sym, true, ◌&&◌, List, ℕ, ltb}
+use mathlib.Core.Bool.{and-true}
 use Rattle.bus.specs.declared.Phase.{Phase}
 use Rattle.bus.specs.declared.Phase.TheVariants.{Idle, Reading, Writing}
 use Rattle.chip.specs.declared.Edition.{Edition}

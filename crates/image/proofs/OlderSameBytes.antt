@@ -1,13 +1,6 @@
 -- An older image is that of the state that it tells, byte for byte.
 -- Rests on bits' Logic, and on SameBytes and OlderLong.
-use mathlib.Core.Path.{◌≡◌, ◌∙◌, refl, sym}
-use mathlib.Core.Bool.{true, ◌&&◌}
-use mathlib.Core.List.{List, [], ◌∷◌, ◌++◌}
-use Prim.Native.Nat.{ℕ, zero, suc, ◌-◌, ◌<◌}
-use native.Mathlib.Omega.{arith}
-use lib.Dec.{eqb, ltb}
-use lib.ListN.{length}
-use borrow.Author.Tests.{eqb-true, ne_eqb}
+use Rattle.std.proofs.Common.{◌≡◌, ◌∙◌, refl, sym, true, ◌&&◌, List, [], ◌∷◌, ◌++◌, ℕ, zero, suc, ◌-◌, ◌<◌, arith, eqb, ltb, length, eqb-true, ne_eqb}
 use Rattle.bits.specs.Table.{from}
 use Rattle.bits.proofs.Logic.{contrary, both}
 use Rattle.image.specs.Layout.{written_byte}

@@ -1,9 +1,6 @@
 -- A state that meets the conditions has exactly one image, and comes back from it; any other has none; and all other bytes are refused.
 -- Rests on Fitting and SameBytes, and on bits' Logic.
-use mathlib.Core.Path.{◌≡◌, ◌∙◌, refl, ap, sym}
-use mathlib.Core.Bool.{Bool, true, false}
-use mathlib.Core.List.{List}
-use Prim.Native.Nat.{ℕ}
+use Rattle.std.proofs.Common.{◌≡◌, ◌∙◌, refl, ap, sym, Bool, true, false, List, ℕ}
 use Rattle.bits.proofs.Logic.{contrary}
 use Rattle.chip.specs.declared.Chip.{Chip}
 use Rattle.image.specs.Layout.{image_of}

@@ -1,9 +1,6 @@
 -- An image of which a part is saved: it is the image of the state with that part, and of the same edition.
 -- Rests on nothing.
-use mathlib.Core.Path.{◌≡◌, refl, ap, ◌∙◌, sym}
-use mathlib.Core.List.{List}
-use Prim.Native.Nat.{ℕ}
-use lib.ListN.{length}
+use Rattle.std.proofs.Common.{◌≡◌, refl, ap, ◌∙◌, sym, List, ℕ, length}
 use Rattle.bus.specs.declared.Phase.{Phase}
 use Rattle.chip.specs.declared.Core.{Core}
 use Rattle.chip.specs.declared.Chip.{Chip}

@@ -1,16 +1,7 @@
 -- An image is the image of the state that it tells, byte for byte.
 -- Rests on Cycle and Long, and on bits' Logic and Tabled.
-use mathlib.Core.Path.{◌≡◌, ◌∙◌, refl, ap, sym}
-use mathlib.Core.Bool.{Bool, true, false, ◌&&◌}
-use mathlib.Core.List.{List, [], ◌∷◌, ◌++◌}
-use Prim.Native.Nat.{ℕ, zero, suc, ◌+◌, ◌-◌, ◌*◌, ◌/◌, ◌%◌, ◌<◌}
-use native.Mathlib.Omega.{arith}
-use mir.Syntax.{w8}
-use mir.Val.{Fits}
-use lib.Dec.{eqb, ltb}
-use lib.ListN.{length}
-use lib.Seq.{ext_get_or}
-use borrow.Author.Tests.{eqb-true, ltb-true, ltb-false, not-true}
+use Rattle.std.proofs.Common.{◌≡◌, ◌∙◌, refl, ap, sym, Bool, true, false, ◌&&◌, List, [], ◌∷◌, ◌++◌, ℕ, zero, suc, ◌+◌, ◌-◌, ◌*◌, ◌/◌, ◌%◌, ◌<◌, arith, w8, Fits, eqb, ltb, length, ext_get_or, eqb-true, ltb-true, ltb-false}
+use borrow.Author.Tests.{not-true}
 use Rattle.bits.specs.Bit.{bit_of}
 use Rattle.bits.specs.Table.{from}
 use Rattle.bits.proofs.Logic.{both}

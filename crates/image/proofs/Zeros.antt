@@ -1,12 +1,7 @@
 -- Bytes that are 0, and an edition before them, told by the number that they are together.
 -- Rests on nothing.
-use mathlib.Core.Path.{◌≡◌, ◌∙◌, refl, ap, sym}
-use mathlib.Core.Bool.{Bool, true, false, not, ◌&&◌, and-false}
-use mathlib.Core.List.{List, [], ◌∷◌, ◌++◌}
-use Prim.Native.Nat.{ℕ, zero, suc, ◌+◌, ◌*◌}
-use native.Mathlib.Omega.{arith}
-use lib.Dec.{eqb, ltb}
-use borrow.Author.Tests.{ltb-true, ltb-false, lt-ltb, le-ltb, eq-eqb, ne_eqb}
+use Rattle.std.proofs.Common.{◌≡◌, ◌∙◌, refl, ap, sym, Bool, true, false, not, ◌&&◌, List, [], ◌∷◌, ◌++◌, ℕ, zero, suc, ◌+◌, ◌*◌, arith, eqb, ltb, ltb-true, ltb-false, lt-ltb, le-ltb, eq-eqb, ne_eqb}
+use mathlib.Core.Bool.{and-false}
 use Rattle.image.specs.Places as places
 use Rattle.image.specs.Loaded.{byte_at, eight_at}
 use Rattle.image.specs.Good.{edition_fits, all_zero, unused_zero}

@@ -1,7 +1,6 @@
 -- The comparison of two chips that is derived for the code answers exactly whether they are equal.
 -- Rests on Exact, and on bits' Logic.
-use Rattle.std.proofs.Common.{rules, ◌≡◌, refl, sym, subst, true, false, ◌&&◌, Bool, ℕ, eqb}
-use borrow.Author.Tests.{eqb-true, eq-eqb}
+use Rattle.std.proofs.Common.{rules, ◌≡◌, refl, sym, subst, true, false, ◌&&◌, Bool, ℕ, eqb, eqb-true, eq-eqb}
 use Rattle.bits.proofs.Logic.{both, contrary}
 use Rattle.bus.specs.declared.Phase.{Phase}
 use Rattle.bus.specs.contracts.PhasePartialEq.TheImpl as phases

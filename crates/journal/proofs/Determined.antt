@@ -1,9 +1,6 @@
 -- The contract of each public function of journal leaves no choice: of the answer, and of every word of a slice that is written.
 -- Rests on bits' Determined.
-use mathlib.Core.Path.{◌≡◌, ◌∙◌, refl, ap, sym}
-use Prim.Native.Nat.{ℕ}
-use native.Mathlib.Omega.{arith}
-use Rattle.std.proofs.Common.{rules, Result, Ok, Err}
+use Rattle.std.proofs.Common.{◌≡◌, ◌∙◌, refl, ap, sym, ℕ, arith, rules, Result, Ok, Err}
 use Rattle.bits.proofs.Determined.{Determines, equation_determines, equations_determine}
 use Rattle.bus.specs.Event.{Event, event}
 use Rattle.journal.specs.declared.words.Logged.{Logged}

@@ -1,8 +1,7 @@
 -- The editions by number, as a trim asks for them: each edition's number fits and names it, and a number without one does not fit.
 -- Rests on chip's Editions.
-use Rattle.std.proofs.Common.{arith, ◌≡◌, refl, true, false, ℕ, zero, suc, None}
+use Rattle.std.proofs.Common.{arith, ◌≡◌, refl, true, false, ℕ, zero, suc, None, lt-ltb}
 use Rattle.std.proofs.lemmas.Option.{none-some}
-use borrow.Author.Tests.{lt-ltb}
 use Rattle.chip.specs.declared.Edition.{Edition}
 use Rattle.chip.specs.declared.Edition.TheVariants.{Older, Newer}
 use Rattle.chip.specs.State.{edition_number, edition_numbered}

@@ -1,11 +1,6 @@
 -- The test of two chips answers exactly whether they are equal.
 -- Rests on bits' Same.
-use Rattle.std.proofs.Common.{rules}
-use mathlib.Core.Path.{◌≡◌, refl, ap, subst}
-use mathlib.Core.Bool.{Bool, true, false}
-use mathlib.Core.List.{List}
-use Prim.Native.Nat.{ℕ}
-use lib.ListN.{take, drop, get_or}
+use Rattle.std.proofs.Common.{rules, ◌≡◌, refl, ap, subst, Bool, true, false, List, ℕ, take, drop, get_or}
 use Rattle.bits.specs.Same.{same_bytes}
 use Rattle.bits.proofs.Same.{same_lists, same_self}
 use Rattle.bus.specs.declared.Phase.{Phase}

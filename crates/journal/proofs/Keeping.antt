@@ -1,12 +1,8 @@
 -- The pass over the words of a journal, turn by turn: what is kept of those gone through stands in front, with zero words behind, and ahead
 -- nothing has changed.
 -- Rests on Ahead, Exact and bits' Logic.
-use mathlib.Core.Path.{◌≡◌, ◌∙◌, refl, ap, sym}
-use mathlib.Core.Bool.{Bool, true, false, not}
-use mathlib.Core.List.{List, [], ◌∷◌, ◌++◌, append_assoc, append-nil}
-use Prim.Native.Nat.{ℕ, suc, ◌+◌, ◌-◌, ◌<◌, ◌≤◌}
-use native.Mathlib.Omega.{arith}
-use lib.ListN.{length, drop, set, get_or, replicate, length-append, length-drop, length-replicate, replicate-append-replicate, drop_of_length-le}
+use Rattle.std.proofs.Common.{◌≡◌, ◌∙◌, refl, ap, sym, Bool, true, false, not, List, [], ◌∷◌, ◌++◌, append_assoc, append-nil, ℕ, suc, ◌+◌, ◌-◌, ◌<◌, ◌≤◌, arith, length, drop, set, get_or, replicate, length-append, length-drop, drop_of_length-le}
+use lib.ListN.{length-replicate, replicate-append-replicate}
 use lib.Seq.{set_at, get_or_at}
 use Rattle.std.proofs.Math.Bool.{not-not}
 use Rattle.bits.proofs.Logic.{both}

@@ -1,13 +1,6 @@
 -- What a trim gives back and leaves, by its number: where it is accepted, and where it is refused.
 -- Rests on nothing.
-use mathlib.Core.Path.{◌≡◌, refl}
-use mathlib.Core.Bool.{Bool, true, false, cond, not}
-use mathlib.Core.List.{List, [], ◌∷◌}
-use Prim.Native.Nat.{ℕ, suc, ◌*◌, ◌≤◌}
-use native.Mathlib.Omega.{arith}
-use lib.Dec.{eqb, ltb}
-use lib.ListN.{length}
-use borrow.Author.Tests.{ltb-false, eq-eqb, ne_eqb}
+use Rattle.std.proofs.Common.{◌≡◌, refl, Bool, true, false, cond, not, List, [], ◌∷◌, ℕ, suc, ◌*◌, ◌≤◌, arith, eqb, ltb, length, ltb-false, eq-eqb, ne_eqb}
 use Rattle.chip.specs.declared.Chip.{Chip}
 use Rattle.chip.specs.State.{levels_by, power_up_as}
 use Rattle.journal.specs.Words.{all_frames}

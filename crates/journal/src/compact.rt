@@ -12,7 +12,7 @@ use chip::Chip;
 // nothing is compared; and the lines of port C, which most levels are put on, are compared first. It is not inlined, so that both chips stay in
 // memory: as a part of its caller it has each of their fields in a place of its own, and moves all of them at every word.
 #[inline(never)]
-#[tactic(auto, using(crate::proofs::Packed::frame_small), unfolding(chip::specs::Step::step_of))]
+#[tactic(auto, using(crate::proofs::Packed::frame_small, crate::proofs::Derived::agree), unfolding(chip::specs::Step::step_of))]
 fn changes(chip: &Chip, copy: &mut Chip, word: u32) -> bool
     requires frame { is_frame (event_in word) ≡ true }
     requires same { copy.old ≡ chip.now }

@@ -1,8 +1,6 @@
 -- What a history leads to, told by its events: what surrounds the channels of the chip, and what the input latches hold.
 -- Rests on bits' Logic, and on fates' Shapes, SurroundingsKept and Followed.
-use mathlib.Core.Path.{◌≡◌, ◌∙◌, refl, ap}
-use mathlib.Core.List.{List, [], ◌∷◌, ◌++◌}
-use Prim.Native.Nat.{ℕ}
+use Rattle.std.proofs.Common.{◌≡◌, ◌∙◌, refl, ap, List, [], ◌∷◌, ◌++◌, ℕ}
 use Rattle.bits.proofs.Logic.{either_way}
 use Rattle.bus.specs.Event.{Event}
 use Rattle.control.specs.declared.Group.{Group}

@@ -1,13 +1,8 @@
 -- Which events are kept and which are dropped, by the events alone.
 -- Rests on Along, SameLevels and PlainWord, on bits' Logic, on chip's Outcome, and on fates' Shapes, Tables, Accepted, SurroundingsKept and
 -- Followed.
-use mathlib.Core.Path.{◌≡◌, ◌∙◌, refl, ap, sym, subst}
-use mathlib.Core.Bool.{Bool, true, false, cond}
-use mathlib.Core.List.{List}
-use Prim.Native.Nat.{ℕ, ◌<◌}
-use native.Mathlib.Omega.{arith}
-use lib.Dec.{eqb, ltb}
-use borrow.Author.Tests.{lt-ltb, eqb-true, eqb-false, eq-eqb, not-true}
+use Rattle.std.proofs.Common.{◌≡◌, ◌∙◌, refl, ap, sym, subst, Bool, true, false, cond, List, ℕ, ◌<◌, arith, eqb, ltb, lt-ltb, eqb-true, eq-eqb}
+use borrow.Author.Tests.{eqb-false, not-true}
 use Rattle.bits.specs.Bit.{bit_of}
 use Rattle.bits.proofs.Logic.{both, contrary}
 use Rattle.bus.specs.Event.{Event, event}

@@ -1,6 +1,6 @@
 -- The example's journal is trimmed as it says, on a chip of either edition: computed from the chip.
 -- Rests on nothing.
-use mathlib.Core.Path.{◌≡◌, refl}
+use Rattle.std.proofs.Common.{◌≡◌, refl}
 use Rattle.bits.specs.Bit.{bit_of, value_of}
 use Rattle.bus.specs.Kinds.{is_kind, operands_of}
 use Rattle.bus.specs.Refusals.{number_of}

@@ -1,23 +1,20 @@
 -- What the trim keeps is what the relation keeps; kept again, it is all kept.
--- Rests on Same, and on bits' Logic.
-use mathlib.Core.Path.{◌≡◌, refl, ap, sym, subst}
-use mathlib.Core.Bool.{Bool, true, false, cond}
-use mathlib.Core.List.{List, [], ◌∷◌}
-use Prim.Native.Nat.{ℕ}
+-- Rests on bits' Logic and journal's Exact.
+use Rattle.std.proofs.Common.{◌≡◌, refl, ap, sym, subst, Bool, true, false, cond, List, [], ◌∷◌, ℕ}
 use Rattle.bits.proofs.Logic.{both, contrary}
 use Rattle.chip.specs.declared.Chip.{Chip}
 use Rattle.journal.specs.Words.{event_in, is_frame, all_frames}
 use Rattle.journal.specs.Same.{same_state}
 use Rattle.journal.specs.Trim.{after_word, kept_from}
+use Rattle.journal.proofs.Exact.{only_then_lem, then}
 use Rattle.journallaws.specs.Keeps.{events_in, Keeps, none, kept, dropped}
-use Rattle.journallaws.proofs.Same.{exactly}
 
 module _ (c : Chip) (w : ℕ) where
   is_same : same_state c (after_word c w) ≡ true → after_word c w ≡ c
-  is_same same = sym ((exactly c (after_word c w)).only_then same)
+  is_same same = sym (only_then_lem c (after_word c w) same)
 
   differs : same_state c (after_word c w) ≡ false → ¬ (after_word c w ≡ c)
-  differs other is = contrary (same_state c (after_word c w)) other ((exactly c (after_word c w)).then (sym is))
+  differs other is = contrary (same_state c (after_word c w)) other (then c (after_word c w) (sym is))
 
 pub keeps : (c : Chip) (ws : List ℕ) → Keeps c (events_in ws) (events_in (kept_from c ws))
 unfolding kept_from

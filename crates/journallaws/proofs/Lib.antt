@@ -5,8 +5,10 @@ pub mod Meaning
 pub mod Shapes
 pub mod Packing
 pub mod Trimmed
+pub mod Numbered
 pub mod Along
 pub mod SameLevels
 pub mod PlainWord
 pub mod ByEvents
 pub mod Example
+pub mod Determined

@@ -1,10 +1,6 @@
 -- What is kept of a history means what the history means.
 -- Rests on SameFates, on image's OneImage, ComesBack and Long, on calls' HostStep, and on restored's Stays.
-use mathlib.Core.Path.{◌≡◌, ◌∙◌, refl, ap, sym, subst}
-use mathlib.Core.Bool.{true}
-use mathlib.Core.List.{List, [], ◌∷◌, ◌++◌, append-nil}
-use Prim.Native.Nat.{ℕ}
-use lib.ListN.{length}
+use Rattle.std.proofs.Common.{◌≡◌, ◌∙◌, refl, ap, sym, subst, true, List, [], ◌∷◌, ◌++◌, append-nil, ℕ, length}
 use Rattle.bus.specs.Event.{Event}
 use Rattle.control.specs.declared.Group.{Group}
 use Rattle.control.specs.declared.Group.TheVariants.{A, B}

@@ -1,7 +1,5 @@
 -- Which event a word packs. Rests on journal's Packed.
-use mathlib.Core.Path.{◌≡◌, ◌∙◌, ap, sym}
-use Prim.Native.Nat.{ℕ, ◌+◌, ◌*◌, ◌<◌}
-use native.Mathlib.Omega.{arith}
+use Rattle.std.proofs.Common.{◌≡◌, ◌∙◌, ap, sym, ℕ, ◌+◌, ◌*◌, ◌<◌, arith}
 use Rattle.bus.specs.Event.{event}
 use Rattle.journal.specs.Words.{word_of, event_in}
 use Rattle.journal.proofs.Packed.{read_back}

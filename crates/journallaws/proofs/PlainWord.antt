@@ -1,10 +1,6 @@
 -- Under the mode word of power-up nothing is ever set: the chip is as a reset leaves it, but for the bus and the levels outside.
 -- Rests on the bus's ByKind, on chip's OnPort, SettingsAfter, ReadsAfter and LevelsAfter, and on fates' Accepted and Followed.
-use mathlib.Core.Path.{◌≡◌, ◌∙◌, refl, ap, sym, subst}
-use mathlib.Core.Bool.{Bool, true, false, cond}
-use mathlib.Core.List.{List, [], ◌∷◌}
-use Prim.Native.Nat.{ℕ, ◌/◌, ◌%◌}
-use lib.Dec.{eqb, ltb}
+use Rattle.std.proofs.Common.{◌≡◌, ◌∙◌, refl, ap, sym, subst, Bool, true, false, cond, List, [], ◌∷◌, ℕ, ◌/◌, ◌%◌, eqb, ltb}
 use Rattle.bits.specs.Bit.{bit_of, value_of}
 use Rattle.bus.specs.Event.{Event, event}
 use Rattle.bus.proofs.ByKind.{by_kind}

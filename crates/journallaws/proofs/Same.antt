@@ -1,7 +1,6 @@
 -- The test of two states answers exactly whether they are equal; and two chips with images are equal where their images are.
 -- Rests on image's ComesBack and journal's Exact.
-use mathlib.Core.Path.{◌≡◌, ◌∙◌, ap, sym}
-use mathlib.Core.Bool.{true}
+use Rattle.std.proofs.Common.{◌≡◌, ◌∙◌, ap, sym, true}
 use Rattle.chip.specs.declared.Chip.{Chip}
 use Rattle.image.specs.Layout.{image_of}
 use Rattle.image.specs.Loaded.{state_of}

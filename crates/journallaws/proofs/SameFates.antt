@@ -1,10 +1,6 @@
 -- Events after which the chip is as it was decide nothing: without them a history brings each channel the same bytes, places aside.
 -- Rests on fates' Shapes, Story, Followed and SameByte, and on restored's Stays and Saved.
-use mathlib.Core.Path.{◌≡◌, ◌∙◌, refl, ap, ap₂, sym, subst}
-use mathlib.Core.Bool.{true}
-use mathlib.Core.List.{List, [], ◌∷◌, ◌++◌}
-use Prim.Native.Nat.{ℕ, suc}
-use native.Mathlib.Omega.{arith}
+use Rattle.std.proofs.Common.{◌≡◌, ◌∙◌, refl, ap, ap₂, sym, subst, true, List, [], ◌∷◌, ◌++◌, ℕ, suc, arith}
 use Rattle.bus.specs.Event.{Event}
 use Rattle.control.specs.declared.Group.{Group}
 use Rattle.chip.specs.declared.channel.Side.{Side}

@@ -1,9 +1,7 @@
 -- Levels that are there already, and that go through to no latch that holds something else, leave the core as it is.
 -- Rests on nothing.
-use mathlib.Core.Path.{◌≡◌, ◌∙◌, refl, ap, sym}
-use mathlib.Core.Bool.{Bool, true, false, cond, not, ◌&&◌, and-false}
-use Prim.Native.Nat.{ℕ}
-use lib.Dec.{eqb}
+use Rattle.std.proofs.Common.{◌≡◌, ◌∙◌, refl, ap, sym, Bool, true, false, cond, not, ◌&&◌, ℕ, eqb}
+use mathlib.Core.Bool.{and-false}
 use Rattle.bits.specs.Bit.{bit_of}
 use Rattle.control.specs.declared.Group.{Group}
 use Rattle.control.specs.declared.Group.TheVariants.{A, B}

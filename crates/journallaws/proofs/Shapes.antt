@@ -1,12 +1,6 @@
 -- A word is a frame exactly where it is one in plain numbers.
 -- Rests on bits' Logic, the bus's ByKind and journal's Packed.
-use mathlib.Core.Path.{◌≡◌, ◌∙◌, refl, ap, subst}
-use mathlib.Core.Bool.{true, not, ◌&&◌}
-use mathlib.Core.List.{List, [], ◌∷◌}
-use Prim.Native.Nat.{ℕ, ◌+◌, ◌*◌, ◌/◌, ◌%◌, ◌<◌}
-use native.Mathlib.Omega.{arith}
-use lib.Dec.{eqb}
-use borrow.Author.Tests.{eqb-true}
+use Rattle.std.proofs.Common.{◌≡◌, ◌∙◌, refl, ap, subst, true, not, ◌&&◌, List, [], ◌∷◌, ℕ, ◌+◌, ◌*◌, ◌/◌, ◌%◌, ◌<◌, arith, eqb, eqb-true}
 use Rattle.bits.proofs.Logic.{both, contrary}
 use Rattle.bus.specs.Kinds.{is_kind, no_kind, operands_of}
 use Rattle.bus.specs.Event.{Event, event}

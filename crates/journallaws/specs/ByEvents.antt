@@ -21,9 +21,9 @@ abbrev pub IsDropped : Edition → Levels → List Event → Event → Type 0
 IsDropped ed v es e = run (power_up_as ed v) (es ++ e ∷ []) ≡ run (power_up_as ed v) es
 
 -- Every event by itself. A refused one is dropped, and an accepted one that begins or ends a cycle is kept. Levels on a port are kept where they
--- are others than those there, and where an input lets them through to a latch that holds something else; where neither is so they are dropped. A
--- reset is kept while a cycle runs, and under another mode word than that of power-up, which a reset brings back; otherwise it is dropped, since under
--- that word nothing else can be set.
+-- are others than those there, and where an input lets them through to a latch that holds something else; where neither is so they are dropped.
+-- A reset is kept while a cycle runs, and under another mode word than that of power-up, which a reset brings back; otherwise it is dropped,
+-- since under that word nothing else can be set.
 pub record ByEvents (ed : Edition) (v : Levels) (es : List Event) : Type 0 where
   pub refused : (e : Event) → accepts ed (here ed v es).phase (kind_of e) ≡ false → IsDropped ed v es e
   pub cycle : (e : Event) → accepts ed (here ed v es).phase (kind_of e) ≡ true → of_a_cycle (kind_of e) ≡ true → IsKept ed v es e

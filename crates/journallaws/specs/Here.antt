@@ -1,5 +1,5 @@
--- What a history leads to, told by its events alone: what surrounds the channels, what is left in them, and whether an input lets levels through.
--- No chip is asked.
+-- What a history leads to, told by its events alone: what surrounds the channels, what is left in them, and whether an input lets levels
+-- through. No chip is asked.
 use Rattle.std.specs.Prelude.{◌≡◌, Bool, true, false, cond, List, [], ◌∷◌, ℕ, eqb}
 use Rattle.bits.specs.Bit.{bit_of}
 use Rattle.bus.specs.Event.{Event}

@@ -14,8 +14,8 @@ use Rattle.journal.specs.Trim.{trim_answer, trimmed_words}
 use Rattle.journallaws.specs.Frames.{Frames}
 use Rattle.journallaws.specs.Keeps.{events_in, Keeps}
 
--- Two histories from a power-up mean the same: they lead to the same chip, and so to the same tallies; on each channel they bring the same bytes,
--- with the same values and fates, places aside; and a host that passes them to its chip holds the same bytes in the end.
+-- Two histories from a power-up mean the same: they lead to the same chip, and so to the same tallies; on each channel they bring the same
+-- bytes, with the same values and fates, places aside; and a host that passes them to its chip holds the same bytes in the end.
 pub record SameMeaning (ed : Edition) (v : Levels) (es ks : List Event) : Type 0 where
   pub state : run (power_up_as ed v) ks ≡ run (power_up_as ed v) es
   pub counts : (g : Group) (s : Side) → tallies g s (power_up_as ed v) ks ≡ tallies g s (power_up_as ed v) es

@@ -1,8 +1,6 @@
 -- What it would take: with the one cause altered, a half of which no later reason is seen is high ("Why the interrupt is quiet").
 -- Rests on Interrupts, Quiet, bits' BitLaws, and chip's ByReason.
-use mathlib.Core.Path.{◌≡◌, ◌∙◌, refl, ap, sym}
-use mathlib.Core.Bool.{true, false, not}
-use lib.Dec.{lit<}
+use Rattle.std.proofs.Common.{◌≡◌, ◌∙◌, refl, ap, sym, true, false, not, lit<}
 use Rattle.bits.proofs.BitLaws.{bit_of_with}
 use Rattle.control.specs.declared.Group.{Group}
 use Rattle.control.specs.declared.Group.TheVariants.{A, B}
@@ -13,10 +11,10 @@ use Rattle.chip.specs.declared.Chip.{Chip}
 use Rattle.chip.specs.Handshakes.{strobed}
 use Rattle.chip.specs.declared.reasons.Reason.{Reason}
 use Rattle.chip.specs.declared.reasons.Reason.TheVariants.{EnableOff, FlagWrong, LineLow, OwnCycle, High}
-use Rattle.chip.specs.Reasons.{holds, reason_of}
+use Rattle.chip.specs.Reasons.{holds}
 use Rattle.chip.proofs.ByReason.{NoneHolds, by_reason, none_named, none_asks}
 use Rattle.laws.specs.Quiet.{later, NoneSeen}
-use Rattle.laws.specs.Altered.{altered, HalfHigh}
+use Rattle.laws.specs.Altered.{altered, HalfHigh, WouldBeHigh}
 use Rattle.laws.proofs.Interrupts.{none_runs}
 use Rattle.laws.proofs.Quiet.{wrong_seen, low_seen, asked_seen}
 
@@ -76,8 +74,7 @@ high_where c g s there none =
     record { asks = asks; named = none_named c g s none; shown = asked_seen c g s there asks }
 
 -- Where no reason behind the one that is given is seen, the half is high in the state with that one cause altered.
-pub would_be_high : (c : Chip) (g : Group) (s : Side) → strobed c.core.word g s ≡ true
-    → NoneSeen c g s (later (reason_of c g s)) → HalfHigh (altered c g s (reason_of c g s)) g s
+pub would_be_high : (c : Chip) (g : Group) (s : Side) → strobed c.core.word g s ≡ true → WouldBeHigh c g s
 would_be_high c g s there =
     by_reason c g s (λ r. NoneSeen c g s (later r) → HalfHigh (altered c g s r) g s)
     (λ off none. high_where _ g s (still EnableOff) (record {

@@ -1,8 +1,6 @@
 -- The one way through all events: what is so of each thing that an event can leave of the chip is so after every event.
 -- Rests on Cycles, bits' Logic, the bus's ByKind, and chip's WritesAfter, Ends and Outcome.
-use mathlib.Core.Path.{◌≡◌, ◌∙◌, refl, ap}
-use mathlib.Core.Bool.{true, false}
-use Prim.Native.Nat.{ℕ}
+use Rattle.std.proofs.Common.{◌≡◌, ◌∙◌, refl, ap, true, false, ℕ}
 use Rattle.bits.specs.Bit.{bit_of}
 use Rattle.bits.proofs.Logic.{contrary}
 use Rattle.bus.proofs.ByKind.{by_kind}
@@ -24,8 +22,8 @@ use Rattle.chip.proofs.Outcome.{step_either}
 use Rattle.laws.specs.Seen.{makes_anew}
 use Rattle.laws.proofs.Cycles.{no_kind_refused}
 
--- What is so of the chip that the end of each cycle leaves: of a read, and of a write of a mode word, of bit set/reset, to port C, and to any other
--- address.
+-- What is so of the chip that the end of each cycle leaves: of a read, and of a write of a mode word, of bit set/reset, to port C, and to any
+-- other address.
 pub record Ended (P : Chip → Type 0) (c : Chip) : Type 0 where
   pub read : (p : ℕ) → c.phase ≡ Reading p → P (on_bus Idle c.edition (after_read_ends c.core p))
   pub mode_word : (w : ℕ) → c.phase ≡ Writing 3 w → bit_of w 7 ≡ true → P (on_bus Idle c.edition (after_mode_word c.core w))

@@ -1,11 +1,7 @@
 -- What the pins of a strobed channel show: its flag, its line, its group's INTR ("Port C roles", "Reads and pins").
 -- Rests on bits' Logic, Tested and BitLaws, control's RoleWords and PinByMasks, and chip's StrobedWords, OneChannel and Flags.
-use mathlib.Core.Path.{◌≡◌, ◌∙◌, refl, ap, sym, subst}
-use mathlib.Core.Bool.{Bool, true, not, ◌||◌, or-true}
-use Prim.Native.Nat.{ℕ, ◌%◌, ◌<◌}
-use native.Mathlib.Omega.{arith}
-use lib.Dec.{T, eqb, eqb→eq, lit<}
-use borrow.Author.Tests.{eqb-true, eq-eqb}
+use Rattle.std.proofs.Common.{◌≡◌, ◌∙◌, refl, ap, sym, subst, Bool, true, not, ◌||◌, ℕ, ◌%◌, ◌<◌, arith, T, eqb, eqb→eq, lit<, eqb-true, eq-eqb}
+use mathlib.Core.Bool.{or-true}
 use Rattle.bits.specs.Bit.{bit_of}
 use Rattle.bits.proofs.Logic.{both}
 use Rattle.bits.proofs.Tested.{all, each, bits}

@@ -1,8 +1,7 @@
 -- Without a handshake of either group the chip drives what the mode 0 chart has as outputs, in every state ("Mode words").
--- Rests on PlainBits, OneWay, PortC and bits' Logic.
-use mathlib.Core.Path.{◌≡◌, ◌∙◌, refl, ap}
-use mathlib.Core.Bool.{Bool, true, false, cond, not, ◌&&◌, ◌||◌, or-false}
-use Prim.Native.Nat.{ℕ, ◌<◌}
+-- Rests on PlainBits, DrivenPorts, PortC and bits' Logic.
+use Rattle.std.proofs.Common.{◌≡◌, ◌∙◌, refl, ap, Bool, true, false, cond, not, ◌&&◌, ◌||◌, ℕ, ◌<◌}
+use mathlib.Core.Bool.{or-false}
 use Rattle.bits.specs.Bit.{bit_of}
 use Rattle.bits.proofs.Logic.{neither}
 use Rattle.control.specs.declared.Group.{Group}
@@ -15,7 +14,7 @@ use Rattle.chip.specs.Pins.{pins_of}
 use Rattle.laws.specs.PlainBits.{goes_both_ways, handshake, into, used, into_c}
 use Rattle.laws.specs.Chart.{LinesCharted, AsCharted}
 use Rattle.laws.proofs.PlainBits.{by_pin}
-use Rattle.laws.proofs.OneWay.{output_drives, input_undriven}
+use Rattle.laws.proofs.DrivenPorts.{output_pins, input_pins}
 use Rattle.laws.proofs.PortC.{line_driven}
 
 one_way_lem : (w : ℕ) (g : Group) → handshake w g ≡ false → goes_both_ways w g ≡ false
@@ -40,8 +39,8 @@ module _ (c : Chip) where
   port_charted g a own none = go (into w g) refl
     where
       go : (inward : Bool) → into w g ≡ inward → (pins_of c a).driven ≡ cond inward 0 0xff
-      go true way = ap (λ (p : Pins). p.driven) (input_undriven c g a own (rw (one_way_lem w g none, way))).shows
-      go false way = ap (λ (p : Pins). p.driven) (output_drives c g a own (rw (one_way_lem w g none, way))).shows
+      go true way = ap (λ (p : Pins). p.driven) (input_pins c g a own (rw (one_way_lem w g none, way)))
+      go false way = ap (λ (p : Pins). p.driven) (output_pins c g a own (rw (one_way_lem w g none, way)))
 
   lines_charted : handshake w A ≡ false → handshake w B ≡ false → LinesCharted c (directions_of w)
   unfolding upper_input lower_input

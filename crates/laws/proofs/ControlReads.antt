@@ -1,12 +1,8 @@
--- A read of control: refused with 3 by the older edition, and by the newer answered with the mode word read back, while nothing but the bus moves
--- ("The 82C55A").
+-- A read of control: refused with 3 by the older edition, and by the newer answered with the mode word read back, while nothing but the bus
+-- moves ("The 82C55A").
 -- Rests on Cycles, ShowsAlike, Unreached, bits' BitLaws, the bus's ByKind, and chip's Outcome.
-use mathlib.Core.Path.{◌≡◌, ◌∙◌, refl, sym, ap, subst}
-use mathlib.Core.Bool.{Bool, true, false, cond, not, ◌||◌}
-use Prim.Native.Nat.{ℕ}
-use native.Mathlib.Omega.{arith}
-use lib.Dec.{eqb, ltb, lit<}
-use borrow.Author.Tests.{ne_eqb, eqb-false}
+use Rattle.std.proofs.Common.{◌≡◌, ◌∙◌, refl, sym, ap, subst, Bool, true, false, cond, not, ◌||◌, ℕ, arith, eqb, ltb, lit<, ne_eqb}
+use borrow.Author.Tests.{eqb-false}
 use Rattle.bits.proofs.BitLaws.{bit_of_with}
 use Rattle.bus.specs.Kinds.{is_kind}
 use Rattle.bus.proofs.ByKind.{by_kind}

@@ -1,30 +1,20 @@
 -- The facts about cycles, of the chip of either edition: those of every device on the bus, applied to this one ("Events and numbers", "State").
 -- Rests on the bus's Facts and Numbering, and chip's Outcome.
-use mathlib.Core.Path.{◌≡◌, ◌∙◌, refl, ap}
-use mathlib.Core.Bool.{true, false}
-use Prim.Native.Nat.{ℕ}
-use lib.ListN.{get_or}
+use Rattle.std.proofs.Common.{◌≡◌, ◌∙◌, refl, ap, true, false, ℕ, get_or}
 use Rattle.bus.specs.Kinds.{no_kind}
 use Rattle.bus.specs.declared.Phase.{Phase}
-use Rattle.bus.specs.Refusals.{limits_of, row, rows, number_of}
+use Rattle.bus.specs.Refusals.{row, rows, number_of}
 use Rattle.bus.specs.Facts.{Facts}
 use Rattle.bus.proofs.Facts as bus
 use Rattle.bus.proofs.Numbering as numbering
 use Rattle.chip.specs.declared.Edition.{Edition}
-use Rattle.chip.specs.declared.Edition.TheVariants.{Older, Newer}
 use Rattle.chip.specs.declared.Chip.{Chip}
 use Rattle.chip.specs.Reads.{read_of}
 use Rattle.chip.specs.Step.{limits, device, as_stepped, refused, step_of}
 use Rattle.chip.proofs.Outcome.{step_refuses, step_number}
-use Rattle.laws.specs.Editions.{addresses_read}
 
--- There are four addresses and three ports; of the addresses three can be read, and of the newer edition all.
-in_numbers : (ed : Edition) → limits ed ≡ limits_of 4 (addresses_read ed) 3
-in_numbers Older = refl
-in_numbers Newer = refl
-
-pub facts : (c : Chip) → Facts device (limits_of 4 (addresses_read c.edition) 3) c
-facts c = bus.facts device (limits_of 4 (addresses_read c.edition) 3) c (in_numbers c.edition)
+pub facts : (c : Chip) → Facts device (limits c.edition) c
+facts c = bus.facts device (limits c.edition) c refl
 
 -- In the step's own words: a refused event leaves the state as it was, and its byte is 00.
 pub refusal_changes_nothing : (c : Chip) (k x d : ℕ) → ¬ ((step_of c k x d).number ≡ 0) → step_of c k x d ≡ refused c (number_of (limits c.edition) c.phase k x)

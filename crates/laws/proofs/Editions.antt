@@ -1,11 +1,7 @@
 -- The two editions differ in nothing but the read of control: any other event does in the one what it does in the other ("The 82C55A").
 -- Rests on ShowsAlike, the bus's ByKind, and chip's Outcome.
-use mathlib.Core.Path.{◌≡◌, ◌∙◌, refl, sym, ap}
-use mathlib.Core.Bool.{Bool, true, false, cond, not, ◌||◌}
-use Prim.Native.Nat.{ℕ}
-use native.Mathlib.Omega.{arith}
-use lib.Dec.{eqb, ltb}
-use borrow.Author.Tests.{eqb-true, eqb-false, lt-ltb, ltb-true}
+use Rattle.std.proofs.Common.{◌≡◌, ◌∙◌, refl, sym, ap, Bool, true, false, cond, not, ◌||◌, ℕ, arith, eqb, ltb, eqb-true, lt-ltb, ltb-true}
+use borrow.Author.Tests.{eqb-false}
 use Rattle.bus.specs.Kinds.{is_kind}
 use Rattle.bus.proofs.ByKind.{by_kind, no_kind_differs}
 use Rattle.bus.specs.declared.Phase.{Phase}

@@ -1,10 +1,6 @@
--- Only the fall of a channel's line offers a byte or takes one: in every state, new levels that make none leave the channel's condition and
--- its tallies. No levels at all touch an output's latch ("Handshake").
+-- What levels leave that make no line of a channel fall: its condition and its tallies. No levels at all touch an output's latch ("Handshake").
 -- Rests on bits' Logic, chip's ConditionsLeft, LevelsAfter and Outcome.
-use mathlib.Core.Path.{◌≡◌, ◌∙◌, refl, ap}
-use mathlib.Core.Bool.{Bool, true, false, cond, ◌&&◌, and-false}
-use Prim.Native.Nat.{ℕ}
-use lib.Dec.{eqb}
+use Rattle.std.proofs.Common.{◌≡◌, ◌∙◌, refl, ap, Bool, true, false, cond, ◌&&◌, ℕ, eqb}
 use Rattle.bits.proofs.Logic.{either_way}
 use Rattle.control.specs.declared.Group.{Group}
 use Rattle.chip.specs.declared.channel.Side.{Side}
@@ -16,8 +12,8 @@ use Rattle.chip.proofs.ConditionsLeft.{follow_stays, follow_counts, hand_over_ke
 use Rattle.chip.specs.declared.Core.{Core}
 use Rattle.chip.specs.declared.Chip.{Chip}
 use Rattle.chip.specs.State.{channel_of}
-use Rattle.chip.specs.Handshakes.{strobed, line_pin, own_address}
-use Rattle.chip.specs.Levels.{fallen, line_falls, lets_through, after_levels}
+use Rattle.chip.specs.Handshakes.{own_address}
+use Rattle.chip.specs.Levels.{line_falls, lets_through, after_levels}
 use Rattle.chip.proofs.LevelsAfter.{levels_input, levels_output}
 use Rattle.chip.specs.Step.{step_of}
 use Rattle.chip.proofs.Outcome.{step_either}
@@ -39,17 +35,6 @@ levels_kept c g Input x d still = rw (levels_input c x d g, still) (go (own_addr
     go true = record { fill = follow_stays channel d; tally = follow_counts channel d }
     go false = kept refl
 levels_kept c g Output x d still = kept (levels_output c x d g ∙ rw (still))
-
--- Where there is no fall there is none that a handshake would see.
-unless : (lines on fell : Bool) → (lines && fell) ≡ false → (lines && (on && fell)) ≡ false
-unless true on fell still = rw (still) (and-false on)
-unless false on fell still = refl
-
-pub only_a_fall : (c : Chip) (g : Group) (s : Side) (x d : ℕ) → (eqb x 2 && fallen c.core.c.outside d (line_pin g s)) ≡ false
-    → Kept (channel_of c.core g s) (channel_of (step_of c 5 x d).chip.core g s)
-only_a_fall c g s x d still =
-    step_either (λ c'. Kept (channel_of c.core g s) (channel_of c'.core g s)) c 5 x d (kept refl)
-    (λ ok. levels_kept c.core g s x d (unless (eqb x 2) (strobed c.core.word g s) (fallen c.core.c.outside d (line_pin g s)) still))
 
 -- No levels touch an output's latch, nor does the fall of ACK.
 pub given_latch : (c : Core) (g : Group) (x d : ℕ) → (channel_of (after_levels c x d) g Output).latch ≡ (channel_of c g Output).latch

@@ -1,10 +1,7 @@
 -- What each event can leave of a channel's condition, in every state: the ground of the theorems on the flags and on INTR.
 -- Rests on ByEvent, bits' Logic, chip's ConditionsLeft, Surrounded, Flags, SettingsAfter, ReadsAfter, WritesAfter and
 -- LevelsAfter.
-use mathlib.Core.Path.{◌≡◌, ◌∙◌, refl, ap}
-use mathlib.Core.Bool.{Bool, true, false, cond, not, ◌&&◌}
-use Prim.Native.Nat.{ℕ, ◌/◌, ◌%◌}
-use lib.Dec.{eqb}
+use Rattle.std.proofs.Common.{◌≡◌, ◌∙◌, refl, ap, Bool, true, false, cond, not, ◌&&◌, ℕ, ◌/◌, ◌%◌, eqb}
 use Rattle.bits.specs.Bit.{bit_of}
 use Rattle.bits.proofs.Logic.{both}
 use Rattle.bus.specs.declared.Phase.{Phase}

@@ -1,10 +1,7 @@
 -- The flag of a strobed channel after an event that leaves the mode word, and the falls of its line as the pins show them: the ground of
 -- the theorems on the flags.
 -- Rests on ChannelPins.
-use mathlib.Core.Path.{◌≡◌, ◌∙◌, refl, sym, subst}
-use mathlib.Core.Bool.{true, false, ◌&&◌}
-use Prim.Native.Nat.{ℕ}
-use lib.Dec.{eqb}
+use Rattle.std.proofs.Common.{◌≡◌, ◌∙◌, refl, sym, subst, true, false, ◌&&◌, ℕ, eqb}
 use Rattle.bits.specs.Bit.{bit_of}
 use Rattle.bus.specs.Kinds.{is_kind}
 use Rattle.bus.specs.Refusals.{number_of}

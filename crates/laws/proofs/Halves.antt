@@ -1,13 +1,8 @@
--- Which cycles drop which half of INTR, in every state: a read or a write drops its own as it begins, and no other; a cycle elsewhere leaves INTR
--- as it was ("Handshake").
+-- A cycle that is not a half's own leaves that half of INTR as it was, in every state ("Handshake").
 -- Rests on Cycles, ByEvent, FillAfter, Interrupts, bits' Logic, and chip's Surrounded, ReadsAfter and Outcome.
-use mathlib.Core.Path.{◌≡◌, ◌∙◌, refl, ap, sym, ap₂}
-use mathlib.Core.Bool.{Bool, true, false, not, ◌&&◌, ◌||◌}
-use Prim.Native.Nat.{ℕ}
-use borrow.Author.Tests.{not-true}
+use Rattle.std.proofs.Common.{◌≡◌, ◌∙◌, refl, ap, sym, true, false, ℕ}
 use Rattle.bits.proofs.Logic.{contrary}
 use Rattle.bus.specs.Kinds.{begins}
-use Rattle.bus.specs.Device.{after_in}
 use Rattle.bus.specs.Refusals.{number_of}
 use Rattle.bus.specs.declared.Phase.{Phase}
 use Rattle.bus.specs.declared.Phase.TheVariants.{Idle, Reading, Writing}
@@ -20,16 +15,15 @@ use Rattle.chip.specs.declared.Chip.{Chip}
 use Rattle.chip.specs.State.{channel_of}
 use Rattle.chip.specs.Handshakes.{own_address, running}
 use Rattle.chip.proofs.Surrounded.{Surrounded, latch_spares, spared_channel, spared_surrounded}
-use Rattle.chip.specs.Status.{request_of, intr_of}
+use Rattle.chip.specs.Status.{request_of}
 use Rattle.chip.proofs.ReadsAfter.{begun_surrounded, begun_enables, ended_surrounded, ended_enables}
-use Rattle.chip.specs.Step.{Stepped, limits, device, step_of}
-use Rattle.chip.proofs.Outcome.{step_accepts, step_number, step_either}
+use Rattle.chip.specs.Step.{limits, step_of}
+use Rattle.chip.proofs.Outcome.{step_either}
 use Rattle.laws.specs.Seen.{commands}
-use Rattle.laws.specs.Halves.{spares, HalfAfter, IntrAfter}
 use Rattle.laws.proofs.Cycles.{row_refuses}
 use Rattle.laws.proofs.ByEvent.{by_end}
 use Rattle.laws.proofs.FillAfter.{begun, after_begin_lem, after_read, after_store}
-use Rattle.laws.proofs.Interrupts.{cycle_drops_half, none_runs}
+use Rattle.laws.proofs.Interrupts.{none_runs}
 
 -- A half is the same where all that it is told by is the same.
 same_half : (c c' : Chip) (g : Group) (s : Side) → Surrounded c'.core c.core → c'.core.inte ≡ c.core.inte
@@ -41,15 +35,6 @@ same_half c c' g s surroundings enables fill runs = rw (fill, surroundings.word,
 begun_same : (f : Fill) (g : Group) (s : Side) (x : ℕ) → running (Reading x) g s ≡ false → own_address x g ≡ true → begun s f ≡ f
 begun_same f g Input x other own = absurd (contrary (own_address x g) other own)
 begun_same f g Output x other own = refl
-
--- What a cycle does not spare is its own.
-own_or_spared : (ph : Phase) (g : Group) (s : Side) → spares ph g s ≡ not (running ph g s)
-own_or_spared Idle g Input = refl
-own_or_spared Idle g Output = refl
-own_or_spared (Reading p) g Input = refl
-own_or_spared (Reading p) g Output = refl
-own_or_spared (Writing a d) g Input = refl
-own_or_spared (Writing a d) g Output = refl
 
 begins_idle : (ed : Edition) (ph : Phase) (k x : ℕ) → begins k ≡ true → number_of (limits ed) ph k x ≡ 0 → ph ≡ Idle
 begins_idle ed Idle k x b ok = refl
@@ -67,13 +52,13 @@ module _ (c : Chip) (g : Group) (s : Side) where
   idle_runs : (k x : ℕ) → begins k ≡ true → number_of (limits c.edition) c.phase k x ≡ 0 → running c.phase g s ≡ false
   idle_runs k x b ok = rw (begins_idle c.edition c.phase k x b ok) (none_runs g s)
 
-  read_leaves : (x d : ℕ) → running (Reading x) g s ≡ false → Same (step_of c 1 x d).chip
+  pub read_leaves : (x d : ℕ) → running (Reading x) g s ≡ false → Same (step_of c 1 x d).chip
   read_leaves x d none =
       step_either Same c 1 x d refl
       (λ ok. same_half c _ g s (begun_surrounded c.core x) (begun_enables c.core x)
       (after_begin_lem SameFill c.core g s x refl (begun_same (channel_of c.core g s).fill g s x none)) (none ∙ sym (idle_runs 1 x refl ok)))
 
-  write_leaves : (x d : ℕ) → running (Writing x d) g s ≡ false → Same (step_of c 3 x d).chip
+  pub write_leaves : (x d : ℕ) → running (Writing x d) g s ≡ false → Same (step_of c 3 x d).chip
   write_leaves x d none =
       step_either Same c 3 x d refl
       (λ ok. same_half c _ g s (record { word = refl; ports = λ g. refl; lines = refl }) refl refl (none ∙ sym (idle_runs 3 x refl ok)))
@@ -81,7 +66,7 @@ module _ (c : Chip) (g : Group) (s : Side) where
   elsewhere : {X : Type 0} → running c.phase g s ≡ false → (ph : Phase) → c.phase ≡ ph → running ph g s ≡ true → X
   elsewhere none ph phase own = absurd (contrary _ none (ap (λ ph. running ph g s) phase ∙ own))
 
-  end_leaves : (x d : ℕ) → running c.phase g s ≡ false → commands c.phase ≡ false → Same (step_of c 2 x d).chip
+  pub end_leaves : (x d : ℕ) → running c.phase g s ≡ false → commands c.phase ≡ false → Same (step_of c 2 x d).chip
   end_leaves x d none other =
       let idle = none_runs g s ∙ sym none in
       by_end Same c x d refl (record {
@@ -94,31 +79,3 @@ module _ (c : Chip) (g : Group) (s : Side) where
         port = λ a b phase c' k. same_half c _ g s k.surroundings k.enables
             (after_store SameFill c.core g s a b c' k refl (elsewhere none (Writing a b) phase)) idle;
       })
-
-  -- One that is its own drops it as it begins.
-  begun_half : (k x d : ℕ) (ph : Phase) → (step_of c k x d).chip.phase ≡ ph → (running ph g s ≡ false → Same (step_of c k x d).chip)
-      → request_of (step_of c k x d).chip g s ≡ (spares ph g s && request_of c g s)
-  begun_half k x d ph phase leaves = rw (own_or_spared ph g s) (go (running ph g s) refl)
-    where
-      go : (own : Bool) → running ph g s ≡ own → request_of (step_of c k x d).chip g s ≡ (not own && request_of c g s)
-      go true own = cycle_drops_half (step_of c k x d).chip g s (ap (λ ph. running ph g s) phase ∙ own)
-      go false none = leaves none
-
-pub half_after : (c : Chip) (g : Group) (s : Side) (x d : ℕ) → HalfAfter c g s x d
-half_after c g s x d = record {
-  read_begins = λ ok. begun_half c g s 1 x d (Reading x) (accepted_phase 1 ok) (read_leaves c g s x d);
-  write_begins = λ ok. begun_half c g s 3 x d (Writing x d) (accepted_phase 3 ok) (write_leaves c g s x d);
-  cycle_ends = λ spared. end_leaves c g s x d (not-true (running c.phase g s) (sym (own_or_spared c.phase g s) ∙ spared));
-}
-  where
-    accepted_phase : (k : ℕ) → (step_of c k x d).number ≡ 0 → (step_of c k x d).chip.phase ≡ (after_in device c k x d).phase
-    accepted_phase k ok = ap (λ (r : Stepped). r.chip.phase) (step_accepts c k x d (sym (step_number c k x d) ∙ ok))
-
-pub intr_after : (c : Chip) (g : Group) (x d : ℕ) → IntrAfter c g x d
-unfolding intr_of
-intr_after c g x d = record {
-  read_begins = λ other. ap₂ (λ (i o : Bool). i || o) (read_leaves c g Input x d other) (read_leaves c g Output x d refl);
-  write_begins = λ other. ap₂ (λ (i o : Bool). i || o) (write_leaves c g Input x d refl) (write_leaves c g Output x d other);
-  cycle_ends = λ spared other.
-      ap₂ (λ (i o : Bool). i || o) ((half_after c g Input x d).cycle_ends (spared Input) other) ((half_after c g Output x d).cycle_ends (spared Output) other);
-}

@@ -1,10 +1,9 @@
 -- IBF as the sheet has it, in every state: set by the fall of STB, reset by the end of the read, forced by bit set/reset, and moved by nothing
 -- else but a mode word and a reset ("Handshake", "Forcing the flags").
--- Rests on ChannelPins, FillAfter, Forcing, FlagAfter, bits' Logic, chip's ConditionsLeft, ReadsAfter, LevelsAfter, Ends
+-- Rests on ChannelPins, FillAfter, Forcing, ReadBegins, FlagAfter, bits' Logic, chip's ConditionsLeft, ReadsAfter, LevelsAfter, Ends
 -- and Outcome.
-use mathlib.Core.Path.{◌≡◌, ◌∙◌, refl, sym, subst}
-use mathlib.Core.Bool.{Bool, true, false, or-true}
-use Prim.Native.Nat.{ℕ}
+use Rattle.std.proofs.Common.{◌≡◌, ◌∙◌, refl, sym, subst, Bool, true, false, ℕ}
+use mathlib.Core.Bool.{or-true}
 use Rattle.bits.specs.Bit.{bit_of}
 use Rattle.bits.proofs.Logic.{contrary}
 use Rattle.bus.specs.declared.Phase.TheVariants.{Reading}
@@ -14,24 +13,25 @@ use Rattle.chip.specs.declared.channel.Side.TheVariants.{Input}
 use Rattle.chip.specs.declared.channel.Fill.{Fill}
 use Rattle.chip.specs.declared.channel.Fill.TheVariants.{Empty, Waiting, Fetching}
 use Rattle.chip.specs.Channel.{flag_of}
-use Rattle.chip.proofs.ConditionsLeft.{leaves, forced_to, offer_waits, end_read_empties}
+use Rattle.chip.proofs.ConditionsLeft.{forced_to, offer_waits, end_read_empties}
 use Rattle.chip.specs.declared.Core.{Core}
 use Rattle.chip.specs.declared.Chip.{Chip}
 use Rattle.chip.specs.State.{port_of, channel_of}
 use Rattle.chip.specs.Handshakes.{strobed, line_pin, own_address, reading, flag_pin}
 use Rattle.chip.specs.Status.{flag_at}
 use Rattle.chip.specs.Read.{after_read_ends}
-use Rattle.chip.proofs.ReadsAfter.{begun_surrounded, ended_input, ended_surrounded}
+use Rattle.chip.proofs.ReadsAfter.{ended_input, ended_surrounded}
 use Rattle.chip.specs.Levels.{line_falls, after_levels}
 use Rattle.chip.proofs.LevelsAfter.{levels_input, levels_word}
 use Rattle.chip.specs.Step.{step_of}
 use Rattle.chip.proofs.Ends.{read_ends_lem}
-use Rattle.chip.proofs.Outcome.{step_accepts, step_either}
+use Rattle.chip.proofs.Outcome.{step_accepts}
 use Rattle.laws.specs.Seen.{pin, makes_anew, puts}
 use Rattle.laws.specs.Flags.{moves_ibf}
 use Rattle.laws.proofs.ChannelPins.{flag_pin_lem}
 use Rattle.laws.proofs.FillAfter.{fill_by_event}
 use Rattle.laws.proofs.Forcing.{forced_flag}
+use Rattle.laws.proofs.ReadBegins.{fetching}
 use Rattle.laws.proofs.FlagAfter.{flag_under, line_falls_lem, seen_falls, levels_accepted}
 
 strobe_sets : (c : Core) (d : ℕ) (g : Group) → line_falls c d g Input ≡ true → flag_at (after_levels c 2 d) g Input ≡ true
@@ -41,13 +41,6 @@ strobe_sets c d g fell = rw (levels_input c 2 d g, fell, offer_waits (channel_of
 done_resets : (c : Core) (x : ℕ) (g : Group) → strobed_input c.word g ≡ true → own_address x g ≡ true → flag_at (after_read_ends c x) g Input ≡ false
 unfolding flag_of
 done_resets c x g on own = rw (ended_input c x g, on, own, end_read_empties (channel_of c g Input))
-
--- A read that begins leaves IBF as it was: a byte that waited is fetched from now on.
-fetching : (f : Fill) → flag_of Input (leaves f Fetching) ≡ flag_of Input f
-unfolding flag_of
-fetching Empty = refl
-fetching Waiting = refl
-fetching Fetching = refl
 
 -- IBF forced high is high, and so it is where it was high and is not forced low; low it stays where it is not forced high.
 forced_high : (f : Fill) (v : Bool) → (v ≡ false → ⊥) → flag_of Input (forced_to Input v f) ≡ true
@@ -105,9 +98,3 @@ module _ (c : Chip) (g : Group) (on : strobed c.core.word g Input ≡ true) wher
             unmoved (rw (two, set)));
         falls = λ five fell. absurd (unmoved (rw (five, ← seen_falls c g Input x d on, fell)));
       })
-
-  -- The beginning of a read, of this port or any other, leaves IBF set.
-  pub begin_keeps_ibf : (x d : ℕ) → pin c (flag_pin g Input) ≡ true → pin (step_of c 1 x d).chip (flag_pin g Input) ≡ true
-  begin_keeps_ibf x d set =
-      ibf_held true set 1 x d refl
-      (step_either (λ c. strobed c.core.word g Input ≡ true) c 1 x d on (λ ok. rw (begun_surrounded c.core x).word (on)))

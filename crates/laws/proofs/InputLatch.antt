@@ -2,10 +2,8 @@
 -- word and a reset touches it ("Handshake").
 -- Rests on ByEvent, ChannelPins, FlagAfter, OwnPort, bits' Logic, chip's ConditionsLeft, OnPort, Surrounded, Flags,
 -- SettingsAfter, ReadsAfter, LevelsAfter, Strobed and Outcome.
-use mathlib.Core.Path.{◌≡◌, ◌∙◌, refl, ap, sym, subst}
-use mathlib.Core.Bool.{Bool, true, false, cond, not, ◌&&◌, ◌||◌, and-false}
-use Prim.Native.Nat.{ℕ, ◌/◌, ◌%◌}
-use lib.Dec.{T, eqb}
+use Rattle.std.proofs.Common.{◌≡◌, ◌∙◌, refl, ap, sym, subst, Bool, true, false, cond, not, ◌&&◌, ◌||◌, ℕ, ◌/◌, ◌%◌, T, eqb}
+use mathlib.Core.Bool.{and-false}
 use Rattle.bits.specs.Bit.{bit_of}
 use Rattle.bits.proofs.Logic.{contrary, either_way}
 use Rattle.control.specs.declared.Group.{Group}

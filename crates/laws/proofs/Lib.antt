@@ -4,13 +4,17 @@ pub mod ChannelPins
 pub mod ByEvent
 pub mod OneEnd
 pub mod Interrupts
+pub mod InterruptPins
 pub mod Quiet
 pub mod Altered
 pub mod Enables
 pub mod FillAfter
 pub mod FlagAfter
 pub mod Forcing
+pub mod ForcedFlag
 pub mod Halves
+pub mod CyclesDrop
+pub mod ReadBegins
 pub mod InputFlag
 pub mod OutputFlag
 pub mod ModeWords
@@ -18,6 +22,7 @@ pub mod Falls
 pub mod PowerUp
 pub mod OwnPort
 pub mod InputLatch
+pub mod DrivenPorts
 pub mod OneWay
 pub mod ModeTwo
 pub mod OnePin

@@ -1,6 +1,6 @@
 -- The marked cases P1 to P13 hold of the definitions, of either edition: one theorem for the whole table, which the checker computes.
 -- Rests on nothing.
-use mathlib.Core.Path.{◌≡◌, refl}
+use Rattle.std.proofs.Common.{◌≡◌, refl}
 use Rattle.bits.specs.Bit.{bit_of, value_of, with_bit}
 use Rattle.bus.specs.Kinds.{is_kind}
 use Rattle.bus.specs.Device.{step_in}

@@ -1,7 +1,6 @@
 -- Port A in mode 2, which is bit 6: driven exactly while ACK is low, when it shows its output latch; read as its input latch ("Reads and pins").
 -- Rests on PlainBits, ChannelPins, OwnPort, control's ModeTwo, and chip's Strobed.
-use mathlib.Core.Path.{◌≡◌, ◌∙◌, refl}
-use mathlib.Core.Bool.{Bool, true, false, cond, not}
+use Rattle.std.proofs.Common.{◌≡◌, ◌∙◌, refl, Bool, true, false, cond, not}
 use Rattle.bits.specs.Bit.{bit_of}
 use Rattle.control.specs.declared.Group.TheVariants.{A}
 use Rattle.control.specs.Mode.{mode_of}

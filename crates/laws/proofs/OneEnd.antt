@@ -2,11 +2,8 @@
 -- leaves the inputs, unless it was of a mode word or forces a flag; and 04, which is no kind, is refused whatever its operands ("Events and
 -- numbers").
 -- Rests on Cycles, FillAfter, bits' Logic, and chip's Surrounded, ReadsAfter, WritesAfter and Ends.
-use mathlib.Core.Path.{◌≡◌, ◌∙◌, refl, ap, sym}
-use mathlib.Core.Bool.{Bool, true, false, ◌&&◌, and-false}
-use Prim.Native.Nat.{ℕ, ◌/◌, ◌%◌}
-use native.Mathlib.Omega.{arith}
-use lib.Dec.{eqb}
+use Rattle.std.proofs.Common.{◌≡◌, ◌∙◌, refl, ap, sym, Bool, true, false, ◌&&◌, ℕ, ◌/◌, ◌%◌, arith, eqb}
+use mathlib.Core.Bool.{and-false}
 use Rattle.bits.specs.Bit.{bit_of}
 use Rattle.bits.proofs.Logic.{contrary}
 use Rattle.bus.specs.Kinds.{is_kind}

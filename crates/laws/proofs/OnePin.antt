@@ -1,11 +1,7 @@
 -- Bit set/reset changes one bit of port C's latch, or one enable, or forces one flag, or does nothing, by plain bits of the mode word
 -- ("Writes and bit set/reset", "Forcing the flags").
 -- Rests on PlainBits, bits' BitLaws, and chip's SettingsAfter and Ends.
-use mathlib.Core.Path.{◌≡◌, ◌∙◌, refl, ap, subst}
-use mathlib.Core.Bool.{Bool, true, false, cond, not, ◌&&◌, ◌||◌}
-use Prim.Native.Nat.{ℕ, ◌/◌, ◌%◌, ◌<◌}
-use native.Mathlib.Omega.{arith}
-use lib.Dec.{T, eqb}
+use Rattle.std.proofs.Common.{◌≡◌, ◌∙◌, refl, ap, subst, Bool, true, false, cond, not, ◌&&◌, ◌||◌, ℕ, ◌/◌, ◌%◌, ◌<◌, arith, T, eqb}
 use Rattle.bits.specs.Bit.{bit_of}
 use Rattle.bits.proofs.BitLaws.{bit_of_with}
 use Rattle.bus.specs.declared.Phase.TheVariants.{Writing}
@@ -27,7 +23,7 @@ use Rattle.chip.specs.Write.{after_write_ends}
 use Rattle.chip.specs.Step.{step_of}
 use Rattle.chip.proofs.Ends.{write_ends}
 use Rattle.laws.specs.PlainBits.{used, into_c, free_output, is_line_pin, is_flag_pin}
-use Rattle.laws.specs.OnePin.{OnePin}
+use Rattle.laws.specs.OnePin.{OnePin, PinPut}
 use Rattle.laws.proofs.PlainBits.{by_pin, strobed_by_bits, role_by_bits}
 
 -- The enables after a pin that a handshake uses is put: those of the channels of which it is the line.
@@ -102,6 +98,6 @@ set_word c d clear = bit_word_lem c d clear
 
 -- The end of a write of a control word with bit 7 clear.
 pub bit_set_changes_one : (c : Chip) (b x d : ℕ) → c.phase ≡ Writing 3 b → bit_of b 7 ≡ false
-    → OnePin c.core (b / 2 % 8) (bit_of b 0) (free_output c.core.word (b / 2 % 8)) (used c.core.word (b / 2 % 8)) (step_of c 2 x d).chip.core
+    → PinPut c.core b (step_of c 2 x d).chip.core
 bit_set_changes_one c b x d phase clear =
     rw (write_ends c 3 b x d phase, set_word c.core b clear) (one_pin c.core (bit_of b 0) (b / 2 % 8) (omega arith))

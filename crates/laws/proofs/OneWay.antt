@@ -1,11 +1,9 @@
 -- Ports A and B where they go one way, in modes 0 and 1, by plain bits: an output drives its lines with its latch and is read as it; an input
 -- is not driven, and keeps nothing that is written to it ("Writes and bit set/reset", "Reads and pins").
--- Rests on PlainBits, OwnPort, Falls, bits' Logic, chip's ConditionsLeft, WritesAfter, LevelsAfter, Ends and Outcome.
-use mathlib.Core.Path.{◌≡◌, ◌∙◌, refl, ap, sym}
-use mathlib.Core.Bool.{Bool, true, false, not, ◌&&◌, ◌||◌, and-true, and-false}
-use Prim.Native.Nat.{ℕ}
-use borrow.Author.Tests.{eqb-true, not-true}
-use Rattle.bits.proofs.Logic.{both, either_way}
+-- Rests on PlainBits, OwnPort, DrivenPorts, Falls, bits' Logic, chip's ConditionsLeft, WritesAfter, LevelsAfter, Ends and Outcome.
+use Rattle.std.proofs.Common.{◌≡◌, ◌∙◌, refl, ap, sym, Bool, true, false, ◌&&◌, ℕ, eqb-true}
+use mathlib.Core.Bool.{and-true, and-false}
+use Rattle.bits.proofs.Logic.{either_way}
 use Rattle.bus.specs.declared.Phase.TheVariants.{Writing}
 use Rattle.control.specs.declared.Group.{Group}
 use Rattle.control.specs.declared.Group.TheVariants.{A, B}
@@ -21,64 +19,39 @@ use Rattle.chip.specs.Write.{stored_by, after_write_ends}
 use Rattle.chip.proofs.WritesAfter.{own_stored}
 use Rattle.chip.proofs.LevelsAfter.{levels_word, levels_ports}
 use Rattle.chip.specs.Reads.{read_port, read_of}
-use Rattle.chip.specs.Pins.{drives_port, pins_of_port, pins_of}
+use Rattle.chip.specs.Pins.{pins_of}
 use Rattle.chip.specs.Step.{step_of}
 use Rattle.chip.proofs.Ends.{write_ends}
 use Rattle.chip.proofs.Outcome.{step_accepts, step_either}
-use Rattle.laws.specs.PlainBits.{goes_both_ways, handshake, into, output_only, input_only}
+use Rattle.laws.specs.PlainBits.{handshake, output_only, input_only}
 use Rattle.laws.specs.Ports.{Gives, Takes}
-use Rattle.laws.proofs.PlainBits.{two_by_bit, direction_by_bit, strobed_by_bits}
-use Rattle.laws.proofs.OwnPort.{own_accepted, own_pins, own_read}
+use Rattle.laws.proofs.PlainBits.{strobed_by_bits}
+use Rattle.laws.proofs.OwnPort.{own_accepted, own_read}
+use Rattle.laws.proofs.DrivenPorts.{OneWay, goes_out, goes_in, stores, output_pins, input_pins}
 use Rattle.laws.proofs.Falls.{given_latch}
-
--- A port that is not in mode 2, and has a direction.
-record OneWay (w : ℕ) (g : Group) (inward : Bool) : Type 0 where
-  not_two : goes_both_ways w g ≡ false
-  way : into w g ≡ inward
-
-goes_out : (w : ℕ) (g : Group) → output_only w g ≡ true → OneWay w g false
-goes_out w g out =
-    let e = both (not (goes_both_ways w g)) (not (into w g)) out in record { not_two = not-true (goes_both_ways w g) e.0; way = not-true (into w g) e.1 }
-
-goes_in : (w : ℕ) (g : Group) → input_only w g ≡ true → OneWay w g true
-goes_in w g taking = let e = both (not (goes_both_ways w g)) (into w g) taking in record { not_two = not-true (goes_both_ways w g) e.0; way = e.1 }
-
--- What the definitions ask of it. Every port but one that is only an input stores what is written to it.
-stores : (w : ℕ) (g : Group) → output_of w g ≡ not (input_only w g)
-unfolding output_of
-stores w g = rw (two_by_bit w g, direction_by_bit w g) (go (goes_both_ways w g) (into w g))
-  where
-    go : (two way : Bool) → (two || not way) ≡ not (not two && way)
-    go true way = refl
-    go false way = refl
-
-drives : (c : Core) (g : Group) (inward : Bool) → OneWay c.word g inward → drives_port c g ≡ not inward
-unfolding drives_port
-drives c A inward one = rw (two_by_bit c.word A, one.not_two) (stores c.word A ∙ rw (one.not_two, one.way))
-drives c B inward one = stores c.word B ∙ rw one.way
 
 strobes : (w : ℕ) (g : Group) (inward : Bool) → OneWay w g inward → strobed w g Input ≡ (handshake w g && inward)
 strobes w g inward one = strobed_by_bits w g Input ∙ rw (one.not_two, one.way)
 
 -- An output drives and answers its latch, whatever the lines of port C are.
 pub output_drives : (c : Chip) (g : Group) (a : ℕ) → own_address a g ≡ true → output_only c.core.word g ≡ true → Gives c g a
-unfolding pins_of_port read_port
+unfolding read_port
 output_drives c g a own out =
     let w = c.core.word in
     let one = goes_out w g out in
     record {
-      shows = own_pins c a g own ∙ rw (drives c.core g false one);
+      shows = output_pins c g a own out;
       answers = own_read c a g own ∙ rw (strobes w g false one, and-false (handshake w g), stores w g, one.not_two, one.way);
     }
 
 -- An input drives nothing.
 pub input_undriven : (c : Chip) (g : Group) (a : ℕ) → own_address a g ≡ true → input_only c.core.word g ≡ true → Takes c g a
-unfolding pins_of_port read_port
+unfolding read_port
 input_undriven c g a own taking =
     let w = c.core.word in
     let one = goes_in w g taking in
     record {
-      shows = own_pins c a g own ∙ rw (drives c.core g true one);
+      shows = input_pins c g a own taking;
       answers = own_read c a g own ∙ rw (strobes w g true one, and-true (handshake w g), stores w g, taking);
     }
 

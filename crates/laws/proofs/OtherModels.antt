@@ -1,11 +1,8 @@
--- The five errors seen in other models, each forbidden in every state. IBF lowered as the read begins: begin-keeps-ibf in InputFlag.
--- A mode word equal to the last one taken for no change: same_word_renews in ModeWords. The other three are here.
+-- Two of the errors seen in other models, each forbidden in every state: a port C write that changes upper free bits in mode 1, and a read of
+-- another port that drops INTR.
 -- Rests on ChannelPins, PortC, Halves, and chip's Ends.
-use mathlib.Core.Path.{◌≡◌, ◌∙◌, refl, sym}
-use mathlib.Core.Bool.{true, false, not, ◌||◌, and-false}
-use Prim.Native.Nat.{ℕ, ◌<◌, ◌≤◌}
-use lib.Dec.{ltb}
-use borrow.Author.Tests.{le-ltb}
+use Rattle.std.proofs.Common.{◌≡◌, ◌∙◌, refl, sym, ap₂, Bool, true, false, not, ◌||◌, ℕ, ◌<◌, ◌≤◌, ltb, le-ltb}
+use mathlib.Core.Bool.{and-false}
 use Rattle.bits.specs.Bit.{bit_of}
 use Rattle.bus.specs.declared.Phase.TheVariants.{Idle, Writing}
 use Rattle.control.specs.declared.Group.{Group}
@@ -16,22 +13,18 @@ use Rattle.chip.specs.declared.channel.Side.TheVariants.{Input, Output}
 use Rattle.chip.specs.declared.Core.{Core}
 use Rattle.chip.specs.declared.Chip.{Chip}
 use Rattle.chip.specs.State.{with_latch}
-use Rattle.chip.specs.Handshakes.{group_at, strobed, line_pin, enable_of, own_address}
+use Rattle.chip.specs.Handshakes.{group_at, own_address}
 use Rattle.chip.specs.Status.{flag_at, request_of, intr_of}
 use Rattle.chip.specs.Write.{latch_written, after_write_ends}
 use Rattle.chip.specs.Pins.{level_as}
 use Rattle.chip.specs.Step.{on_bus, step_of}
 use Rattle.chip.proofs.Ends.{write_ends}
-use Rattle.laws.specs.Seen.{pin, told}
+use Rattle.laws.specs.Seen.{pin}
 use Rattle.laws.specs.PlainBits.{handshake, free_output}
-use Rattle.laws.proofs.ChannelPins.{told_enable, pin_by_role}
+use Rattle.laws.specs.OtherModels.{UpperStays}
+use Rattle.laws.proofs.ChannelPins.{pin_by_role}
 use Rattle.laws.proofs.PortC.{bits_written}
-use Rattle.laws.proofs.Halves.{intr_after}
-
--- A port C read tells the enable, whatever level STB or ACK has.
-pub read_tells_enable : (c : Chip) (g : Group) (s : Side) → strobed c.core.word g s ≡ true
-    → told c (line_pin g s) ≡ enable_of c.core.inte g s
-read_tells_enable c g s on = told_enable c g s on
+use Rattle.laws.proofs.Halves.{read_leaves}
 
 -- A port C write beside a handshake of group A leaves bits 7 to 4 of the latch.
 upper_stays : (w x d n : ℕ) → handshake w A ≡ true → 4 ≤ n → n < 8 → bit_of (latch_written w x d) n ≡ bit_of x n
@@ -39,7 +32,7 @@ upper_stays w x d n beside above below =
     let none : (ltb n 4 || not (handshake w A)) ≡ false = rw (le-ltb _ _ above, beside) in
     bits_written w x d n below ∙ rw (none, and-false (free_output w n))
 
-pub write_leaves_upper : (c : Chip) (b x d n : ℕ) → c.phase ≡ Writing 2 b → handshake c.core.word A ≡ true → 4 ≤ n → n < 8
+write_leaves_upper : (c : Chip) (b x d n : ℕ) → c.phase ≡ Writing 2 b → handshake c.core.word A ≡ true → 4 ≤ n → n < 8
     → bit_of (step_of c 2 x d).chip.core.c.latch n ≡ bit_of c.core.c.latch n
 unfolding after_write_ends
 write_leaves_upper c b x d n phase beside above below =
@@ -65,7 +58,7 @@ level_same c b x n OBF phase same = flag_same c.core x (group_at n) Output
 level_same c b x n STB phase same = refl
 level_same c b x n ACK phase same = refl
 
-pub write_leaves_upper_pins : (c : Chip) (b x d n : ℕ) → c.phase ≡ Writing 2 b → handshake c.core.word A ≡ true → 4 ≤ n → n < 8
+write_leaves_upper_pins : (c : Chip) (b x d n : ℕ) → c.phase ≡ Writing 2 b → handshake c.core.word A ≡ true → 4 ≤ n → n < 8
     → pin (step_of c 2 x d).chip n ≡ pin c n
 unfolding after_write_ends
 write_leaves_upper_pins c b x d n phase beside above below =
@@ -75,6 +68,14 @@ write_leaves_upper_pins c b x d n phase beside above below =
     ∙ level_same c b latch n (role_of c.core.word n) phase (upper_stays c.core.word c.core.c.latch b n beside above below)
     ∙ sym (pin_by_role c n below))
 
--- A read of another port leaves a group's INTR as it was: of reads, only the own port's drops it. What every cycle leaves is in Halves.
+-- The end of a write to port C leaves both.
+pub upper_left : (c : Chip) (b x d : ℕ) → c.phase ≡ Writing 2 b → handshake c.core.word A ≡ true → UpperStays c (step_of c 2 x d).chip
+upper_left c b x d phase beside = record {
+  bits = λ n. write_leaves_upper c b x d n phase beside;
+  pins = λ n. write_leaves_upper_pins c b x d n phase beside;
+}
+
+-- The beginning of a read of another port leaves a group's INTR: of reads, only the own port's drops it.
 pub read_elsewhere_keeps_intr : (c : Chip) (g : Group) (x d : ℕ) → own_address x g ≡ false → intr_of (step_of c 1 x d).chip g ≡ intr_of c g
-read_elsewhere_keeps_intr c g x d = (intr_after c g x d).read_begins
+unfolding intr_of
+read_elsewhere_keeps_intr c g x d other = ap₂ (λ (i o : Bool). i || o) (read_leaves c g Input x d other) (read_leaves c g Output x d refl)

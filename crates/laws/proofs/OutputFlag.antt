@@ -2,9 +2,8 @@
 -- nothing else but a mode word and a reset ("Handshake", "Forcing the flags").
 -- Rests on ChannelPins, FillAfter, Forcing, FlagAfter, bits' Logic, control's Strobed, chip's ConditionsLeft,
 -- WritesAfter, LevelsAfter, Ends and Outcome.
-use mathlib.Core.Path.{◌≡◌, ◌∙◌, refl, sym, subst}
-use mathlib.Core.Bool.{Bool, true, false, not, or-true}
-use Prim.Native.Nat.{ℕ}
+use Rattle.std.proofs.Common.{◌≡◌, ◌∙◌, refl, sym, subst, Bool, true, false, not, ℕ}
+use mathlib.Core.Bool.{or-true}
 use Rattle.bits.specs.Bit.{bit_of}
 use Rattle.bits.proofs.Logic.{contrary}
 use Rattle.bus.specs.declared.Phase.TheVariants.{Writing}

@@ -1,9 +1,6 @@
 -- At the address of port A or B: levels are accepted, and what the pin view and a read show there.
 -- Rests on nothing.
-use mathlib.Core.Path.{◌≡◌}
-use mathlib.Core.Bool.{true}
-use Prim.Native.Nat.{ℕ}
-use borrow.Author.Tests.{eqb-true}
+use Rattle.std.proofs.Common.{◌≡◌, true, ℕ, eqb-true}
 use Rattle.bus.specs.Kinds.{is_kind}
 use Rattle.bus.specs.Refusals.{number_of}
 use Rattle.bus.specs.declared.Phase.{Phase}

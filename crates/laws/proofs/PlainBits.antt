@@ -1,11 +1,7 @@
 -- What the mode word says, told by its plain bits: the mode and the direction of each group, what is strobed, the role of each pin ("Mode
 -- words", "Port C roles").
 -- Rests on bits' Tested, and control's AsByte, ByBits, RoleWords and PinByMasks.
-use mathlib.Core.Path.{◌≡◌, ◌∙◌, refl, ap}
-use mathlib.Core.Bool.{Bool, true, false, cond, not, ◌&&◌, ◌||◌}
-use Prim.Native.Nat.{ℕ, zero, suc, ◌/◌, ◌%◌, ◌^◌, ◌<◌}
-use native.Mathlib.Omega.{arith}
-use lib.Dec.{eqb, lit<}
+use Rattle.std.proofs.Common.{◌≡◌, ◌∙◌, refl, ap, Bool, true, false, cond, not, ◌&&◌, ◌||◌, ℕ, zero, suc, ◌/◌, ◌%◌, ◌^◌, ◌<◌, arith, eqb, lit<}
 use Rattle.bits.specs.Bit.{bit_of}
 use Rattle.bits.proofs.Tested.{numbers, numbers_of_two}
 use Rattle.control.specs.declared.Group.{Group}

@@ -1,9 +1,6 @@
 -- The chip at power-up, of either edition and under any outside levels: what it shows, and how the lines of its handshakes start ("State").
 -- Rests on ChannelPins and ModeWords.
-use mathlib.Core.Path.{◌≡◌, ◌∙◌, refl, ap, sym, subst}
-use mathlib.Core.Bool.{true}
-use mathlib.Core.List.{◌++◌}
-use Prim.Native.Nat.{ℕ}
+use Rattle.std.proofs.Common.{◌≡◌, ◌∙◌, refl, ap, sym, subst, true, ◌++◌, ℕ}
 use Rattle.bits.specs.Bit.{bit_of, value_of}
 use Rattle.bus.specs.Kinds.{is_kind}
 use Rattle.bus.specs.Histories.{levels, write}
@@ -30,7 +27,7 @@ use Rattle.laws.specs.Anew.{Anew}
 use Rattle.laws.specs.PowerUp.{AsNamed, Starts}
 use Rattle.laws.specs.Marked.{after}
 use Rattle.laws.proofs.ChannelPins.{pin_by_role, line_pin_lem}
-use Rattle.laws.proofs.ModeWords.{mode_word_renews, reset_roles}
+use Rattle.laws.proofs.ModeWords.{word_renews, reset_roles}
 
 -- Each port shows the levels that were named for it, and nothing is driven.
 pub power_up_shows : (ed : Edition) (l : Levels) → AsNamed l (power_up_as ed l)
@@ -75,4 +72,4 @@ pub starts : (ed : Edition) (l : Levels) (w : ℕ) → bit_of w 7 ≡ true → S
 unfolding step_of step_in number_of is_kind
 starts ed l w set =
     let writing : Chip = record { phase = Writing 3 w; edition = ed; core = (power_up_as ed l).core } in
-    starts_anew ed l w (step_of writing 2 0 0).chip (mode_word_renews writing w 0 0 refl set).core
+    starts_anew ed l w (step_of writing 2 0 0).chip (word_renews writing w 0 0 refl set)

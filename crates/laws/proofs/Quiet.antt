@@ -1,12 +1,8 @@
 -- Why the interrupt is quiet, in every state: the reason given is true, and the first that is; INTR is said to be high exactly where the
 -- pin view shows it; and no group but A and B is explained ("Why the interrupt is quiet").
 -- Rests on ChannelPins, Interrupts, and chip's ByReason and ByMode.
-use mathlib.Core.Path.{◌≡◌, ◌∙◌, refl, ap, sym}
-use mathlib.Core.Bool.{Bool, true, false, cond, not, ◌&&◌, ◌||◌, or-true}
-use Prim.Native.Nat.{ℕ, zero, suc}
-use native.Mathlib.Omega.{arith}
-use lib.Dec.{ltb}
-use borrow.Author.Tests.{ne_eqb, lt-ltb}
+use Rattle.std.proofs.Common.{◌≡◌, ◌∙◌, refl, ap, sym, Bool, true, false, cond, not, ◌&&◌, ◌||◌, ℕ, zero, suc, arith, ltb, ne_eqb, lt-ltb}
+use mathlib.Core.Bool.{or-true}
 use Rattle.control.specs.declared.Group.{Group}
 use Rattle.chip.specs.declared.channel.Side.{Side}
 use Rattle.chip.specs.declared.channel.Side.TheVariants.{Input, Output}

@@ -1,9 +1,7 @@
--- Chips with the same core show the same where the same cycles of ports run on them: at the pins, in the answers to reads, in the tallies, and in
--- what is said of the interrupts.
+-- Chips with the same core show the same where the same cycles of ports run on them: at the pins, in the answers to reads, in the tallies, and
+-- in what is said of the interrupts.
 -- Rests on bits' BitLaws.
-use mathlib.Core.Path.{◌≡◌, refl, ap}
-use mathlib.Core.Bool.{Bool, cond}
-use Prim.Native.Nat.{ℕ}
+use Rattle.std.proofs.Common.{◌≡◌, refl, ap, Bool, cond, ℕ}
 use Rattle.bits.specs.Bit.{bit_of, assembled}
 use Rattle.bits.proofs.BitLaws.{assembled_same}
 use Rattle.bus.specs.declared.Phase.{Phase}

@@ -1,10 +1,9 @@
 -- A channel that the mode word does not strobe takes no part in edges and cycles: it keeps its condition and its tallies through
 -- every event but a reset and a mode word ("Events and numbers").
--- Rests on ByEvent, Falls, and chip's Surrounded, SettingsAfter, ReadsAfter and WritesAfter.
-use mathlib.Core.Path.{◌≡◌, ◌∙◌, refl}
-use mathlib.Core.Bool.{Bool, true, false, cond, and-false}
-use Prim.Native.Nat.{ℕ}
-use lib.Dec.{eqb}
+-- Rests on ByEvent, Falls, bits' Logic, and chip's Surrounded, SettingsAfter, ReadsAfter and WritesAfter.
+use Rattle.std.proofs.Common.{◌≡◌, ◌∙◌, refl, Bool, true, false, cond, ℕ, eqb}
+use mathlib.Core.Bool.{and-false}
+use Rattle.bits.proofs.Logic.{contrary}
 use Rattle.control.specs.declared.Group.{Group}
 use Rattle.control.specs.Mode.{output_of}
 use Rattle.chip.specs.declared.channel.Side.{Side}
@@ -20,9 +19,8 @@ use Rattle.chip.proofs.ReadsAfter.{begun_input, begun_output, ended_input, ended
 use Rattle.chip.specs.Write.{stored_in, latch_written}
 use Rattle.chip.proofs.WritesAfter.{Stored}
 use Rattle.chip.specs.Step.{step_of}
-use Rattle.laws.specs.Seen.{makes_anew}
-use Rattle.laws.specs.Kept.{Kept}
-use Rattle.laws.proofs.ByEvent.{not_anew, by_event}
+use Rattle.laws.specs.Kept.{Kept, Keeps, reaches_all}
+use Rattle.laws.proofs.ByEvent.{by_event}
 use Rattle.laws.proofs.Falls.{kept, levels_kept}
 
 module _ (c : Core) (g : Group) where
@@ -46,19 +44,21 @@ module _ (c : Core) (g : Group) where
       go false true = kept refl
       go out false = kept refl
 
-pub unstrobed_stays : (c : Chip) (g : Group) (s : Side) → strobed c.core.word g s ≡ false → (k x d : ℕ) → ¬ (k ≡ 0)
-    → (k ≡ 2 → makes_anew c.phase ≡ false) → Kept (channel_of c.core g s) (channel_of (step_of c k x d).chip.core g s)
-unstrobed_stays c g s off k x d reset renewal = by_event (λ c'. Still c.core g s c'.core) c k x d (record {
-  stays = kept refl;
-  reset = λ zero. absurd (reset zero);
-  read_begins = λ one ok. begun c.core g s off x;
-  ends = λ two. record {
-    read = λ p phase. ended c.core g s off p;
-    mode_word = λ w phase seven. not_anew (renewal two) phase seven;
-    bit_word = λ w phase seven. kept ((bit_put c.core w seven).channel g s ∙ rw (off));
-    lines = λ b phase. kept (spared_channel (latch_spares c.core (latch_written c.core.word c.core.c.latch b)) g s);
-    port = λ a b phase. written c.core g s off a b;
-  };
-  write_begins = λ three ok. kept refl;
-  levels = λ five ok. levels_kept c.core g s x d (rw (off) (and-false (eqb x 2)));
-})
+pub unstrobed_stays : (c : Chip) (g : Group) (s : Side) (k x d : ℕ) → strobed c.core.word g s ≡ false → reaches_all c.phase k ≡ false
+    → Keeps c g s (step_of c k x d).chip
+unstrobed_stays c g s k x d off none =
+    let unreached = contrary (reaches_all c.phase k) none in
+    by_event (λ c'. Still c.core g s c'.core) c k x d (record {
+      stays = kept refl;
+      reset = λ zero. absurd (unreached (rw (zero)));
+      read_begins = λ one ok. begun c.core g s off x;
+      ends = λ two. record {
+        read = λ p phase. ended c.core g s off p;
+        mode_word = λ w phase seven. absurd (unreached (rw (two, phase, seven)));
+        bit_word = λ w phase seven. kept ((bit_put c.core w seven).channel g s ∙ rw (off));
+        lines = λ b phase. kept (spared_channel (latch_spares c.core (latch_written c.core.word c.core.c.latch b)) g s);
+        port = λ a b phase. written c.core g s off a b;
+      };
+      write_begins = λ three ok. kept refl;
+      levels = λ five ok. levels_kept c.core g s x d (rw (off) (and-false (eqb x 2)));
+    })

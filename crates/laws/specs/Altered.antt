@@ -18,6 +18,7 @@ use Rattle.chip.specs.Status.{request_of}
 use Rattle.chip.specs.Reasons.{reason_of}
 use Rattle.chip.specs.ControlWord.{enabled}
 use Rattle.laws.specs.Seen.{pin, intr_pin}
+use Rattle.laws.specs.Quiet.{later, NoneSeen}
 
 -- A condition in which a channel's flag is right: a byte in an input, none in an output.
 abbrev pub right_fill : Side → Fill
@@ -56,3 +57,7 @@ pub record HalfHigh (c : Chip) (g : Group) (s : Side) : Type 0 where
   pub asks : request_of c g s ≡ true
   pub named : reason_of c g s ≡ High
   pub shown : pin c (intr_pin g) ≡ true
+
+-- The half would be high: with the cause that is given for it altered, and none behind that one seen, it is.
+abbrev pub WouldBeHigh : Chip → Group → Side → Type 0
+WouldBeHigh c g s = NoneSeen c g s (later (reason_of c g s)) → HalfHigh (altered c g s (reason_of c g s)) g s

@@ -1,7 +1,8 @@
 -- What a mode word and a reset make of the chip ("State", "Mode words").
-use Rattle.std.specs.Prelude.{◌≡◌, false, ℕ}
+use Rattle.std.specs.Prelude.{◌≡◌, false, ℕ, ◌<◌}
 use Rattle.bus.specs.declared.Phase.TheVariants.{Idle}
 use Rattle.control.specs.declared.Group.{Group}
+use Rattle.control.specs.Role.{input, role_of}
 use Rattle.chip.specs.declared.channel.Side.{Side}
 use Rattle.chip.specs.declared.channel.Fill.TheVariants.{Empty}
 use Rattle.chip.specs.Channel.{is_waiting, counted, cleared}
@@ -9,6 +10,8 @@ use Rattle.chip.specs.declared.Core.{Core}
 use Rattle.chip.specs.declared.Chip.{Chip}
 use Rattle.chip.specs.State.{port_of, channel_of}
 use Rattle.chip.specs.Handshakes.{enable_of}
+use Rattle.chip.specs.Reads.{read_port}
+use Rattle.chip.specs.Pins.{pins_of}
 use Rattle.chip.specs.Step.{Stepped}
 
 -- An event is accepted, has no byte to give, and leaves the bus idle.
@@ -33,3 +36,10 @@ pub record Anew (before : Core) (w : ℕ) (after : Core) : Type 0 where
 pub record Obeyed (c : Chip) (w : ℕ) (r : Stepped) : Type 0 where
   pub bus : Freed r
   pub core : Anew c.core w r.chip.core
+
+-- What a reset leaves: under the word 9B every pin of port C is an input, no pin of any port is driven, and ports A and B read as the levels
+-- that stood outside.
+pub record AllInputs (before after : Chip) : Type 0 where
+  pub roles : (n : ℕ) → n < 8 → role_of 0x9b n ≡ input
+  pub driven : (p : ℕ) → (pins_of after p).driven ≡ 0
+  pub reads : (g : Group) → read_port 0x9b g (port_of after.core g) ≡ (port_of before.core g).outside

@@ -40,3 +40,12 @@ examples =
     ∷ (Older past write 3 0xb4 gives 3 with 0)
     ∷ (Older past (event 3 3 0xb4 ∷ []) gives 3 with 0)
     ∷ []
+
+-- The number and the byte of each example of a list, as the model gives them and as the list has them.
+abbrev pub model_gives : List Example → List ℕ
+model_gives [] = []
+model_gives (x ∷ xs) = (read_of_control x.edition x.history).number ∷ (read_of_control x.edition x.history).byte ∷ model_gives xs
+
+abbrev pub list_gives : List Example → List ℕ
+list_gives [] = []
+list_gives (x ∷ xs) = x.number ∷ x.byte ∷ list_gives xs

@@ -42,8 +42,8 @@ pub record ReadBack (byte w : ℕ) : Type 0 where
   pub mode_bit : bit_of byte 7 ≡ true
   pub others : (n : ℕ) → n < 7 → bit_of byte n ≡ bit_of w n
 
--- A read of control, by the edition: the older refuses it with 3, whatever the bus does. The newer refuses it with 4 while a cycle runs; on an idle
--- bus it begins, with the mode word read back, and nothing but the bus has changed. In either it shows nowhere.
+-- A read of control, by the edition: the older refuses it with 3, whatever the bus does. The newer refuses it with 4 while a cycle runs; on an
+-- idle bus it begins, with the mode word read back, and nothing but the bus has changed. In either it shows nowhere.
 pub record ControlRead (c : Chip) (d : ℕ) : Type 0 where
   pub older : c.edition ≡ Older → step_of c 1 3 d ≡ refused c 3
   pub in_cycle : c.edition ≡ Newer → ¬ (c.phase ≡ Idle) → step_of c 1 3 d ≡ refused c 4

@@ -1,5 +1,6 @@
 pub mod Seen
 pub mod PlainBits
+pub mod ChannelPins
 pub mod Anew
 pub mod Kept
 pub mod PowerUp
@@ -7,12 +8,15 @@ pub mod Ports
 pub mod Chart
 pub mod PortC
 pub mod OnePin
+pub mod Enables
 pub mod Loads
 pub mod Flags
 pub mod Forcing
 pub mod Halves
 pub mod Quiet
 pub mod Altered
+pub mod Ends
+pub mod OtherModels
 pub mod Marked
 pub mod Editions
 pub mod ControlExamples

@@ -18,6 +18,10 @@ abbrev pub handshake : ℕ → Group → Bool
 handshake w A = bit_of w 6 || bit_of w 5
 handshake w B = bit_of w 2
 
+-- The mode of a group by these bits: 2 where its port goes both ways, 1 where there is another handshake, and 0 where there is none.
+abbrev pub mode_by : ℕ → Group → ℕ
+mode_by w g = cond (goes_both_ways w g) 2 (cond (handshake w g) 1 0)
+
 -- The direction is input: bit 4 for port A, bit 1 for port B.
 abbrev pub into : ℕ → Group → Bool
 into w A = bit_of w 4

@@ -1,11 +1,6 @@
 -- A device and an account that agree go on agreeing with every event.
 -- Rests on Numbers and Ports, on the bus's ByKind and Outcomes.
-use mathlib.Core.Path.{◌≡◌, refl, sym, subst}
-use mathlib.Core.Bool.{cond}
-use Prim.Native.Nat.{ℕ, zero, suc}
-use native.Mathlib.Omega.{arith}
-use lib.Dec.{eqb, lit<}
-use borrow.Author.Tests.{ne_eqb}
+use Rattle.std.proofs.Common.{◌≡◌, refl, sym, subst, cond, ℕ, zero, suc, arith, eqb, lit<, ne_eqb}
 use Rattle.bus.specs.Kinds.{is_kind}
 use Rattle.bus.specs.Event.{Event, event}
 use Rattle.bus.proofs.ByKind.{by_kind}

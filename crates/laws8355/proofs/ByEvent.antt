@@ -1,9 +1,6 @@
 -- What an event leaves of a port: of all events only a reset, the end of a write and levels reach it.
 -- Rests on Ports, on the bus's ByKind and Outcomes.
-use mathlib.Core.Path.{◌≡◌, refl, sym, subst}
-use mathlib.Core.List.{[], ◌∷◌}
-use Prim.Native.Nat.{ℕ, ◌<◌}
-use native.Mathlib.Omega.{arith}
+use Rattle.std.proofs.Common.{◌≡◌, refl, sym, subst, [], ◌∷◌, ℕ, ◌<◌, arith}
 use Rattle.bus.specs.Kinds.{is_kind}
 use Rattle.bus.specs.Event.{Event}
 use Rattle.bus.proofs.ByKind.{by_kind}

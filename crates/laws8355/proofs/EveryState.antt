@@ -1,22 +1,19 @@
 -- The document's sentences about reads, resets and what moves a pin hold of every pin of both ports, in every state.
--- Rests on Cycles, Ports, ByEvent and Pins.
-use mathlib.Core.Path.{◌≡◌, ◌∙◌, refl, ap, sym}
-use mathlib.Core.Bool.{false}
-use mathlib.Core.List.{[], ◌∷◌, ◌++◌}
-use Prim.Native.Nat.{ℕ, ◌+◌, ◌<◌}
-use native.Mathlib.Omega.{arith}
+-- Rests on the bus's Facts, and on Ports, ByEvent and Pins.
+use Rattle.std.proofs.Common.{◌≡◌, ◌∙◌, refl, ap, sym, false, [], ◌∷◌, ◌++◌, ℕ, ◌+◌, ◌<◌, arith}
 use Rattle.bits.specs.Bit.{bit_of}
 use Rattle.bus.specs.Event.{Event}
 use Rattle.bus.specs.Histories.{levels}
 use Rattle.bus.specs.declared.Phase.TheVariants.{Idle, Writing}
+use Rattle.bus.specs.Facts.{Facts}
+use Rattle.bus.proofs.Facts as bus
 use Rattle.i8355.specs.declared.Port.{Port}
 use Rattle.i8355.specs.declared.Chip8355.{Chip8355}
 use Rattle.i8355.specs.Registers.{with_outside, after_reset, after_levels}
 use Rattle.i8355.specs.Views.{pins_of_port, pins_of}
-use Rattle.i8355.specs.Step.{on_bus, as_stepped, step_of}
+use Rattle.i8355.specs.Step.{limits, on_bus, device, as_stepped, step_of}
 use Rattle.laws8355.specs.Promise.{run}
 use Rattle.laws8355.specs.Sheet.{level, drives, reset, NoWriteRuns, InEveryState}
-use Rattle.laws8355.proofs.Cycles.{facts}
 use Rattle.laws8355.proofs.Ports.{port_at, at_levels, at_reset, at_pins, written_elsewhere, levels_elsewhere}
 use Rattle.laws8355.proofs.ByEvent.{by_event}
 use Rattle.laws8355.proofs.Pins.{levels_run, reset_runs, clear, drives_is, level_then, input_shows, output_shows, after_reset_lem}
@@ -55,12 +52,15 @@ module _ (p n : ℕ) (there : p < 2) (small : n < 8) where
         (λ levels. levels_elsewhere c.ports e.second p there e.first (λ own. elsewhere (levels, own))))
         ∙ sym (at_pins c p there)
 
+    cycles : Facts device limits c
+    cycles = bus.facts device limits c refl
+
     pub in_every_state : InEveryState c p n
     unfolding step_of
     in_every_state = record {
-      both_read = λ d. ((facts c).begins p d).read_answers;
+      both_read = λ d. (cycles.begins p d).read_answers;
       held = held_in;
-      unreadable = λ d. ap as_stepped (((facts c).at_place (p + 2) d).not_readable (omega (arith, there)) (omega arith));
+      unreadable = λ d. ap as_stepped ((cycles.at_place (p + 2) d).not_readable (omega (arith, there)) (omega arith));
       reset_turns_in = reset_turns;
       reset_shows = reset_shows_lem;
       reset_keeps_lines = λ off. reset_leaves ∙ sym (input_shows p n there small c off);

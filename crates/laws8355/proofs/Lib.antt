@@ -9,5 +9,6 @@ pub mod Unreached
 pub mod Numbers
 pub mod Agrees
 pub mod Account
+pub mod Accounted
 pub mod Script
 pub mod Determined

@@ -1,10 +1,6 @@
 -- The number of an event of the 8355 is that of its row in the account's table.
 -- Rests on the bus's ByKind.
-use mathlib.Core.Path.{◌≡◌, refl}
-use mathlib.Core.Bool.{true, cond}
-use Prim.Native.Nat.{ℕ, zero, suc}
-use native.Mathlib.Omega.{arith}
-use borrow.Author.Tests.{le-ltb}
+use Rattle.std.proofs.Common.{◌≡◌, refl, true, cond, ℕ, zero, suc, arith, le-ltb}
 use Rattle.bus.specs.Kinds.{is_kind, no_kind}
 use Rattle.bus.specs.Event.{event}
 use Rattle.bus.proofs.ByKind.{by_kind, no_row}

@@ -1,11 +1,6 @@
 -- The ports after whole writes, levels and a reset, and what is seen of a pin by its three bits.
 -- Rests on Ports, and on bits' BitLaws and MaskLaws.
-use mathlib.Core.Path.{◌≡◌, ◌∙◌, refl, ap, sym}
-use mathlib.Core.Bool.{Bool, true, false, cond}
-use mathlib.Core.List.{List, [], ◌++◌}
-use Prim.Native.Nat.{ℕ, ◌+◌, ◌<◌}
-use native.Mathlib.Omega.{arith}
-use borrow.Author.Tests.{lt-ltb}
+use Rattle.std.proofs.Common.{◌≡◌, ◌∙◌, refl, ap, sym, Bool, true, false, cond, List, [], ◌++◌, ℕ, ◌+◌, ◌<◌, arith, lt-ltb}
 use Rattle.bits.specs.Bit.{bit_of, value_of}
 use Rattle.bits.proofs.BitLaws.{bit_of_value}
 use Rattle.bits.proofs.MaskLaws.{bit_of_blend}

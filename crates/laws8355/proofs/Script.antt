@@ -1,8 +1,6 @@
 -- The answers to every script of the 8355 are the account's. Those to the scripts of specs/Script.antt are computed by it, without a device.
 -- Rests on Account and Agrees, on script's History and on text's Quoted.
-use mathlib.Core.Path.{◌≡◌, ◌∙◌, refl}
-use mathlib.Core.List.{List, [], ◌∷◌}
-use Prim.Native.Nat.{ℕ}
+use Rattle.std.proofs.Common.{◌≡◌, ◌∙◌, refl, List, [], ◌∷◌, ℕ}
 use Rattle.bits.specs.Bit.{bit_of}
 use Rattle.bus.specs.Kinds.{is_kind, operands_of}
 use Rattle.bus.specs.Event.{Event}

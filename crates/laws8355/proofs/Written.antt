@@ -1,10 +1,6 @@
 -- The document's sentences about writes hold of every pin of both ports, in every state with an idle bus.
 -- Rests on Ports and Pins.
-use mathlib.Core.Path.{◌≡◌, ◌∙◌, ap, sym, subst}
-use mathlib.Core.Bool.{true, false}
-use mathlib.Core.List.{List, [], ◌++◌}
-use Prim.Native.Nat.{ℕ, ◌+◌, ◌<◌}
-use native.Mathlib.Omega.{arith}
+use Rattle.std.proofs.Common.{◌≡◌, ◌∙◌, ap, sym, subst, true, false, List, [], ◌++◌, ℕ, ◌+◌, ◌<◌, arith}
 use Rattle.bits.specs.Bit.{bit_of}
 use Rattle.bus.specs.Event.{Event}
 use Rattle.bus.specs.Histories.{write, levels}

@@ -8,8 +8,8 @@ use Rattle.bus.specs.declared.Phase.{Phase}
 use Rattle.bus.specs.declared.Phase.TheVariants.{Idle}
 use Rattle.laws8355.specs.Table.{Act, nothing, reset, written, levels, row_of}
 
--- What runs on the bus; what the register at each address holds, the output latches of A and B at 0 and 1 and their direction registers at 2 and 3; and
--- the levels that the outside puts on each port.
+-- What runs on the bus; what the register at each address holds, the output latches of A and B at 0 and 1 and their direction registers at 2 and
+-- 3; and the levels that the outside puts on each port.
 pub record Account : Type 0 where
   pub phase : Phase
   pub register : ℕ → ℕ

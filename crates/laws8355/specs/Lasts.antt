@@ -18,9 +18,9 @@ abbrev pub NonePut : ℕ → List Event → Type 0
 NonePut p [] = Unit {0}
 NonePut p (e ∷ es) = ¬ ((e.kind ≡ 5) × (e.first ≡ p)) × NonePut p es
 
--- Pin n of port p after any events es from a state c. Where a byte d was written to the port before them, on an idle bus, and none of them ends another
--- write to it, the pin shows the byte's bit wherever it is an output: resets, other directions, levels, reads and refused events leave the byte. Where
--- levels v came onto the port before them, whatever ran on the bus, and no others come, it shows theirs wherever it is an input.
+-- Pin n of port p after any events es from a state c. Where a byte d was written to the port before them, on an idle bus, and none of them ends
+-- another write to it, the pin shows the byte's bit wherever it is an output: resets, other directions, levels, reads and refused events leave
+-- the byte. Where levels v came onto the port before them, whatever ran on the bus, and no others come, it shows theirs wherever it is an input.
 pub record Lasts (c : Chip8355) (p n : ℕ) (es : List Event) : Type 0 where
   pub written : (d : ℕ) → c.phase ≡ Idle → NoneWritten p (run c (write p d)) es → drives (run c (write p d ++ es)) p n ≡ true
       → level (run c (write p d ++ es)) p n ≡ bit_of d n

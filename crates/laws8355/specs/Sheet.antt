@@ -33,8 +33,8 @@ NoWriteRuns c p = (d : ℕ) → ¬ (c.phase ≡ Writing p d) × ¬ (c.phase ≡ 
 pub record Written (c : Chip8355) (p n : ℕ) : Type 0 where
   -- A one in the direction register makes the pin an output, and a zero an input.
   pub turns : (m : ℕ) → drives (run c (write (direction_of p) m)) p n ≡ bit_of m n
-  -- All bits of a port that is written are affected, whatever their direction m is: an output shows the byte's bit at once, and any pin where it is made
-  -- an output later.
+  -- All bits of a port that is written are affected, whatever their direction m is: an output shows the byte's bit at once, and any pin where it
+  -- is made an output later.
   pub at_once : (m d : ℕ) → bit_of m n ≡ true → level (run c (write (direction_of p) m ++ write p d)) p n ≡ bit_of d n
   pub affected : (m d m' : ℕ) → bit_of m' n ≡ true → level (run c (write (direction_of p) m ++ write p d ++ write (direction_of p) m')) p n ≡ bit_of d n
   -- A zero in the direction register keeps the latch's byte d from the pin, which shows what is outside.
@@ -42,7 +42,8 @@ pub record Written (c : Chip8355) (p n : ℕ) : Type 0 where
   -- The byte written before shows once the bit is set.
   pub shown_then : (d m m' : ℕ) → bit_of m n ≡ false → bit_of m' n ≡ true
       → level (run c (write p d ++ write (direction_of p) m ++ write (direction_of p) m')) p n ≡ bit_of d n
-  -- A reset in between keeps the latch and the levels outside: whatever direction m comes after it, the pin shows what it would have shown without it.
+  -- A reset in between keeps the latch and the levels outside: whatever direction m comes after it, the pin shows what it would have shown
+  -- without it.
   pub reset_keeps : (m : ℕ) → level (run c (reset ++ write (direction_of p) m)) p n ≡ level (run c (write (direction_of p) m)) p n
 
 -- What is so in every state c, whatever runs on the bus.

@@ -4,8 +4,8 @@ use Rattle.bus.specs.Event.{Event}
 use Rattle.bus.specs.declared.Phase.{Phase}
 use Rattle.bus.specs.declared.Phase.TheVariants.{Idle, Reading, Writing}
 
--- What comes to the registers and to the lines. `reset`: RESET is high. `written x d`: IOW returns high, with the byte d for the register that AD1 and
--- AD0 have selected by x. `levels x d`: the levels d come onto port x.
+-- What comes to the registers and to the lines. `reset`: RESET is high. `written x d`: IOW returns high, with the byte d for the register that
+-- AD1 and AD0 have selected by x. `levels x d`: the levels d come onto port x.
 pub data Act : Type 0 where
   nothing reset : Act
   written levels : ℕ → ℕ → Act

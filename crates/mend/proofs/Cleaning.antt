@@ -1,13 +1,7 @@
 -- What the clean script has of a line, and how long it can be: longer than the text by one byte at most.
 -- Rests on Dropping and Fit.
-use mathlib.Core.Path.{◌≡◌, ◌∙◌, refl, ap, sym}
-use mathlib.Core.Bool.{Bool, true, false, cond}
-use mathlib.Core.List.{List, [], ◌∷◌, ◌++◌, map, flat_map}
-use Prim.Native.Nat.{ℕ, suc, ◌+◌, ◌≤◌}
-use native.Mathlib.Omega.{arith}
-use denote.Ref.{Bor}
-use lib.Dec.{eqb}
-use lib.ListN.{length, drop, length-append}
+use Rattle.std.proofs.Common.{◌≡◌, ◌∙◌, refl, ap, sym, Bool, true, false, cond, List, [], ◌∷◌, ◌++◌, map, ℕ, suc, ◌+◌, ◌≤◌, arith, Bor, eqb, length, drop, length-append}
+use mathlib.Core.List.{flat_map}
 use lib.Seq.{append_snoc}
 use Rattle.std.specs.List.{sum_by}
 use Rattle.std.proofs.lemmas.List.Sums.{sum_by-cons}

@@ -1,8 +1,7 @@
 -- The contract of each public function of mend leaves no choice: of the answer, and of every byte of both outputs. What an answer tells, no
 -- other answer tells.
 -- Rests on bits' Determined.
-use mathlib.Core.Path.{◌≡◌, ◌∙◌, refl, ap, sym}
-use Rattle.std.specs.Prelude.{ℕ, cond, eqb, Option, Some, None, Result, Ok, Err}
+use Rattle.std.proofs.Common.{◌≡◌, ◌∙◌, refl, ap, sym, ℕ, cond, eqb, Option, Some, None, Result, Ok, Err}
 use Rattle.bits.proofs.Determined.{Determines, equation_determines}
 use Rattle.mend.specs.declared.Mended.{Mended}
 use Rattle.mend.specs.declared.MendRefusal.{MendRefusal}

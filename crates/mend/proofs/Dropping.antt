@@ -1,15 +1,6 @@
 -- The CR at the end of a line: what is left of the line without it.
 -- Rests on nothing.
-use mathlib.Core.Path.{◌≡◌, ◌∙◌, refl, ap, sym}
-use mathlib.Core.Logic.{◌≢◌}
-use mathlib.Core.Bool.{Bool, true, false, cond}
-use mathlib.Core.List.{List, [], ◌∷◌, ◌++◌}
-use Prim.Native.Nat.{ℕ, ◌≤◌}
-use native.Mathlib.Omega.{arith}
-use lib.Dec.{eqb}
-use lib.ListN.{length}
-use borrow.Author.Tests.{ne_eqb}
-use Rattle.std.proofs.Common.{Option, Some, None, Bor, unwrap_or}
+use Rattle.std.proofs.Common.{◌≡◌, ◌∙◌, refl, ap, sym, ◌≢◌, Bool, true, false, cond, List, [], ◌∷◌, ◌++◌, ℕ, ◌≤◌, arith, eqb, length, ne_eqb, Option, Some, None, Bor, unwrap_or}
 use Rattle.std.specs.Option.{MatchOption}
 use Rattle.mend.specs.Line.{cr, without_cr}
 

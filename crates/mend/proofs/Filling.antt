@@ -1,13 +1,8 @@
 -- An output while the bytes of some items are written into it, one after the other: each turn changes it, and what it will hold at the end
 -- stays the same. The items are the lines of a text, and an item's bytes what the clean script has of it, or its sign.
 -- Rests on script's Filling.
-use mathlib.Core.Path.{◌≡◌, ◌∙◌, refl, ap, sym}
-use mathlib.Core.List.{List, [], ◌∷◌, ◌++◌, map, flat_map, append_assoc}
-use Prim.Native.Nat.{ℕ, suc, ◌+◌, ◌-◌, ◌≤◌}
-use native.Mathlib.Nat.{zero-add, add-zero}
-use native.Mathlib.Numerals.{add-one}
-use native.Mathlib.Omega.{arith}
-use lib.ListN.{length, take, drop, set, length-append, length-drop, take-append-drop}
+use Rattle.std.proofs.Common.{◌≡◌, ◌∙◌, refl, ap, sym, List, [], ◌∷◌, ◌++◌, map, append_assoc, ℕ, suc, ◌+◌, ◌-◌, ◌≤◌, zero-add, add-zero, add-one, arith, length, take, drop, set, length-append, length-drop, take-append-drop}
+use mathlib.Core.List.{flat_map}
 use lib.Seq.{set_split, append_snoc}
 use borrow.Author.Rules.{part_to_end}
 use Rattle.script.proofs.Filling.{back, back_is, back_front, back_behind, back_length}

@@ -1,13 +1,7 @@
 -- When the bytes of a mended line are a frame: they are too many for one, or they are read from a room that they stand in.
 -- Rests on text's WrittenBack.
-use mathlib.Core.Path.{◌≡◌, ◌∙◌, refl, ap, sym}
-use mathlib.Core.Bool.{Bool, true, false, cond}
-use mathlib.Core.List.{List, ◌++◌, map}
-use Prim.Native.Nat.{ℕ, ◌<◌}
-use native.Mathlib.Omega.{arith}
-use lib.ListN.{length, take, length-map}
-use lib.Seq.{take_at}
-use Rattle.std.proofs.Common.{Option, Some, None}
+use Rattle.std.proofs.Common.{◌≡◌, ◌∙◌, refl, ap, sym, Bool, true, false, cond, List, ◌++◌, map, ℕ, ◌<◌, arith, length, take, take_at, Option, Some, None}
+use lib.ListN.{length-map}
 use Rattle.std.specs.Option.{is_some}
 use Rattle.bus.specs.declared.events.Event as events
 use Rattle.text.specs.Frames.{Event, NoFrame, kind_in, first_in, second_in, is_frame, frame_of, is_event, frame_in}

@@ -1,16 +1,8 @@
 -- The sign of a line, by whether it is a frame as it stands, whether it is one when it is mended, and whether anything is left of it.
 -- A frame stays as it is when it is mended, and so just the frames are kept.
 -- Rests on bits' Logic, Same and Tested, on text's WrittenBack, and on Fit, Cleaning and Unfit.
-use mathlib.Core.Path.{◌≡◌, ◌∙◌, refl, ap, sym}
-use mathlib.Core.Bool.{Bool, true, false, not, ◌&&◌}
-use mathlib.Core.List.{List, [], ◌∷◌, ◌++◌, map}
-use Prim.Native.Nat.{ℕ, zero, suc, ◌/◌, ◌%◌}
-use native.Mathlib.Omega.{arith}
-use lib.Dec.{eqb}
-use lib.ListN.{length, get_or}
-use borrow.Author.Tests.{eqb-true, eqb-false, not-true}
-use denote.Ref.{Bor}
-use Rattle.std.specs.Prelude.{Some, None}
+use Rattle.std.proofs.Common.{◌≡◌, ◌∙◌, refl, ap, sym, Bool, true, false, not, ◌&&◌, List, [], ◌∷◌, ◌++◌, map, ℕ, zero, suc, ◌/◌, ◌%◌, arith, eqb, length, get_or, eqb-true, Bor, Some, None}
+use borrow.Author.Tests.{eqb-false, not-true}
 use Rattle.bits.specs.Same.{same_bytes}
 use Rattle.bits.proofs.Logic.{both, contrary}
 use Rattle.bits.proofs.Same.{same_lists, same_self}

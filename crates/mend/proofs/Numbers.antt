@@ -1,14 +1,7 @@
 -- What a call comes to, answers and leaves, by its number.
 -- Rests on bits' Logic and text's LineCount.
-use mathlib.Core.Path.{◌≡◌, ◌∙◌, refl, ap, sym}
-use mathlib.Core.Bool.{Bool, true, false, cond, ◌||◌}
-use mathlib.Core.List.{List}
-use Prim.Native.Nat.{ℕ, zero, suc, ◌+◌, ◌*◌, ◌/◌, ◌%◌, ◌<◌, ◌≤◌}
-use native.Mathlib.Omega.{arith}
-use lib.Dec.{ltb}
-use lib.ListN.{length, length-map}
-use borrow.Author.Tests.{ltb-false, eq-eqb, ne_eqb}
-use Rattle.std.specs.Prelude.{Ok}
+use Rattle.std.proofs.Common.{◌≡◌, ◌∙◌, refl, ap, sym, Bool, true, false, cond, ◌||◌, List, ℕ, zero, suc, ◌+◌, ◌*◌, ◌/◌, ◌%◌, ◌<◌, ◌≤◌, arith, ltb, length, ltb-false, eq-eqb, ne_eqb, Ok}
+use lib.ListN.{length-map}
 use Rattle.bits.proofs.Logic.{neither, by_test}
 use Rattle.text.specs.Lines.{lines_of, line_count}
 use Rattle.text.proofs.LineCount.{lines_at_most}

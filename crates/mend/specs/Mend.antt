@@ -1,7 +1,7 @@
 -- The mending of a captured script: the clean script, the report, the number, the answer, and what both outputs then hold
 -- ("Mending captured scripts").
-use Rattle.std.specs.Prelude.{refl, cond, ◌||◌, ℕ, ◌+◌, ◌*◌, eqb, ltb, length, drop, Result, Ok, Err}
-use mathlib.Core.List.{List, ◌++◌, map, flat_map}
+use Rattle.std.specs.Prelude.{refl, cond, ◌||◌, ℕ, ◌+◌, ◌*◌, eqb, ltb, length, drop, Result, Ok, Err, List, ◌++◌, map}
+use mathlib.Core.List.{flat_map}
 use Rattle.bus.specs.Never0.{Never0}
 use Rattle.text.specs.Lines.{Line, lines_of, line_count}
 use Rattle.script.specs.Run.{too_long, too_long_number, no_room_number}

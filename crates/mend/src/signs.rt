@@ -52,7 +52,8 @@ fn all_digits(bytes: &[u8]) -> bool
     bytes.iter().all(|code| is_digit(*code))
 }
 
-// Whether two digits, small ones or capitals, are the number of a kind. They are read as a line, since `text` reads a pair of digits alone for itself.
+// Whether two digits, small ones or capitals, are the number of a kind. They are read as a line, since `text` reads a pair of digits alone for
+// itself.
 fn is_kind(high: u8, low: u8) -> bool
     ensures { result ≡ is_kind (pair_value (raised high) (raised low)) }
 {

@@ -1,14 +1,8 @@
 -- What becomes of the lines of a text; of the lines of its clean script none is malformed; and a text of which none is stays as it is.
 -- Rests on OneLine and Spelled, and on mend's Fit, Cleaning and Judging.
-use mathlib.Core.Path.{◌≡◌, ◌∙◌, refl, ap, sym}
-use mathlib.Core.Bool.{Bool, true, false, cond}
-use mathlib.Core.List.{List, [], ◌∷◌, ◌++◌, map, flat_map}
-use Prim.Native.Nat.{ℕ}
-use native.Mathlib.Omega.{arith}
-use lib.Dec.{eqb}
-use lib.ListN.{length, replicate}
+use Rattle.std.proofs.Common.{◌≡◌, ◌∙◌, refl, ap, sym, Bool, true, false, cond, List, [], ◌∷◌, ◌++◌, map, ℕ, arith, eqb, length, replicate, eqb-true, ne_eqb}
+use mathlib.Core.List.{flat_map}
 use lib.Seq.{append_snoc}
-use borrow.Author.Tests.{eqb-true, ne_eqb}
 use Rattle.bus.specs.Event.{Event}
 use Rattle.text.specs.Lines.{lf, Line, ended, rest, before_lines, lines_of}
 use Rattle.text.specs.Frames.{is_frame, frame_of, frame_in}
@@ -18,7 +12,7 @@ use Rattle.mend.proofs.Fit.{event_of_lem}
 use Rattle.mend.proofs.Cleaning.{clean_in, of_a_fit, of_another}
 use Rattle.mend.proofs.Judging.{frame_stays, sign_kept}
 use Rattle.mendlaws.specs.Says.{Digit, figure, letter, AllSay, none as none_say, next as next_says}
-use Rattle.mendlaws.specs.Becomes.{AllBecome, none, next, BecomeOneThing}
+use Rattle.mendlaws.specs.Becomes.{AllBecome, none, next}
 use Rattle.mendlaws.specs.Reasons.{AllDigits, over, digit}
 use Rattle.mendlaws.proofs.Spelled.{said_in_digits}
 use Rattle.mendlaws.proofs.OneLine.{events_of, says_frame, says_event, frame_says, becomes, only}
@@ -37,15 +31,6 @@ all_only (next one others) =
     let k = only one in
     let m = all_only others in
     (λ i. k.0 i ∷ m.0 i, λ i. k.1 i ++ m.1 i, λ i. k.2 i ++ m.2 i)
-
-pub become_one_thing : (ls : List Line) → BecomeOneThing ls
-become_one_thing ls = record {
-  signs = map sign_of ls;
-  clean = flat_map clean_in ls;
-  events = flat_map events_of ls;
-  become = all_become ls;
-  alone = all_only;
-}
 
 -- A line of digits, with its LF, is the first line of a text that begins so.
 no_lf : {c n : ℕ} → Digit c n → eqb c lf ≡ false

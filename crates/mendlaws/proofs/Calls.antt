@@ -1,20 +1,10 @@
 -- A call by its number: what an accepted one writes to the front of both outputs, and what a refused one leaves.
--- The call of Rattle tells what the call for C answers.
 -- Rests on mend's Numbers.
-use mathlib.Core.Path.{◌≡◌, ◌∙◌, ap, sym}
-use mathlib.Core.List.{List}
-use Prim.Native.Nat.{ℕ, ◌≤◌}
-use native.Mathlib.Omega.{arith}
-use lib.ListN.{length, take, drop, length-append, length-drop}
-use lib.Seq.{take_at, drop_at}
-use Rattle.std.specs.Prelude.{Result, Ok, Err}
+use Rattle.std.proofs.Common.{◌≡◌, ◌∙◌, ap, sym, List, ℕ, ◌≤◌, arith, length, take, drop, length-append, length-drop, take_at, drop_at}
 use Rattle.text.specs.Lines.{line_count}
-use Rattle.mend.specs.declared.Mended.{Mended as Lengths}
-use Rattle.mend.specs.declared.MendRefusal.{MendRefusal}
-use Rattle.mend.specs.declared.MendRefusal.TheVariants.{TooLong, NoRoom}
-use Rattle.mend.specs.Mend.{clean_of, report_of, mend_number, Outcome, outcome_of, mend_told, in_front, clean_left, report_left}
-use Rattle.mend.proofs.Numbers.{Accepted, signs_counted, number_is, lengths_are, when_accepted, number_answered, clean_answered, report_answered, refused, written}
-use Rattle.mendlaws.specs.Promise.{clean_length, sign_count, clean_text, signs, RefusedWith, Tells}
+use Rattle.mend.specs.Mend.{clean_of, report_of, mend_number, in_front, clean_left, report_left}
+use Rattle.mend.proofs.Numbers.{Accepted, signs_counted, when_accepted, clean_answered, report_answered, refused, written}
+use Rattle.mendlaws.specs.Promise.{clean_length, sign_count, clean_text, signs, RefusedWith}
 
 -- An output with bytes in front, for which there is room.
 module _ (bytes out : List ℕ) where
@@ -80,19 +70,3 @@ module _ (text clean report : List ℕ) where
     pub report_behind_lem : drop (sign_count text clean report) (report_left text clean report) ≡ drop (sign_count text clean report) report
     report_behind_lem =
         (λ i. drop (sign_count_lem i) (report_left_lem i)) ∙ behind (report_of text) report ∙ ap (λ (n : ℕ). drop n report) (sym sign_count_lem)
-
--- What the call of Rattle tells, the call for C answers.
-pub tells : (text clean report : List ℕ) (r : Result Lengths MendRefusal) → mend_told r ≡ outcome_of text (length clean) (length report) → Tells text clean report r
-tells text clean report r told = go r told (ap (λ (o : Outcome). o.number) told ∙ number_is text (length clean) (length report))
-  where
-    go : (r : Result Lengths MendRefusal) → mend_told r ≡ outcome_of text (length clean) (length report)
-        → (mend_told r).number ≡ number text clean report → Tells text clean report r
-    go (Ok m) told zero =
-        let none = sym zero in
-        let is = told ∙ lengths_are text (length clean) (length report) none in (
-          number_answered text (length clean) (length report) ∙ none,
-          clean_answered text (length clean) (length report) none ∙ sym (ap (λ (o : Outcome). o.clean) is),
-          report_answered text (length clean) (length report) none ∙ sym (ap (λ (o : Outcome). o.report) is),
-        )
-    go (Err TooLong) told six = (refused_with text clean report 6 (sym six) (λ e. omega (arith, e))).0
-    go (Err NoRoom) told seven = (refused_with text clean report 7 (sym seven) (λ e. omega (arith, e))).0

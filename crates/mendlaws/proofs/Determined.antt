@@ -1,6 +1,6 @@
 -- The contract of each public function of mendlaws leaves no choice: it does nothing, and gives nothing back.
 -- Rests on bits' Determined.
-use mathlib.Core.Path.{refl}
+use Rattle.std.proofs.Common.{refl}
 use Rattle.bits.proofs.Determined.{Determines}
 use Rattle.mendlaws.specs.contracts as mendlaws_says
 use Rattle.mendlaws.proofs as mendlaws

@@ -1,6 +1,6 @@
 -- The example's capture is mended as it says: computed.
 -- Rests on nothing.
-use mathlib.Core.Path.{◌≡◌, refl}
+use Rattle.std.proofs.Common.{◌≡◌, refl}
 use mathlib.Core.List.{flat_map}
 use Rattle.bus.specs.Kinds.{is_kind, operands_of}
 use Rattle.text.specs.Digits.{digit_value, pair_value}

@@ -5,6 +5,10 @@ pub mod Steps
 pub mod Reasons
 pub mod AllLines
 pub mod Calls
+pub mod Tells
+pub mod ByTests
+pub mod Numbered
+pub mod Stays
 pub mod Mended
 pub mod Longest
 pub mod Example

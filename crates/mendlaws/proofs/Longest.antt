@@ -1,10 +1,7 @@
 -- A text of 4,096 bytes whose clean form has one byte more is refused.
--- Rests on Calls and Mended, and on mend's Cleaning.
-use mathlib.Core.Path.{◌≡◌, refl}
-use mathlib.Core.List.{List, [], ◌∷◌, flat_map}
-use Prim.Native.Nat.{ℕ, zero, suc, ◌+◌, ◌*◌, ◌<◌}
-use native.Mathlib.Omega.{arith}
-use lib.ListN.{length, length-append}
+-- Rests on Calls and ByTests, and on mend's Cleaning.
+use Rattle.std.proofs.Common.{◌≡◌, refl, List, [], ◌∷◌, ℕ, zero, suc, ◌+◌, ◌*◌, ◌<◌, arith, length, length-append}
+use mathlib.Core.List.{flat_map}
 use Rattle.bus.specs.Kinds.{is_kind, operands_of}
 use Rattle.text.specs.Digits.{digit_value, pair_value}
 use Rattle.text.specs.Lines.{lines_of}
@@ -15,7 +12,7 @@ use Rattle.mend.proofs.Cleaning.{clean_in}
 use Rattle.mendlaws.specs.Promise.{RefusedWith}
 use Rattle.mendlaws.specs.Longest.{ends_before, fit_rest, lacks_one_lf}
 use Rattle.mendlaws.proofs.Calls.{refused_with}
-use Rattle.mendlaws.proofs.Mended.{long_clean}
+use Rattle.mendlaws.proofs.ByTests.{long_clean}
 
 -- Each line 02 is three bytes of the text, and of its clean form.
 bytes_before : (n : ℕ) (text : List ℕ) → length (ends_before n text) ≡ 3 * n + length text

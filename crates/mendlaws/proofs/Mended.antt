@@ -1,96 +1,29 @@
--- What is promised of a call: its number, and where it is accepted what it leaves and what that means.
--- Rests on AllLines, OneLine and Calls, on mend's Numbers and Cleaning, and on script's History.
-use mathlib.Core.Path.{◌≡◌, ◌∙◌, refl, ap, sym}
-use mathlib.Core.Bool.{true, ◌||◌, or-true}
-use mathlib.Core.List.{List, ◌∷◌, ◌++◌, map, flat_map}
-use Prim.Native.Nat.{ℕ, suc, ◌%◌, ◌<◌, ◌≤◌}
-use native.Mathlib.Omega.{arith}
-use lib.Dec.{ltb}
-use lib.ListN.{length, length-map}
-use borrow.Author.Tests.{lt-ltb, le-ltb}
+-- What is promised of an accepted call: what it leaves, and what that means.
+-- Rests on AllLines, OneLine, Calls and Stays, on mend's Numbers and Cleaning, and on script's History.
+use Rattle.std.proofs.Common.{◌≡◌, ◌∙◌, refl, ap, sym, List, ◌∷◌, ◌++◌, map, ℕ, suc, ◌%◌, arith, length}
+use mathlib.Core.List.{flat_map}
+use lib.ListN.{length-map}
 use Rattle.bus.specs.Event.{Event}
 use Rattle.chip.specs.Pins.{pins_of}
 use Rattle.chip.specs.Step.{device}
 use Rattle.i8355.specs.Views.{pins_of as pins_of_8355}
 use Rattle.i8355.specs.Step.{device as device8355}
-use Rattle.text.specs.Lines.{Line, lines_of, line_count}
+use Rattle.text.specs.Lines.{Line, lines_of}
 use Rattle.text.specs.Frames.{frame_in}
 use Rattle.text.specs.History.{event_of, history_of}
 use Rattle.script.proofs.History.{history_answered}
-use Rattle.script.specs.Run.{longest_script, too_long}
 use Rattle.script.specs.History.{answers_to}
 use Rattle.mend.specs.Line.{sign_of}
-use Rattle.mend.specs.Mend.{clean_of, report_of, mend_number}
-use Rattle.mend.proofs.Cleaning.{clean_in, one_longer_at_most}
+use Rattle.mend.specs.Mend.{clean_of, report_of}
+use Rattle.mend.proofs.Cleaning.{clean_in}
 use Rattle.mend.proofs.Numbers.{number_answered}
 use Rattle.mendlaws.specs.Says.{AllSay}
 use Rattle.mendlaws.specs.Becomes.{Becomes, kept, mended as mended_so, blank, unfit, AllBecome, none, next}
-use Rattle.mendlaws.specs.Promise.{answer_of, clean_text, signs, Stays, fit_signs, Mended, Numbered}
+use Rattle.mendlaws.specs.Promise.{answer_of, clean_text, signs, fit_signs, Mended}
 use Rattle.mendlaws.proofs.OneLine.{events_of}
-use Rattle.mendlaws.proofs.AllLines.{all_become, all_only, all_say, read_so, stays_so, clean_stays}
-use Rattle.mendlaws.proofs.Calls.{number, refused_with, fits, clean_is, signs_are, clean_written_lem, signs_written_lem, one_each_lem, clean_as_long_lem, report_as_long_lem, clean_behind_lem, report_behind_lem}
-
--- The number, test by test.
-module _ (text clean report : List ℕ) where
-  long_text : longest_script < length text → number text clean report ≡ 6
-  unfolding mend_number
-  long_text long = rw (lt-ltb _ _ long)
-
-  pub long_clean : longest_script < length (clean_of text) → number text clean report ≡ 6
-  unfolding mend_number
-  long_clean long = rw (lt-ltb longest_script (length (clean_of text)) long, or-true (too_long text))
-
-  module _ (short : length text ≤ longest_script) (short_clean : length (clean_of text) ≤ longest_script) where
-    by_room : (ltb (length clean) (length (clean_of text)) || ltb (length report) (line_count text)) ≡ true → number text clean report ≡ 7
-    unfolding mend_number
-    by_room less = rw (le-ltb _ _ short, le-ltb _ _ short_clean, less)
-
-    no_refusal : length (clean_of text) ≤ length clean → line_count text ≤ length report → number text clean report ≡ 0
-    unfolding mend_number
-    no_refusal room room' = rw (le-ltb _ _ short, le-ltb _ _ short_clean, le-ltb _ _ room, le-ltb _ _ room')
-
--- A call by what becomes of the lines of its text.
-of_lines : (text : List ℕ) {ss cs : List ℕ} {es : List Event} → AllBecome (lines_of text) ss cs es
-    → (length ss ≡ line_count text) × (cs ≡ clean_of text)
-unfolding clean_of
-of_lines text all = let k = all_only all in (ap length k.0 ∙ length-map (lines_of text) sign_of, k.1)
-
-pub numbered : (text clean report : List ℕ) {ss cs : List ℕ} {es : List Event} → AllBecome (lines_of text) ss cs es
-    → Numbered text clean report cs ss
-numbered text clean report all =
-    let signs = (of_lines text all).0 in
-    let lengths = ap length (of_lines text all).1 in
-    record {
-      too_long = λ long. refused_with text clean report 6 (long_text text clean report long) (λ e. omega (arith, e));
-      clean_too_long = λ long. refused_with text clean report 6 (long_clean text clean report (omega (arith, long, lengths))) (λ e. omega (arith, e));
-      no_clean_room = λ short short_clean less.
-          refused_with text clean report 7
-          (by_room text clean report short (omega (arith, short_clean, lengths)) (rw (lt-ltb (length clean) (length (clean_of text)) (omega (arith, less, lengths)))))
-          (λ e. omega (arith, e));
-      no_report_room = λ short short_clean less.
-          refused_with text clean report 7
-          (by_room text clean report short (omega (arith, short_clean, lengths))
-          (rw (lt-ltb (length report) (line_count text) (omega (arith, less, signs))) (or-true (ltb (length clean) (length (clean_of text))))))
-          (λ e. omega (arith, e));
-      accepted = λ short short_clean room room'.
-          number_answered text (length clean) (length report)
-          ∙ no_refusal text clean report short (omega (arith, short_clean, lengths)) (omega (arith, room, lengths)) (omega (arith, room', signs));
-      one_more = omega (arith, one_longer_at_most text, lengths);
-    }
-
--- A text of which no line is malformed stays as it is.
-pub stays : (text clean report : List ℕ) {es : List Event} → AllSay (lines_of text) es
-    → length text ≤ longest_script → length text ≤ length clean → line_count text ≤ length report → Stays text clean report
-unfolding clean_of report_of
-stays text clean report say short room room' =
-    let same : clean_of text ≡ text = clean_stays text say in
-    let lengths = ap length same in
-    let none = no_refusal text clean report short (omega (arith, lengths, short)) (omega (arith, lengths, room)) room' in
-    record {
-      accepted = number_answered text (length clean) (length report) ∙ none;
-      same = clean_is text clean report none ∙ same;
-      all_kept = signs_are text clean report none ∙ (stays_so say).1;
-    }
+use Rattle.mendlaws.proofs.AllLines.{all_become, all_say, read_so}
+use Rattle.mendlaws.proofs.Calls.{number, fits, clean_is, signs_are, clean_written_lem, signs_written_lem, one_each_lem, clean_as_long_lem, report_as_long_lem, clean_behind_lem, report_behind_lem}
+use Rattle.mendlaws.proofs.Stays.{stays}
 
 -- As many lines are fit as say an event.
 fit_one : {l : Line} {s : ℕ} {part : List ℕ} {es : List Event} → Becomes l s part es → (ss : List ℕ) (n : ℕ) → fit_signs ss ≡ n

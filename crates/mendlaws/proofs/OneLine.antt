@@ -1,14 +1,6 @@
 -- What becomes of a line is what the relation says, and the relation says nothing else of it.
 -- Rests on Shapes and Spelled, on bits' Logic, and on mend's Cleaning, Fit and Judging.
-use mathlib.Core.Path.{◌≡◌, ◌∙◌, refl, ap, sym, subst}
-use mathlib.Core.Bool.{Bool, true, false, cond}
-use mathlib.Core.List.{List, [], ◌∷◌}
-use Prim.Native.Nat.{ℕ, zero, suc}
-use native.Mathlib.Omega.{arith}
-use lib.Dec.{eqb}
-use lib.ListN.{length}
-use borrow.Author.Tests.{eqb-true}
-use Rattle.std.specs.Prelude.{◌↔◌}
+use Rattle.std.proofs.Common.{◌≡◌, ◌∙◌, refl, ap, sym, subst, Bool, true, false, cond, List, [], ◌∷◌, ℕ, zero, suc, arith, eqb, length, eqb-true, ◌↔◌}
 use Rattle.bits.proofs.Logic.{contrary}
 use Rattle.bus.specs.Event.{Event}
 use Rattle.text.specs.Lines.{Line, ended, rest}

@@ -1,14 +1,7 @@
 -- Each unfit line has its reason: what mend says of it is so of the bytes that it is mended to, and of bytes of which a reason is so it says that.
 -- Rests on bits' Logic, the bus's ByKind, text's WrittenBack, and on Shapes, Spelled, OneLine and Steps.
-use mathlib.Core.Path.{◌≡◌, ◌∙◌, refl, ap, sym, subst}
-use mathlib.Core.Bool.{Bool, true, false, cond, not, ◌&&◌, and-false}
-use mathlib.Core.List.{List, [], ◌∷◌, ◌++◌}
-use Prim.Native.Nat.{ℕ, ◌+◌, ◌*◌, ◌%◌, ◌<◌}
-use native.Mathlib.Omega.{arith}
-use lib.Dec.{eqb}
-use lib.ListN.{length}
-use borrow.Author.Tests.{eqb-true, ne_eqb, ltb-true, lt-ltb}
-use Rattle.std.specs.Prelude.{Some}
+use Rattle.std.proofs.Common.{◌≡◌, ◌∙◌, refl, ap, sym, subst, Bool, true, false, cond, not, ◌&&◌, List, [], ◌∷◌, ◌++◌, ℕ, ◌+◌, ◌*◌, ◌%◌, ◌<◌, arith, eqb, length, eqb-true, ne_eqb, ltb-true, lt-ltb, Some}
+use mathlib.Core.Bool.{and-false}
 use Rattle.std.proofs.lemmas.Option.{cond_some}
 use Rattle.bits.proofs.Logic.{contrary, both}
 use Rattle.bus.specs.Kinds.{is_kind, operands_of}

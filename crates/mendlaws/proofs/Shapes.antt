@@ -1,13 +1,6 @@
 -- A line is a frame exactly where it says an event in plain codes.
 -- Rests on bits' Logic and Tested, the bus's ByKind and text's WrittenBack.
-use mathlib.Core.Path.{◌≡◌, ◌∙◌, refl, ap, sym, subst}
-use mathlib.Core.Bool.{Bool, true, false}
-use mathlib.Core.List.{List, [], ◌∷◌}
-use Prim.Native.Nat.{ℕ, ◌+◌, ◌-◌, ◌/◌, ◌%◌, ◌<◌}
-use native.Mathlib.Omega.{arith}
-use lib.Dec.{ltb}
-use lib.ListN.{get_or}
-use borrow.Author.Tests.{lt-ltb, ltb-true, ltb-false}
+use Rattle.std.proofs.Common.{◌≡◌, ◌∙◌, refl, ap, sym, subst, Bool, true, false, List, [], ◌∷◌, ℕ, ◌+◌, ◌-◌, ◌/◌, ◌%◌, ◌<◌, arith, ltb, get_or, lt-ltb, ltb-true, ltb-false}
 use Rattle.bits.proofs.Logic.{contrary}
 use Rattle.bits.proofs.Tested.{numbers}
 use Rattle.bus.specs.Kinds.{is_kind, no_kind, operands_of}

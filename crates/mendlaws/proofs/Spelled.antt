@@ -1,13 +1,6 @@
 -- A captured line spells what it is when it is mended, and of the lines that are made of digits no other.
 -- Rests on bits' Tested and text's WrittenBack.
-use mathlib.Core.Path.{◌≡◌, ◌∙◌, refl, ap, sym, subst}
-use mathlib.Core.Bool.{Bool, true, false, cond}
-use mathlib.Core.List.{List, [], ◌∷◌, map}
-use Prim.Native.Nat.{ℕ, ◌+◌, ◌-◌, ◌<◌, ◌≤◌}
-use native.Mathlib.Omega.{arith}
-use lib.Dec.{eqb, ltb}
-use lib.ListN.{get_or, drop}
-use borrow.Author.Tests.{eqb-true, ne_eqb, ltb-true, ltb-false}
+use Rattle.std.proofs.Common.{◌≡◌, ◌∙◌, refl, ap, sym, subst, Bool, true, false, cond, List, [], ◌∷◌, map, ℕ, ◌+◌, ◌-◌, ◌<◌, ◌≤◌, arith, eqb, ltb, get_or, drop, eqb-true, ne_eqb, ltb-true, ltb-false}
 use Rattle.bits.proofs.Tested.{numbers}
 use Rattle.bus.specs.Event.{Event}
 use Rattle.text.specs.Digits.{digits}

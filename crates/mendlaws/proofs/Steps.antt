@@ -1,13 +1,7 @@
 -- A line is mended to one thing alone, and means what that says.
 -- Rests on OneLine and Spelled, and on mend's Cleaning.
-use mathlib.Core.Path.{◌≡◌, ◌∙◌, refl, ap, sym, subst}
-use mathlib.Core.Bool.{Bool, true, false, cond}
-use mathlib.Core.List.{List, [], ◌∷◌, ◌++◌, map}
-use Prim.Native.Nat.{ℕ}
-use native.Mathlib.Omega.{arith}
-use lib.Dec.{eqb, ltb}
-use lib.ListN.{length, length-append}
-use borrow.Author.Tests.{eqb-true, eqb-false, ltb-true, ltb-false}
+use Rattle.std.proofs.Common.{◌≡◌, ◌∙◌, refl, ap, sym, subst, Bool, true, false, cond, List, [], ◌∷◌, ◌++◌, map, ℕ, arith, eqb, ltb, length, length-append, eqb-true, ltb-true, ltb-false}
+use borrow.Author.Tests.{eqb-false}
 use Rattle.bus.specs.Event.{Event}
 use Rattle.text.specs.Lines.{Line}
 use Rattle.text.specs.Frames.{is_frame, frame_of}
@@ -16,7 +10,7 @@ use Rattle.mend.specs.Line.{bytes_of, cr, without_cr, raised, mended}
 use Rattle.mend.proofs.Cleaning.{of_a_fit}
 use Rattle.mendlaws.specs.Says.{Says}
 use Rattle.mendlaws.specs.Becomes.{Becomes}
-use Rattle.mendlaws.specs.Steps.{WithoutCr, dropped, none, IsRaised, below, small, above, AllRaised, done, next, MendsTo, MeansTheSame}
+use Rattle.mendlaws.specs.Steps.{WithoutCr, dropped, none, IsRaised, below, small, above, AllRaised, done, next, MendsTo}
 use Rattle.mendlaws.proofs.Spelled.{raised_below, raised_small, raised_above}
 use Rattle.mendlaws.proofs.OneLine.{says_frame, frame_says, same_bytes_lem, only}
 
@@ -95,7 +89,7 @@ all_raised [] = done
 all_raised (code ∷ codes) = next (raised_so code) (all_raised codes)
 
 module _ (l : Line) where
-  mends : MendsTo l (mended (bytes_of l))
+  pub mends : MendsTo l (mended (bytes_of l))
   unfolding mended
   mends = record {
     left = without_cr (bytes_of l);
@@ -108,7 +102,7 @@ module _ (l : Line) where
   alone to = all_raised_is to.raised ∙ ap (map raised) (left_is to.without_cr ∙ ap without_cr (same_bytes_lem l))
 
   -- A line has an event just where it is a frame when it is mended.
-  fit : {s : ℕ} {part : List ℕ} {e : Event} → Becomes l s part (e ∷ []) → Says (mended (bytes_of l)) e × (part ≡ mended (bytes_of l) ++ 10 ∷ [])
+  pub fit : {s : ℕ} {part : List ℕ} {e : Event} → Becomes l s part (e ∷ []) → Says (mended (bytes_of l)) e × (part ≡ mended (bytes_of l) ++ 10 ∷ [])
   fit {part} {e} becomes = go (is_frame (mended (bytes_of l))) refl (only becomes).2
     where
       event : List Event → Event
@@ -123,14 +117,5 @@ module _ (l : Line) where
       )
       go false is es = absurd (omega (arith, ap length es))
 
-  unfit : {s : ℕ} {part : List ℕ} → Becomes l s part [] → (e : Event) → ¬ Says (mended (bytes_of l)) e
+  pub unfit : {s : ℕ} {part : List ℕ} → Becomes l s part [] → (e : Event) → ¬ Says (mended (bytes_of l)) e
   unfit becomes e says = let none = rw (says_frame says) at (only becomes).2 in omega (arith, ap length none)
-
-  pub means_the_same : MeansTheSame l
-  means_the_same = record {
-    bytes = mended (bytes_of l);
-    mends = mends;
-    alone = alone;
-    fit = fit;
-    unfit = unfit;
-  }

@@ -43,6 +43,13 @@ module _ (text clean report : List ℕ) where
     pub same : clean_text ≡ text
     pub all_kept : signs ≡ replicate (line_count text) 75
 
+-- A text of which no line is malformed, and which is no longer than a script may be; and outputs with room for it, and for a sign of each line.
+pub record CleanWithRoom (text clean report : List ℕ) (es : List Event) : Type 0 where
+  pub says_events : AllSay (lines_of text) es
+  pub short : length text ≤ 4096
+  pub clean_room : length text ≤ length clean
+  pub report_room : line_count text ≤ length report
+
 -- How many signs say that a line is fit: K or M.
 abbrev pub fit_signs : List ℕ → ℕ
 fit_signs [] = 0

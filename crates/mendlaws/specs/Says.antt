@@ -25,6 +25,10 @@ pub data Says : List ℕ → Event → Type 0 where
   begin_write : {h l h' l' a d : ℕ} → Byte h l a → Byte h' l' d → Says (48 ∷ 51 ∷ h ∷ l ∷ h' ∷ l' ∷ []) (event 3 a d)
   levels : {h l h' l' p d : ℕ} → Byte h l p → Byte h' l' d → Says (48 ∷ 53 ∷ h ∷ l ∷ h' ∷ l' ∷ []) (event 5 p d)
 
+-- A line says some event.
+abbrev pub SaysAnEvent : List ℕ → Type 0
+SaysAnEvent bytes = (e : Event) × Says bytes e
+
 -- Lines of which each says an event and has its LF, and these events: none of the lines is malformed.
 pub data AllSay : List Line → List Event → Type 0 where
   none : AllSay [] []

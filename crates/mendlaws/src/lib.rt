@@ -1,19 +1,19 @@
 //! Theorems about the mending of captured scripts. A function here does nothing: its contract is the theorem.
 #![tactic(auto)]
 
-ghost use Rattle.std.specs.Prelude.{◌≡◌, ◌↔◌, ◌≤◌, ◌%◌, true, List, ℕ, length, Result};
+ghost use Rattle.std.specs.Prelude.{◌≡◌, ◌↔◌, ◌%◌, true, List, ℕ, length, Result};
 ghost use Rattle.bus.specs.Event.{Event};
-ghost use Rattle.text.specs.Lines.{Line, lines_of, line_count};
+ghost use Rattle.text.specs.Lines.{Line, lines_of};
 ghost use Rattle.text.specs.Frames.{is_frame, frame_of};
 ghost use Rattle.text.specs.History.{event_of};
 ghost use Rattle.mend.specs.declared.Mended.{Mended as Lengths};
 ghost use Rattle.mend.specs.declared.MendRefusal.{MendRefusal};
 ghost use Rattle.mend.specs.Mend.{mend_told, outcome_of};
-ghost use Rattle.mendlaws.specs.Says.{Says, AllSay};
+ghost use Rattle.mendlaws.specs.Says.{Says, SaysAnEvent};
 ghost use Rattle.mendlaws.specs.Becomes.{AllBecome, BecomeOneThing};
 ghost use Rattle.mendlaws.specs.Steps.{MeansTheSame};
 ghost use Rattle.mendlaws.specs.Reasons.{HasItsReason, unfit_lines, reasons_of, reasons_beside};
-ghost use Rattle.mendlaws.specs.Promise.{answer_of, Stays, Mended, RefusedWith, Numbered, Tells};
+ghost use Rattle.mendlaws.specs.Promise.{answer_of, Stays, CleanWithRoom, Mended, RefusedWith, Numbered, Tells};
 ghost use Rattle.mendlaws.specs.Longest.{lacks_one_lf};
 ghost use Rattle.mendlaws.specs.Example.{a_capture, all_of, given, said};
 
@@ -24,19 +24,19 @@ pub fn lines_become_one_thing()
 
 /// A line is a frame exactly where it says an event in plain codes, and it is read as that event.
 pub fn frames_say_events()
-    ensures frame { (bytes : List ℕ) → (is_frame bytes ≡ true) ↔ ((e : Event) × Says bytes e) }
+    ensures frame { (bytes : List ℕ) → (is_frame bytes ≡ true) ↔ SaysAnEvent bytes }
     ensures event { (bytes : List ℕ) (e : Event) → Says bytes e → event_of (frame_of bytes) ≡ e }
 {}
 
-/// A kept or mended line means the same frame as before: the one that the line is once a rest has its LF, one CR is dropped and digits are raised.
-/// So it is mended to these bytes and to no others, and the clean script has them, with LF. Any other line is no frame even then.
+/// A kept or mended line means the same frame as before: the one that the line is once a rest has its LF, one CR is dropped and digits are
+/// raised. So it is mended to these bytes and to no others, and the clean script has them, with LF. Any other line is no frame even then.
 pub fn fit_lines_mean_the_same()
     ensures { (l : Line) → MeansTheSame l }
 {}
 
-/// Each unfit line has one reason, and no other line has any: a code is no digit once small digits are raised; or each is one, and the first two are
-/// the number of no kind; or each is one, and there is one alone, or there are more than the kind and its operands have, or fewer. Nine lines are
-/// computed, with the reason of each.
+/// Each unfit line has one reason, and no other line has any: a code is no digit once small digits are raised; or each is one, and the first two
+/// are the number of no kind; or each is one, and there is one alone, or there are more than the kind and its operands have, or fewer. Nine
+/// lines are computed, with the reason of each.
 pub fn unfit_lines_have_a_reason()
     ensures reason { (l : Line) → HasItsReason l }
     ensures examples { reasons_of unfit_lines ≡ reasons_beside unfit_lines }
@@ -59,15 +59,15 @@ pub fn both_calls_tell_the_same()
     ensures { (text clean report : List ℕ) (r : Result Lengths MendRefusal) → mend_told r ≡ outcome_of text (length clean) (length report) → Tells text clean report r }
 {}
 
-/// An accepted call writes the clean script, and one sign for each line of the text; what stood behind both stays. No line of the clean script is
-/// malformed. Its answers are those to the frames of the text, in order. Mended again, it stays as it is.
+/// An accepted call writes the clean script, and one sign for each line of the text; what stood behind both stays. No line of the clean script
+/// is malformed. Its answers are those to the frames of the text, in order. Mended again, it stays as it is.
 pub fn accepted_calls_mend()
     ensures { (text clean report : List ℕ) → answer_of text clean report % 256 ≡ 0 → Mended text clean report }
 {}
 
 /// A text of at most 4,096 bytes, of which no line is malformed, comes out equal where both outputs have room, and each of its lines is kept.
 pub fn clean_texts_stay()
-    ensures { (text clean report : List ℕ) (es : List Event) → AllSay (lines_of text) es → length text ≤ 4096 → length text ≤ length clean → line_count text ≤ length report → Stays text clean report }
+    ensures { (text clean report : List ℕ) (es : List Event) → CleanWithRoom text clean report es → Stays text clean report }
 {}
 
 /// The example has each reason to keep, to mend and to leave out a line: the call gives the clean script and the signs that stand beside it.

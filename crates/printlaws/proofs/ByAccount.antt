@@ -1,7 +1,6 @@
 -- What is printed of a text that is no longer than a script may be: what the account says.
 -- Rests on account's Script and Texts, and on laws8355's Script.
-use Rattle.std.proofs.Common.{◌≡◌, ◌≤◌, ℕ, List, length}
-use borrow.Author.Tests.{le-ltb}
+use Rattle.std.proofs.Common.{◌≡◌, ◌≤◌, ℕ, List, length, le-ltb}
 use Rattle.chip.specs.declared.Edition.TheVariants.{Older, Newer}
 use Rattle.text.specs.History.{history_of}
 use Rattle.text.specs.Quoted.{answered, listed}

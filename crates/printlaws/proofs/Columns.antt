@@ -1,8 +1,6 @@
 -- The answers of a rack have the columns that they should have.
 -- Rests on script's Levels and RackShown.
-use Rattle.std.proofs.Common.{◌≡◌, ℕ, zero, suc, ◌+◌, ◌*◌, ◌<◌, ◌≤◌, List, [], ◌∷◌, ◌++◌, drop, refl, ap, ◌∙◌, arith}
-use lib.Seq.{drop_at}
-use borrow.Author.Tests.{lt-ltb}
+use Rattle.std.proofs.Common.{◌≡◌, ℕ, zero, suc, ◌+◌, ◌*◌, ◌<◌, ◌≤◌, List, [], ◌∷◌, ◌++◌, drop, refl, ap, ◌∙◌, arith, drop_at, lt-ltb}
 use Rattle.bus.specs.Device.{Given}
 use Rattle.chip.specs.Pins.{pins_of}
 use Rattle.text.specs.Digits.{digit_code, in_digits}

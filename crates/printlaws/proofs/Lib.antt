@@ -2,5 +2,10 @@ pub mod LongTexts
 pub mod ByAccount
 pub mod Columns
 pub mod NamesRack
+pub mod RackPrinted
+pub mod FailingToMend
+pub mod Failing
+pub mod LeftByOlder
 pub mod RackTexts
+pub mod Captured
 pub mod Determined

@@ -1,7 +1,6 @@
 -- Of a text that is too long 06 is printed, whoever answers.
 -- Rests on nothing.
-use Rattle.std.proofs.Common.{◌≡◌, ℕ, ◌<◌, List, [], ◌∷◌, length, refl}
-use borrow.Author.Tests.{lt-ltb}
+use Rattle.std.proofs.Common.{◌≡◌, ℕ, ◌<◌, List, [], ◌∷◌, length, refl, lt-ltb}
 use Rattle.text.specs.Digits.{digit_code}
 use Rattle.prints.specs.declared.Device.{Device}
 use Rattle.prints.specs.declared.Device.TheVariants.{I8255A, I82C55A, I8355}

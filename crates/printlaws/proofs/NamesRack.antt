@@ -1,27 +1,22 @@
--- The first line of a rack's script is a rack exactly where it is written as one, and what is then printed.
--- Rests on bits' Logic and Tested, text's WrittenBack, racklaws' Building, script's RackWritten, and Columns.
-use Rattle.std.proofs.Common.{◌≡◌, ℕ, ◌+◌, ◌*◌, ◌/◌, ◌%◌, ◌≤◌, ◌⊎◌, inl, inr, Bool, true, false, not, ◌&&◌, List, [], ◌∷◌, ◌++◌, length, refl, sym, ap, ap₂, ◌∙◌, eqb, ltb, leb, arith}
-use Rattle.std.specs.Prelude.{Ok, is_ok}
-use lib.ListN.{get_or}
-use borrow.Author.Tests.{eqb-true, ltb-true, le-ltb}
+-- A text whose first line makes a rack is written so, and where the first line is none 09 is printed.
+-- Rests on bits' Logic and Tested, text's WrittenBack, racklaws' Building and script's RackWritten.
+use Rattle.std.proofs.Common.{◌≡◌, ℕ, ◌+◌, ◌*◌, ◌/◌, ◌%◌, ◌≤◌, ◌⊎◌, inl, inr, Bool, true, false, not, ◌&&◌, List, [], ◌∷◌, ◌++◌, length, refl, sym, ap, ap₂, ◌∙◌, eqb, ltb, leb, arith, is_ok, get_or, eqb-true, ltb-true, le-ltb}
 use Rattle.bits.proofs.Logic.{contrary, both}
 use Rattle.bits.proofs.Tested.{bits}
 use Rattle.text.specs.Digits.{digits, digit_code, pair_value, no_byte}
 use Rattle.text.specs.Lines.{lf, Line, ended, rest, before_lines, lines_of}
 use Rattle.text.proofs.WrittenBack.{pair_back}
 use Rattle.rack.specs.Bases.{is_base, is_among, are_bases, makes_rack}
-use Rattle.rack.specs.State.{rack_of, built_of}
-use Rattle.racklaws.proofs.Building.{made_good, good_made, built_good}
-use Rattle.script.specs.RackBases.{base_of, leading_base, bases_of_line, no_rack, rack_of_line, rack_for, further_lines}
-use Rattle.script.specs.RackRun.{names_rack, to_answer}
-use Rattle.script.proofs.RackWritten.{in_four, in_fours, bases_written}
+use Rattle.rack.specs.State.{built_of}
+use Rattle.racklaws.proofs.Building.{made_good}
+use Rattle.script.specs.RackBases.{base_of, leading_base, bases_of_line, no_rack, rack_of_line, rack_for}
+use Rattle.script.specs.RackRun.{names_rack}
+use Rattle.script.proofs.RackWritten.{in_four, in_fours}
 use Rattle.prints.specs.Printed.{printed_of_rack}
 use Rattle.printlaws.specs.NamesRack.{written, NamesRack}
-use Rattle.printlaws.specs.Columns.{Answers}
-use Rattle.printlaws.proofs.Columns.{in_columns}
 
 -- Bases in these digits are bases in those of the rack's own words.
-same_written : (bs : List ℕ) → in_fours bs ≡ written bs
+pub same_written : (bs : List ℕ) → in_fours bs ≡ written bs
 unfolding digit_code
 same_written [] = refl
 same_written (b ∷ bs) = ap (λ (later : List ℕ). in_four b ++ later) (same_written bs)
@@ -37,7 +32,7 @@ one_before : (b : ℕ) (text bytes : List ℕ) (ls : List Line) → eqb b lf ≡
 unfolding lines_of
 one_before b text bytes ls other is = rw (other, is) refl
 
-first_line_lem : (bs further : List ℕ) → lines_of (in_fours bs ++ lf ∷ further) ≡ ended (in_fours bs) ∷ lines_of further
+pub first_line_lem : (bs further : List ℕ) → lines_of (in_fours bs ++ lf ∷ further) ≡ ended (in_fours bs) ∷ lines_of further
 unfolding lines_of
 first_line_lem [] further = refl
 first_line_lem (b ∷ bs) further =
@@ -154,24 +149,3 @@ module _ (text : List ℕ) where
         go : (t : Bool) → names_rack text ≡ t → printed_of_rack text ≡ 0x30 ∷ 0x39 ∷ 0x0a ∷ []
         go true e = absurd (none (names_rack_lem e))
         go false e = rw (le-ltb 4096 (length text) short, e) refl
-
-    module _ (named : NamesRack text) where
-      lines : lines_of text ≡ ended (in_fours named.bases) ∷ lines_of named.further
-      lines =
-          ap lines_of (named.first_line ∙ ap (λ (front : List ℕ). front ++ lf ∷ named.further) (sym (same_written named.bases)))
-          ∙ first_line_lem named.bases named.further
-
-      built : rack_for (lines_of text) ≡ Ok (rack_of named.bases)
-      unfolding rack_for rack_of_line makes_rack
-      built =
-          let bases = named.bases in
-          let is = both (leb (length bases) 8) (are_bases bases) (good_made bases named.good) in
-          rw (lines, bases_written bases is.1) (built_good bases named.good)
-
-      behind : to_answer text ≡ lines_of named.further
-      unfolding further_lines
-      behind = rw (lines) refl
-
-      pub columns_printed : Answers (rack_of named.bases) (lines_of named.further) (printed_of_rack text)
-      unfolding printed_of_rack rack_of
-      columns_printed = rw (le-ltb 4096 (length text) short, built, behind) (in_columns (lines_of named.further) (rack_of named.bases) named.good.few)

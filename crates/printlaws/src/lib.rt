@@ -2,24 +2,28 @@
 //! contract is the theorem.
 #![tactic(auto)]
 
-ghost use Rattle.std.specs.Prelude.{◌≡◌, ℕ, ◌<◌, ◌≤◌, List, [], ◌∷◌, length};
+ghost use Rattle.std.specs.Prelude.{◌≡◌, ◌↔◌, true, false, ℕ, ◌<◌, ◌≤◌, List, eqb, length};
+ghost use Rattle.chip.specs.Pins.{pins_of};
 ghost use Rattle.text.specs.Lines.{lines_of};
 ghost use Rattle.text.specs.History.{history_of};
-ghost use Rattle.text.specs.Quoted.{answered, listed};
-ghost use Rattle.rack.specs.State.{rack_of};
+ghost use Rattle.text.specs.Quoted.{answered, listed, codes};
+ghost use Rattle.rack.specs.declared.Rack.{Rack};
+ghost use Rattle.rack.specs.State.{rack_of, chip_at};
+ghost use Rattle.rack.specs.Targets.{is_place};
+ghost use Rattle.script.specs.Left as walk;
+ghost use Rattle.script.specs.RackAnswers.{answering};
+ghost use Rattle.script.specs.Run.{too_long};
 ghost use Rattle.prints.specs.declared.Device.{Device};
-ghost use Rattle.prints.specs.Printed.{printed, printed_of_rack};
+ghost use Rattle.prints.specs.Printed.{printed, printed_of_rack, refuses_rack};
+ghost use Rattle.prints.specs.Left.{left_of};
+ghost use Rattle.prints.specs.Mended.{refuses_mending, printed_mended, said_of_all, has_unfit};
 ghost use Rattle.printlaws.specs.ByAccount.{accounted_lines, listed_scripts};
 ghost use Rattle.printlaws.specs.NamesRack.{NamesRack};
 ghost use Rattle.printlaws.specs.Columns.{Answers};
+ghost use Rattle.printlaws.specs.Refused.{long_text_refused, first_line_refused, capture_refused, length_of_a_number};
+ghost use Rattle.printlaws.specs.Explained.{explained_at_first};
 ghost use Rattle.printlaws.specs.RackTexts.{rack_texts};
-
-/// Of a text of more than 4,096 bytes the program prints 06 and LF, and nothing else, whichever device it is asked for, and as a rack's script too.
-#[tactic(auto, using(crate::proofs::LongTexts::by_device, crate::proofs::LongTexts::by_rack))]
-pub fn long_texts_print_06()
-    ensures device { (device : Device) (text : List ℕ) → 4096 < length text → printed device text ≡ 0x30 ∷ 0x36 ∷ 0x0a ∷ [] }
-    ensures rack { (text : List ℕ) → 4096 < length text → printed_of_rack text ≡ 0x30 ∷ 0x36 ∷ 0x0a ∷ [] }
-{}
+ghost use Rattle.printlaws.specs.Capture.{a_capture, clean_script, said_of_its_lines, a_fit_capture};
 
 /// Of a text of at most 4,096 bytes the program prints the lines that the account of the text's history has, from a power-up with every line
 /// high: asked for an 8255A those of the older edition, for an 82C55A those of the newer, and for an 8355 those of the 8355. Of some scripts for
@@ -32,16 +36,42 @@ pub fn scripts_print_what_the_account_says()
 
 /// Of a text of at most 4,096 bytes whose first line is a rack the program prints one line for each further line, and nothing else: the number
 /// and the byte of the rack's step, the levels that the pins of each card then show, card by card, of ports A, B and C, all in two digits, and
-/// LF.
-#[tactic(auto, using(crate::proofs::NamesRack::columns_printed))]
+/// LF. In whatever state the rack is, the levels of a card in an answer line are those that the card's own pins show.
+#[tactic(auto, using(crate::proofs::RackPrinted::columns_printed, script::proofs::RackShown::shows_cards))]
 pub fn rack_scripts_print_columns()
-    ensures { (text : List ℕ) (named : NamesRack text) → length text ≤ 4096 → Answers (rack_of named.bases) (lines_of named.further) (printed_of_rack text) }
+    ensures printed { (text : List ℕ) (named : NamesRack text) → length text ≤ 4096 → Answers (rack_of named.bases) (lines_of named.further) (printed_of_rack text) }
+    ensures levels { (r : Rack) (place port : ℕ) → is_place r.count place ≡ true → answering.levels r place port ≡ (pins_of (chip_at r place) port).levels }
 {}
 
 /// Of a text of at most 4,096 bytes whose first line is no rack the program prints 09 and LF, and nothing else.
 #[tactic(auto, using(crate::proofs::NamesRack::others_print_09))]
 pub fn other_first_lines_print_09()
-    ensures { (text : List ℕ) → length text ≤ 4096 → ¬ NamesRack text → printed_of_rack text ≡ 0x30 ∷ 0x39 ∷ 0x0a ∷ [] }
+    ensures { (text : List ℕ) → length text ≤ 4096 → ¬ NamesRack text → printed_of_rack text ≡ first_line_refused }
+{}
+
+/// Of a text of more than 4,096 bytes the program prints 06 and LF, and nothing else, whichever device it is asked for, and of a rack's too.
+#[tactic(auto, using(crate::proofs::LongTexts::by_device, crate::proofs::LongTexts::by_rack))]
+pub fn long_texts_print_06()
+    ensures device { (device : Device) (text : List ℕ) → 4096 < length text → printed device text ≡ long_text_refused }
+    ensures rack { (text : List ℕ) → 4096 < length text → printed_of_rack text ≡ long_text_refused }
+{}
+
+/// A text is refused as a whole, which makes the program fail, exactly where three bytes are printed of it, as many as a number alone has, two
+/// digits and LF; whichever device answers, or a rack. A captured script is refused exactly where 06 alone is printed, which is no clean script.
+#[tactic(auto, using(crate::proofs::Failing::by_any, crate::proofs::Failing::by_rack, crate::proofs::FailingToMend::mending))]
+pub fn refused_texts_print_a_number_alone()
+    ensures device { (device : Device) (text : List ℕ) → too_long text ≡ eqb (length (printed device text)) length_of_a_number }
+    ensures rack { (text : List ℕ) → refuses_rack text ≡ eqb (length (printed_of_rack text)) length_of_a_number }
+    ensures capture { (text : List ℕ) → (refuses_mending text ≡ true) ↔ (printed_mended text ≡ capture_refused) }
+{}
+
+/// That the chip whose interrupts the program explains is an 8255A, with every line high at its power-up, is seen by two scripts: one that reads
+/// address 3, which the older edition alone refuses, is refused so and leaves that chip; any of more than 4,096 bytes is refused with 6 and
+/// leaves it too.
+#[tactic(auto, using(crate::proofs::LeftByOlder::refuses, crate::proofs::LeftByOlder::too_long))]
+pub fn explained_chips_are_of_the_older_edition()
+    ensures refused { left_of (codes "0103\n") ≡ walk.left 0 explained_at_first 1 }
+    ensures too_long { (text : List ℕ) → 4096 < length text → left_of text ≡ walk.left 6 explained_at_first 0 }
 {}
 
 /// Of some scripts of racks the program prints what is listed beside them: two cards that differ in what they show, and first lines that are a
@@ -49,4 +79,14 @@ pub fn other_first_lines_print_09()
 #[tactic(auto, using(crate::proofs::RackTexts::rack_texts_printed))]
 pub fn rack_texts_print_as_listed()
     ensures { answered printed_of_rack rack_texts ≡ listed rack_texts }
+{}
+
+/// Of seven captured lines the program prints the clean script, and says on standard error what became of each that was not kept. It fails, as
+/// some are unfit. Of a script without an unfit line it does not.
+#[tactic(auto, using(crate::proofs::Captured::printed, crate::proofs::Captured::said, crate::proofs::Captured::fails, crate::proofs::Captured::ends_well))]
+pub fn captures_print_as_listed()
+    ensures printed { printed_mended a_capture ≡ clean_script }
+    ensures said { said_of_all a_capture ≡ said_of_its_lines }
+    ensures fails { has_unfit a_capture ≡ true }
+    ensures ends_well { has_unfit a_fit_capture ≡ false }
 {}

@@ -1,5 +1,5 @@
 -- What the program prints of a script ("Script and program", "A rack of cards").
-use Rattle.std.specs.Prelude.{cond, not, List, [], ◌∷◌, ◌++◌, ℕ}
+use Rattle.std.specs.Prelude.{Bool, cond, not, ◌||◌, List, [], ◌∷◌, ◌++◌, ℕ}
 use Rattle.text.specs.Digits.{in_digits}
 use Rattle.text.specs.Lines.{lf}
 use Rattle.chip.specs.declared.Edition.TheVariants.{Older, Newer}
@@ -37,3 +37,7 @@ printed_of_rack text =
     cond (too_long text) (refusal_text too_long_number)
     (cond (not (names_rack text)) (refusal_text bad_rack_number)
     (answers_from answering (rack_named text) (to_answer text)))
+
+-- Whether the whole of a rack's script is refused. A device's script is refused where it is too long.
+abbrev pub refuses_rack : List ℕ → Bool
+refuses_rack text = too_long text || not (names_rack text)

@@ -1,4 +1,5 @@
-//! What the program prints of a script, as definitions (specs/), and the devices that it can be asked for.
+//! What the program prints of a script, of a captured one too, and what it explains after one, as definitions (specs/); and the devices that it
+//! can be asked for.
 #![tactic(auto)]
 
 /// The device that answers a script.

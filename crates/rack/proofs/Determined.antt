@@ -1,7 +1,6 @@
 -- The contract of each public function of the rack leaves no choice, nor does that of each method by which it is a device. Those of the steps
 -- say the number and the byte that an answer tells, and no two answers tell the same. Rests on bits' Determined.
-use mathlib.Core.Path.{◌≡◌, ◌∙◌, refl, ap₂}
-use Rattle.std.specs.Prelude.{cond, ℕ, eqb, Result, Ok, Err}
+use Rattle.std.proofs.Common.{◌≡◌, ◌∙◌, refl, ap₂, cond, ℕ, eqb, Result, Ok, Err}
 use Rattle.bits.proofs.Determined.{Determines, equation_determines, equations_determine}
 use Rattle.bus.proofs.Determined as bus
 use Rattle.bus.proofs.Determined.{answer_of}

@@ -1,9 +1,8 @@
 -- Bases in a list: what is among them, and how many make a rack.
 -- Rests on the laws of truth values.
-use Rattle.std.proofs.Common.{◌≡◌, refl, Bool, true, not, ◌&&◌, List, [], ◌∷◌, ℕ, ◌≤◌, eqb, leb, length, get_or, take, drop, ◌-◌, arith}
+use Rattle.std.proofs.Common.{◌≡◌, refl, Bool, true, not, ◌&&◌, List, [], ◌∷◌, ℕ, ◌≤◌, eqb, leb, length, get_or, take, drop, ◌-◌, arith, leb-true}
 use Rattle.std.proofs.lemmas.List.{take_rest}
 use Rattle.std.specs.List.{list_any}
-use borrow.Author.Tests.{leb-true}
 use Rattle.bits.proofs.Logic.{both, turned}
 use Rattle.rack.specs.Bases.{most_cards, is_base, is_among, are_bases, makes_rack}
 

@@ -1,16 +1,6 @@
 -- Places and addresses in numbers.
 -- Rests on the laws of truth values.
-use mathlib.Core.Path.{◌≡◌, refl, sym}
-use mathlib.Core.Bool.{Bool, true, false}
-use mathlib.Core.List.{List, [], ◌∷◌}
-use Rattle.std.specs.Prelude.{Some, None}
-use Prim.Native.Nat.{ℕ, zero, suc, min, ◌<◌, ◌≤◌, ◌+◌}
-use native.Mathlib.Nat.{add-zero}
-use native.Mathlib.Omega.{arith}
-use lib.Dec.{ltb, leb}
-use lib.ListN.{length, take, get_or, length-take}
-use lib.Seq.{take_all, take-take}
-use borrow.Author.Tests.{leb-true, ltb-true, ltb-false}
+use Rattle.std.proofs.Common.{◌≡◌, refl, sym, Bool, true, false, List, [], ◌∷◌, Some, None, ℕ, zero, suc, min, ◌<◌, ◌≤◌, ◌+◌, add-zero, arith, ltb, leb, length, take, get_or, length-take, take_all, take-take, leb-true, ltb-true, ltb-false}
 use Rattle.bits.proofs.Logic.{both}
 use Rattle.rack.specs.Bases.{most_cards, card_width}
 use Rattle.rack.specs.Targets.{answers_at, register_at, target_from, bases_in}

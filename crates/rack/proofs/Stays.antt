@@ -1,8 +1,6 @@
 -- An event leaves a rack its cards: how many there are, and their bases.
 -- Rests on the bus's ByKind, Outcomes and Numbering.
-use mathlib.Core.Path.{◌≡◌, refl}
-use Prim.Native.Nat.{ℕ}
-use Rattle.std.specs.Prelude.{Option, Some, None}
+use Rattle.std.proofs.Common.{◌≡◌, refl, ℕ, Option, Some, None}
 use Rattle.bus.proofs.ByKind.{by_kind}
 use Rattle.bus.specs.Refusals.{number_of}
 use Rattle.bus.specs.Device.{after_in}

@@ -1,12 +1,6 @@
 -- What a rack gives for a cycle that begins or ends, or for levels, is told by whom the event reaches.
 -- Rests on Seek, Inside, Targets, OnCard and OneCard, on bits' Logic, on the bus's Numbering, on laws' Cycles, and on fates' Accepted.
-use mathlib.Core.Path.{◌≡◌, refl, sym, ap, ◌∙◌}
-use mathlib.Core.Bool.{Bool, true, false, cond}
-use mathlib.Core.List.{List, [], ◌∷◌}
-use Prim.Native.Nat.{ℕ, suc, ◌<◌}
-use native.Mathlib.Omega.{arith}
-use lib.Dec.{ltb}
-use borrow.Author.Tests.{lt-ltb}
+use Rattle.std.proofs.Common.{◌≡◌, refl, sym, ap, ◌∙◌, Bool, true, false, cond, List, [], ◌∷◌, ℕ, suc, ◌<◌, arith, ltb, lt-ltb, Option, Some, None}
 use Rattle.bits.proofs.Logic.{by_test}
 use Rattle.bus.specs.Kinds as kinds
 use Rattle.bus.specs.Event.{Event, event}
@@ -21,7 +15,6 @@ use Rattle.chip.specs.Step.{stepped}
 use Rattle.laws.proofs.Cycles.{facts}
 use Rattle.fates.proofs.Accepted.{accepted_number}
 use Rattle.rack.specs.declared.Rack.{Rack}
-use Rattle.std.specs.Prelude.{Option, Some, None}
 use Rattle.rack.specs.Bases.{most_cards}
 use Rattle.rack.specs.State.{place_of, chip_at, card_edition}
 use Rattle.rack.specs.Targets.{Target, answers_at, register_at, target_from}

@@ -1,9 +1,6 @@
 -- A reset: each card does as a chip alone.
 -- Rests on OnCard and on the chip's Outcome.
-use mathlib.Core.Path.{◌≡◌, refl, ◌∙◌}
-use mathlib.Core.List.{List}
-use Prim.Native.Nat.{ℕ, ◌<◌}
-use native.Mathlib.Omega.{arith}
+use Rattle.std.proofs.Common.{◌≡◌, refl, ◌∙◌, List, ℕ, ◌<◌, arith}
 use Rattle.std.proofs.lemmas.List.{get_or-map, length-map}
 use Rattle.bus.specs.Kinds.{is_kind}
 use Rattle.bus.specs.Event.{event}

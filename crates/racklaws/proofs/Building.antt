@@ -1,15 +1,7 @@
 -- Which bases make a rack, in plain numbers; and that any others are refused, and give none.
 -- Rests on the laws of truth values.
-use mathlib.Core.Path.{◌≡◌, refl, sym, ap}
-use mathlib.Core.Bool.{Bool, true, false, not, ◌&&◌, ◌||◌}
-use mathlib.Core.List.{List, [], ◌∷◌}
-use Prim.Native.Nat.{ℕ, zero, suc, ◌<◌, ◌≤◌, ◌%◌}
-use native.Mathlib.Omega.{arith}
-use native.Mathlib.Nat.{le_of_suc-le-suc}
-use lib.Dec.{eqb, leb}
-use lib.ListN.{length}
-use Rattle.std.specs.Prelude.{Ok, Err}
-use borrow.Author.Tests.{leb-true, le-leb, eqb-true, eq-eqb, ne_eqb, not-true}
+use Rattle.std.proofs.Common.{◌≡◌, refl, sym, ap, Bool, true, false, not, ◌&&◌, ◌||◌, List, [], ◌∷◌, ℕ, zero, suc, ◌<◌, ◌≤◌, ◌%◌, arith, le_of_suc-le-suc, eqb, leb, length, Ok, Err, leb-true, le-leb, eqb-true, eq-eqb, ne_eqb}
+use borrow.Author.Tests.{not-true}
 use Rattle.bits.proofs.Logic.{contrary, both}
 use Rattle.rack.specs.Bases.{is_base, is_among, are_bases, makes_rack}
 use Rattle.rack.specs.State.{rack_of, built_of}

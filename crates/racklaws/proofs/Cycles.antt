@@ -1,36 +1,23 @@
--- The facts about cycles, of a rack: those of every device on the bus, applied to this one ("A rack of cards", "Events and numbers"). An
--- event of a rack is one of that device, at the number of its register; one for no card is an event of no kind there.
+-- The facts about cycles, of a rack: those of every device on the bus, applied to this one; and a rack's histories are that device's.
 -- Rests on the bus's Facts and Numbering, and on the rack's Stays.
-use mathlib.Core.Path.{◌≡◌, refl, ap, ◌∙◌}
-use mathlib.Core.List.{List, [], ◌∷◌, map}
-use Prim.Native.Nat.{ℕ}
+use Rattle.std.proofs.Common.{◌≡◌, refl, ap, ◌∙◌, List, [], ◌∷◌, map, ℕ, Option, Some, None}
 use Rattle.bus.specs.Kinds.{is_kind}
-use Rattle.bus.specs.Event.{Event, event}
 use Rattle.bus.specs.Refusals.{limits_of}
 use Rattle.bus.specs.Device.{step_in, run_in}
 use Rattle.bus.specs.Facts.{Facts}
 use Rattle.bus.proofs.Facts as bus
 use Rattle.bus.proofs.Numbering.{no_kind_refused}
 use Rattle.rack.specs.declared.Rack.{Rack}
-use Rattle.std.specs.Prelude.{Option, Some, None}
-use Rattle.rack.specs.State.{number_at}
 use Rattle.rack.specs.Targets.{Target, target_of}
 use Rattle.rack.specs.Step.{limits, device, byte_of, step_at, step_of}
 use Rattle.rack.proofs.Stays.{target_stays}
 use Rattle.racklaws.specs.Whom.{RackEvent}
 use Rattle.racklaws.specs.Promise.{rack_run}
+use Rattle.racklaws.specs.Cycles.{as_event, event_by}
 
 -- There are four registers at each of eight places, of which three can be read, and three ports at each.
 pub facts : (r : Rack) → Facts device (limits_of 32 24 24) r
 facts r = bus.facts device limits r refl
-
--- What a rack's event is to the device.
-abbrev pub as_event : Option Target → ℕ → ℕ → Event
-as_event None k d = event 0xff 0 0
-as_event (Some t) k d = event k (number_at t.0 t.1) d
-
-abbrev pub event_by : ℕ → List ℕ → RackEvent → Event
-event_by count bases e = as_event (target_of count bases e.kind e.first e.second) e.kind (byte_of e.kind e.second e.third)
 
 as_device : (r : Rack) (t : Option Target) (k d : ℕ) → let e = as_event t k d in (step_at r t k d).state ≡ (step_in device r e.kind e.first e.second).state
 unfolding is_kind

@@ -1,13 +1,6 @@
 -- What a rack gives for any event is told by whom it reaches.
 -- Rests on OnCard, Seek, Inside, Targets, AllCards and Accesses, on bits' Logic, and on the bus's ByKind and Numbering.
-use mathlib.Core.Path.{◌≡◌, refl, sym, ap, ◌∙◌}
-use mathlib.Core.Bool.{Bool, true, false, cond, ◌&&◌}
-use mathlib.Core.List.{List}
-use Prim.Native.Nat.{ℕ, min, ◌≤◌}
-use native.Mathlib.Omega.{arith}
-use lib.Dec.{ltb}
-use lib.ListN.{length, take, length-take}
-use borrow.Author.Tests.{ltb-true, ltb-false, lt-ltb, le-ltb}
+use Rattle.std.proofs.Common.{◌≡◌, refl, sym, ap, ◌∙◌, Bool, true, false, cond, ◌&&◌, List, ℕ, min, ◌≤◌, arith, ltb, length, take, length-take, ltb-true, ltb-false, lt-ltb, le-ltb, Option, Some, None}
 use Rattle.bits.proofs.Logic.{both}
 use Rattle.bus.specs.Kinds as kinds
 use Rattle.bus.specs.Kinds.{no_kind}
@@ -18,7 +11,6 @@ use Rattle.bus.proofs.Numbering.{row_refuses}
 use Rattle.chip.specs.declared.Core.{Core}
 use Rattle.chip.specs.Step as card
 use Rattle.rack.specs.declared.Rack.{Rack}
-use Rattle.std.specs.Prelude.{Option, Some, None}
 use Rattle.rack.specs.Bases.{most_cards}
 use Rattle.rack.specs.State.{card_edition}
 use Rattle.rack.specs.Targets.{Target, target_from, bases_in, is_place, target_at, target_of}

@@ -1,14 +1,6 @@
 -- The card that an event is for is at one of the eight places.
 -- Rests on the laws of truth values.
-use mathlib.Core.Bool.{true, cond}
-use mathlib.Core.Path.{◌≡◌}
-use mathlib.Core.List.{List, [], ◌∷◌}
-use Prim.Native.Nat.{ℕ, suc, ◌<◌, ◌≤◌, ◌+◌}
-use native.Mathlib.Omega.{arith}
-use lib.Dec.{eqb, ltb}
-use lib.ListN.{length, take, length-take}
-use borrow.Author.Tests.{ltb-true}
-use Rattle.std.specs.Prelude.{Option, Some, None}
+use Rattle.std.proofs.Common.{true, cond, ◌≡◌, List, [], ◌∷◌, ℕ, suc, ◌<◌, ◌≤◌, ◌+◌, arith, eqb, ltb, length, take, length-take, ltb-true, Option, Some, None}
 use Rattle.bits.proofs.Logic.{both, by_test}
 use Rattle.bus.specs.Kinds.{outside_levels, begins}
 use Rattle.rack.specs.Bases.{most_cards}

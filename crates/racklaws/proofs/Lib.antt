@@ -8,6 +8,7 @@ pub mod AllCards
 pub mod Accesses
 pub mod Followed
 pub mod Projected
+pub mod Built
 pub mod Cards
 pub mod Refusals
 pub mod Building
@@ -15,3 +16,4 @@ pub mod Locations
 pub mod Numbers
 pub mod Cycles
 pub mod Examples
+pub mod Determined

@@ -1,16 +1,7 @@
 -- Where the registers of a rack's cards are.
 -- Rests on Seek and on bits' Logic.
-use mathlib.Core.Path.{◌≡◌, refl, sym, ap, subst, ◌∙◌}
-use mathlib.Core.Bool.{Bool, true, false, cond}
-use mathlib.Core.List.{List, [], ◌∷◌}
-use Prim.Native.Nat.{ℕ, zero, suc, ◌<◌, ◌≤◌, ◌+◌, ◌-◌, ◌%◌}
-use native.Mathlib.Omega.{arith}
-use native.Mathlib.Nat.{zero-add, le_of_suc-le-suc}
-use lib.Dec.{ltb, leb}
-use lib.ListN.{length}
-use borrow.Author.Tests.{leb-true, ltb-true, le-leb, lt-ltb}
+use Rattle.std.proofs.Common.{◌≡◌, refl, sym, ap, subst, ◌∙◌, Bool, true, false, cond, List, [], ◌∷◌, ℕ, zero, suc, ◌<◌, ◌≤◌, ◌+◌, ◌-◌, ◌%◌, arith, zero-add, le_of_suc-le-suc, ltb, leb, length, leb-true, ltb-true, le-leb, lt-ltb, Option, Some, None}
 use Rattle.bits.proofs.Logic.{both, by_test}
-use Rattle.std.specs.Prelude.{Option, Some, None}
 use Rattle.rack.specs.Targets.{Target, answers_at, register_at, target_from}
 use Rattle.racklaws.specs.Whom.{Found, no_card, found, seek}
 use Rattle.racklaws.specs.Bases.{base_at, GoodBases, Located}

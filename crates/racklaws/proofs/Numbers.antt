@@ -1,12 +1,6 @@
 -- The number of every event of a rack is that of the first refusal of the table that applies.
 -- Rests on Seek, Inside, OnCard, Targets, AllCards, Accesses and Followed, and on the bus's ByKind and Outcomes.
-use mathlib.Core.Path.{◌≡◌, refl, sym, ◌∙◌}
-use mathlib.Core.Bool.{Bool, true, false, cond, not}
-use mathlib.Core.List.{List}
-use Prim.Native.Nat.{ℕ, zero, suc, ◌<◌}
-use native.Mathlib.Omega.{arith}
-use lib.Dec.{eqb, ltb}
-use borrow.Author.Tests.{lt-ltb}
+use Rattle.std.proofs.Common.{◌≡◌, refl, sym, ◌∙◌, Bool, true, false, cond, not, List, ℕ, zero, suc, ◌<◌, arith, eqb, ltb, lt-ltb, Option, Some, None}
 use Rattle.bus.specs.Kinds as kinds
 use Rattle.bus.specs.Kinds.{is_kind, no_kind}
 use Rattle.bus.proofs.ByKind.{by_kind, no_kind_differs, no_row}
@@ -16,7 +10,6 @@ use Rattle.bus.specs.Refusals.{is_busy, number_of}
 use Rattle.bus.proofs.Outcomes.{number_given}
 use Rattle.chip.specs.Step as card
 use Rattle.rack.specs.declared.Rack.{Rack}
-use Rattle.std.specs.Prelude.{Option, Some, None}
 use Rattle.rack.specs.State.{number_at, card_edition}
 use Rattle.rack.specs.Targets.{Target, target_from, is_place, target_at, target_of}
 use Rattle.rack.specs.Step.{device, byte_of, step_at, step_of}

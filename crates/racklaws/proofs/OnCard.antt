@@ -1,14 +1,7 @@
 -- An accepted event that is no reset: what it makes of the rack is what one card, as a chip alone, makes of it.
 -- Rests on the bus's ByKind, Outcomes and Numbering, and on the chip's Outcome.
-use mathlib.Core.Path.{◌≡◌, refl, sym, ◌∙◌}
-use mathlib.Core.Bool.{Bool, true, false, cond}
-use mathlib.Core.List.{List}
-use Prim.Native.Nat.{ℕ, ◌<◌, ◌*◌}
-use native.Mathlib.Omega.{arith}
-use lib.Dec.{eqb, ltb}
-use lib.ListN.{set}
+use Rattle.std.proofs.Common.{◌≡◌, refl, sym, ◌∙◌, Bool, true, false, cond, List, ℕ, ◌<◌, ◌*◌, arith, eqb, ltb, set, ltb-true, ltb-false, lt-ltb, le-ltb, eq-eqb}
 use lib.Seq.{set-get_or}
-use borrow.Author.Tests.{ltb-true, ltb-false, lt-ltb, le-ltb, eq-eqb}
 use Rattle.bus.specs.Kinds as kinds
 use Rattle.bus.specs.Kinds.{begins}
 use Rattle.bus.proofs.ByKind.{by_kind}

@@ -1,11 +1,6 @@
 -- An accepted event that reaches one card: that card does as a chip alone, and every other is as it was.
 -- Rests on Seen and OnCard, on the bus's Phases, chip's Outcome and laws' Editions.
-use mathlib.Core.Path.{◌≡◌, refl, sym, ap, ◌∙◌}
-use mathlib.Core.List.{List}
-use Prim.Native.Nat.{ℕ, ◌<◌}
-use native.Mathlib.Omega.{arith}
-use lib.ListN.{length, length-set}
-use lib.Seq.{get_or-set_same, get_or-set_other}
+use Rattle.std.proofs.Common.{◌≡◌, refl, sym, ap, ◌∙◌, List, ℕ, ◌<◌, arith, length, length-set, get_or-set_same, get_or-set_other}
 use Rattle.bus.specs.Event.{Event, event}
 use Rattle.bus.specs.declared.Phase.{Phase}
 use Rattle.bus.specs.Refusals.{number_of}

@@ -1,11 +1,7 @@
 -- Each card of a rack is a chip alone, after the events that reach it.
 -- Rests on Followed.
-use mathlib.Core.Path.{◌≡◌, refl, sym, ap, ◌∙◌}
-use mathlib.Core.Bool.{Bool, true, false, cond}
-use mathlib.Core.List.{List, [], ◌∷◌, ◌++◌}
-use Prim.Native.Nat.{ℕ, ◌<◌}
-use lib.Dec.{eqb}
-use borrow.Author.Tests.{eqb-true, eqb-false}
+use Rattle.std.proofs.Common.{◌≡◌, refl, sym, ap, ◌∙◌, Bool, true, false, cond, List, [], ◌∷◌, ◌++◌, ℕ, ◌<◌, eqb, eqb-true}
+use borrow.Author.Tests.{eqb-false}
 use Rattle.bus.specs.Event.{Event}
 use Rattle.chip.specs.declared.Chip.{Chip}
 use Rattle.rack.specs.declared.Rack.{Rack}
@@ -13,8 +9,8 @@ use Rattle.rack.specs.Bases.{most_cards}
 use Rattle.rack.specs.State.{chip_at}
 use Rattle.rack.specs.Step.{Stepped}
 use Rattle.fates.specs.Promise.{run}
-use Rattle.racklaws.specs.Whom.{RackEvent, Whom, nobody, everybody, card, part, bus_next}
-use Rattle.racklaws.specs.Promise.{rack_stepped, bus_of, bases_of, whom_in, Reached, Whole, Follows, GoesOn}
+use Rattle.racklaws.specs.Whom.{RackEvent, Whom, nobody, everybody, card, part, bus_over}
+use Rattle.racklaws.specs.Promise.{rack_stepped, rack_run, bus_of, bases_of, whom_in, events_in, Reached, Whole}
 use Rattle.racklaws.proofs.Followed.{followed}
 
 -- What an event reaches of a card, the card does.
@@ -28,15 +24,24 @@ part_run r given (card j own) reached i h later = go (eqb i j) refl
     go true e = rw (eqb-true i j e) (ap (λ (c : Chip). run c later) (sym reached.changed))
     go false e = ap (λ (c : Chip). run c later) (sym (reached.others i (eqb-false i j e)))
 
-pub goes_on_lem : (r : Rack) → Whole r → (es : List RackEvent) → GoesOn r es
-goes_on_lem r whole [] = record { whole = whole; bases = refl; bus = refl; card = λ i h. refl }
-goes_on_lem r whole (e ∷ es) = next r e es (followed r whole e) (goes_on_lem (rack_stepped r e).rack (followed r whole e).whole es)
-  where
-    next : (r : Rack) (e : RackEvent) (es : List RackEvent)
-        → Follows r (rack_stepped r e) (whom_in r e) (bus_next (bases_of r) (bus_of r.phase) e) → GoesOn (rack_stepped r e).rack es → GoesOn r (e ∷ es)
-    next r e es f later = record {
-      whole = later.whole;
-      bases = later.bases ∙ f.bases;
-      bus = later.bus ∙ rw (f.bases, f.bus);
-      card = λ i h. later.card i h ∙ rw (f.bases, f.bus) (sym (part_run r (rack_stepped r e) (whom_in r e) f.reached i h _));
-    }
+-- Over a history the bases and the eight places stay,
+pub whole_over : (r : Rack) → Whole r → (es : List RackEvent) → Whole (rack_run r es)
+whole_over r whole [] = whole
+whole_over r whole (e ∷ es) = whole_over (rack_stepped r e).rack (followed r whole e).whole es
+
+pub bases_over : (r : Rack) → Whole r → (es : List RackEvent) → bases_of (rack_run r es) ≡ bases_of r
+bases_over r whole [] = refl
+bases_over r whole (e ∷ es) = let f = followed r whole e in bases_over (rack_stepped r e).rack f.whole es ∙ f.bases
+
+-- the bus follows from the events,
+pub bus_over_lem : (r : Rack) → Whole r → (es : List RackEvent) → bus_of (rack_run r es).phase ≡ bus_over (bases_of r) (bus_of r.phase) es
+bus_over_lem r whole [] = refl
+bus_over_lem r whole (e ∷ es) = let f = followed r whole e in bus_over_lem (rack_stepped r e).rack f.whole es ∙ rw (f.bases, f.bus)
+
+-- and each card is what it was, after the events that reach it.
+pub card_over : (r : Rack) → Whole r → (es : List RackEvent) → (i : ℕ) → i < most_cards → chip_at (rack_run r es) i ≡ run (chip_at r i) (events_in i r es)
+card_over r whole [] i h = refl
+card_over r whole (e ∷ es) i h =
+    let f = followed r whole e in
+    card_over (rack_stepped r e).rack f.whole es i h
+    ∙ rw (f.bases, f.bus) (sym (part_run r (rack_stepped r e) (whom_in r e) f.reached i h _))

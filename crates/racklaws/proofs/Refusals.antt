@@ -1,11 +1,7 @@
--- Refusals and accesses in a rack, in plain sentences.
+-- An event that a rack refuses, in plain sentences.
 -- Rests on Followed.
-use mathlib.Core.Path.{◌≡◌, refl, ap, subst, ◌∙◌}
-use mathlib.Core.List.{[]}
-use Prim.Native.Nat.{ℕ}
-use Rattle.bus.specs.Event.{Event}
+use Rattle.std.proofs.Common.{◌≡◌, refl, ap, subst, ◌∙◌, [], ℕ}
 use Rattle.rack.specs.declared.Rack.{Rack}
-use Rattle.rack.specs.State.{chip_at}
 use Rattle.rack.specs.Step.{Stepped}
 use Rattle.racklaws.specs.Whom.{RackEvent, Whom, nobody, everybody, card, part}
 use Rattle.racklaws.specs.Promise.{rack_stepped, whom_in, Reached, Whole}
@@ -30,7 +26,3 @@ module _ (r : Rack) (whole : Whole r) (e : RackEvent) where
   refusal_changes_nothing n =
       let f = subst (Reached r (rack_stepped r e)) (refused_nobody r (rack_stepped r e) (whom_in r e) (followed r whole e).reached n) (followed r whole e).reached in
       given_back (rack_stepped r e) r f.unchanged f.byte
-
-  -- An event that reaches one card leaves every other as it was.
-  pub others_as_they_were : (i : ℕ) (own : Event) → whom_in r e ≡ card i own → (j : ℕ) → ¬ (j ≡ i) → chip_at (rack_stepped r e).rack j ≡ chip_at r j
-  others_as_they_were i own reaches j other = (subst (Reached r (rack_stepped r e)) reaches (followed r whole e).reached).others j other

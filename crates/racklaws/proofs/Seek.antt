@@ -1,15 +1,8 @@
 -- The register that an address is, location by location, is the one that the rack finds by the base and the remainder.
 -- Rests on the laws of truth values.
-use mathlib.Core.Path.{◌≡◌, refl, ap, ◌∙◌}
-use mathlib.Core.Bool.{Bool, true, false, cond, ◌&&◌}
-use mathlib.Core.List.{List, [], ◌∷◌}
-use Prim.Native.Nat.{ℕ, zero, suc, ◌<◌, ◌+◌, ◌-◌, ◌%◌}
-use native.Mathlib.Omega.{arith}
-use lib.Dec.{eqb, ltb, leb}
-use lib.ListN.{length, get_or}
-use borrow.Author.Tests.{ltb-true, lt-ltb, le-ltb, leb-true, leb-false, le-leb, lt-leb, eqb-true, eqb-false}
+use Rattle.std.proofs.Common.{◌≡◌, refl, ap, ◌∙◌, Bool, true, false, cond, ◌&&◌, List, [], ◌∷◌, ℕ, zero, suc, ◌<◌, ◌+◌, ◌-◌, ◌%◌, arith, eqb, ltb, leb, length, get_or, ltb-true, lt-ltb, le-ltb, leb-true, leb-false, le-leb, eqb-true, Option, Some, None}
+use borrow.Author.Tests.{lt-leb, eqb-false}
 use Rattle.bits.proofs.Logic.{both}
-use Rattle.std.specs.Prelude.{Option, Some, None}
 use Rattle.rack.specs.Targets.{Target, answers_at, register_at, target_from}
 use Rattle.racklaws.specs.Whom.{Found, no_card, found, shown, among, seek}
 

@@ -1,10 +1,7 @@
 -- What the cards see of the bus after an accepted event: the one that it reaches what a chip alone has, and every other what it saw
 -- before.
 -- Rests on OnCard, and on the bus's ByKind and Numbering.
-use mathlib.Core.Path.{◌≡◌, refl, sym}
-use mathlib.Core.Bool.{true}
-use Prim.Native.Nat.{ℕ, ◌<◌}
-use borrow.Author.Tests.{eq-eqb, ne_eqb}
+use Rattle.std.proofs.Common.{◌≡◌, refl, sym, true, ℕ, ◌<◌, eq-eqb, ne_eqb}
 use Rattle.bus.specs.Kinds as kinds
 use Rattle.bus.specs.Kinds.{begins}
 use Rattle.bus.proofs.ByKind.{by_kind}

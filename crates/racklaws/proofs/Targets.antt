@@ -1,10 +1,6 @@
 -- The number of an event that is for a card or for none, and what a refusal and a reset make of the rack.
 -- Rests on Inside and OnCard, and on the bus's Outcomes.
-use mathlib.Core.Path.{◌≡◌, refl, sym, ◌∙◌}
-use mathlib.Core.List.{List}
-use Prim.Native.Nat.{ℕ}
-use Rattle.std.specs.Prelude.{Option, Some, None}
-use native.Mathlib.Omega.{arith}
+use Rattle.std.proofs.Common.{◌≡◌, refl, sym, ◌∙◌, List, ℕ, Option, Some, None, arith}
 use Rattle.bus.specs.declared.Phase.{Phase}
 use Rattle.bus.specs.Device.{gives, reset_in}
 use Rattle.bus.specs.Refusals.{number_of}

@@ -2,4 +2,5 @@ pub mod Whom
 pub mod Promise
 pub mod Bases
 pub mod Table
+pub mod Cycles
 pub mod Examples

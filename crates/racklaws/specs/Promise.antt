@@ -24,7 +24,7 @@ use Rattle.fates.specs.Promise.{run, surroundings_of, new_bytes, old_byte, Fates
 use Rattle.fates.specs.Discipline.{HasFound, Disciplined, NoneLost, NeverForced, NoneForced}
 use Rattle.account.specs.Account.{opened}
 use Rattle.account.specs.Promise.{account_of, Accounted}
-use Rattle.racklaws.specs.Whom.{RackEvent, Bus, free, taken_by, Whom, nobody, everybody, card, whom, events_for, bus_over}
+use Rattle.racklaws.specs.Whom.{RackEvent, Bus, free, taken_by, Whom, nobody, everybody, card, whom, part, events_for, bus_over}
 
 -- What the rack makes of an event, and the rack after a history.
 abbrev pub rack_stepped : Rack → RackEvent → Stepped
@@ -87,6 +87,11 @@ pub record Follows (r : Rack) (given : Stepped) (w : Whom) (after : Bus) : Type 
   pub bus : bus_of given.rack.phase ≡ after
   pub bases : bases_of given.rack ≡ bases_of r
   pub whole : Whole given.rack
+
+-- What is promised of an event that the rack refuses: it changes nothing in any card or on the bus, its byte is 00, and it reaches no card.
+pub record ChangesNothing (r : Rack) (e : RackEvent) : Type 0 where
+  pub unchanged : rack_stepped r e ≡ record { rack = r; number = (rack_stepped r e).number; byte = 0 }
+  pub reaches_none : (i : ℕ) → part i (whom_in r e) ≡ []
 
 -- What is promised of any rack and any history from it: the bases and the eight places stay, the bus follows from the events, and each
 -- card is a chip alone, after the events that reach it.

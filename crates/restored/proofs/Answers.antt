@@ -1,10 +1,6 @@
 -- What the calls answer along a host's whole run, from every power-up and from every image.
--- Rests on Holds, Saved, Shown, SameDiscipline and Counts, on account's Account, and on fates' Unforced and EveryByte.
-use mathlib.Core.Path.{◌≡◌}
-use mathlib.Core.Bool.{true}
-use mathlib.Core.List.{List, [], ◌∷◌, ◌++◌}
-use Prim.Native.Nat.{ℕ, ◌/◌}
-use lib.ListN.{length}
+-- Rests on Holds, Saved, Shown, SameDiscipline and Counts, on account's Account, and on fates' Discipline, Unforced and EveryByte.
+use Rattle.std.proofs.Common.{◌≡◌, true, List, [], ◌∷◌, ◌++◌, ℕ, ◌/◌, length}
 use Rattle.bus.specs.Event.{Event}
 use Rattle.control.specs.declared.Group.{Group}
 use Rattle.chip.specs.declared.channel.Side.{Side}
@@ -17,7 +13,8 @@ use Rattle.fates.specs.Surroundings.{at_power_up}
 use Rattle.fates.specs.Bytes.{handed_over, Byte, bytes_of}
 use Rattle.fates.specs.Promise.{run, new_bytes, old_byte, Each, ShownAt, Fates}
 use Rattle.fates.proofs.Unforced.{unforced}
-use Rattle.fates.proofs.EveryByte.{fates, disciplined}
+use Rattle.fates.proofs.EveryByte.{fates, fates_from}
+use Rattle.fates.proofs.Discipline.{disciplined}
 use Rattle.account.specs.Account.{Account, opened}
 use Rattle.account.specs.Promise.{over, account_of, Accounted}
 use Rattle.account.proofs.Account.{account, account_from}
@@ -25,10 +22,10 @@ use Rattle.image.specs.Places as places
 use Rattle.image.specs.Loaded.{state_of}
 use Rattle.image.specs.Good.{is_image, Bytes}
 use Rattle.calls.specs.Calls.{pins_answer, tally_answer, explain_answer}
-use Rattle.restored.specs.Host.{host_run, power_up_in}
+use Rattle.restored.specs.Host.{host_run, power_up_in, Holds}
 use Rattle.restored.specs.Answers.{answer_to, answer_by, pins_by, explained_by, AnsweredAt, Answers, HostKept, ImageKept}
-use Rattle.restored.proofs.Holds.{Holds, holds_new, holds_image, holds_run, answer_held, pins_held, explain_held}
-use Rattle.restored.proofs.Saved.{goes_on_lem}
+use Rattle.restored.proofs.Holds.{holds_new, holds_image, holds_run, answer_held, pins_held, explain_held}
+use Rattle.restored.proofs.Saved.{sixteen_bits}
 use Rattle.restored.proofs.Shown.{answered_at}
 use Rattle.restored.proofs.SameDiscipline.{same_discipline}
 use Rattle.restored.proofs.Counts.{Numbered, numbered_none, numbered_held, tally_told}
@@ -80,4 +77,4 @@ image_kept l bytes good es =
     let h = holds_image l bytes good in
     answers l c (account_of c) es h (account_from c es)
     (λ k n. tally_answer l k n / 256) (tally_of c) (numbered_held l c h)
-    (λ g s. new_bytes g s c es) (λ g s. old_byte g s c es ++ new_bytes g s c es) (goes_on_lem l bytes good es).fates
+    (λ g s. new_bytes g s c es) (λ g s. old_byte g s c es ++ new_bytes g s c es) (λ g s. fates_from g s c (sixteen_bits l bytes g s) es)

@@ -1,7 +1,6 @@
 -- The conditions for an image, one by one.
 -- Rests on bits' Logic.
-use mathlib.Core.Path.{◌≡◌}
-use mathlib.Core.Bool.{true, ◌&&◌}
+use Rattle.std.proofs.Common.{◌≡◌, true, ◌&&◌}
 use Rattle.bits.specs.Bit.{bit_of}
 use Rattle.bits.proofs.Logic.{both}
 use Rattle.control.specs.declared.Group.{Group}

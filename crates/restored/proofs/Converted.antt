@@ -1,11 +1,7 @@
--- What is promised of every byte from an older image on, once it is converted: the chip that it tells goes on, and its two new tallies count from 0.
--- Rests on Saved, on image's SameBytes and OlderOneImage, and calls' Converted.
-use mathlib.Core.Path.{◌≡◌, refl, sym, subst}
-use mathlib.Core.Bool.{true}
-use mathlib.Core.List.{List}
-use Prim.Native.Nat.{ℕ, ◌+◌, ◌*◌, ◌<◌}
-use native.Mathlib.Omega.{arith}
-use lib.ListN.{length}
+-- What is promised of every byte from an older image on, once it is converted: the chip that it tells goes on, and its two new tallies count
+-- from 0.
+-- Rests on Saved and GoesOn, on image's SameBytes and OlderOneImage, and calls' Converted.
+use Rattle.std.proofs.Common.{◌≡◌, refl, sym, subst, true, List, ℕ, ◌+◌, ◌*◌, ◌<◌, arith, length}
 use Rattle.bus.specs.Event.{Event}
 use Rattle.control.specs.declared.Group.{Group}
 use Rattle.control.specs.declared.Group.TheVariants.{A, B}
@@ -24,7 +20,8 @@ use Rattle.image.proofs.OlderOneImage.{tells_such}
 use Rattle.calls.specs.Calls.{convert_image}
 use Rattle.calls.proofs.Converted.{convert_good, convert_tells}
 use Rattle.restored.specs.Host.{GoesOn}
-use Rattle.restored.proofs.Saved.{two_bytes, goes_from}
+use Rattle.restored.proofs.Saved.{two_bytes}
+use Rattle.restored.proofs.GoesOn.{goes_from}
 
 -- The tallies that an older image tells have sixteen bits.
 module _ (o : List ℕ) (bytes : Bytes o) where

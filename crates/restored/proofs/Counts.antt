@@ -1,13 +1,6 @@
 -- What the tally call answers are the counts of the history's bytes, on top of the tallies at the start.
 -- Rests on Holds.
-use mathlib.Core.Path.{◌≡◌, ◌∙◌, refl}
-use mathlib.Core.Bool.{Bool, true, false, cond, ◌||◌}
-use mathlib.Core.List.{List}
-use Prim.Native.Nat.{ℕ, zero, suc, ◌+◌, ◌*◌, ◌/◌, ◌%◌, ◌≤◌}
-use native.Mathlib.Omega.{arith}
-use lib.Dec.{ltb}
-use lib.ListN.{get_or}
-use borrow.Author.Tests.{ltb-false}
+use Rattle.std.proofs.Common.{◌≡◌, ◌∙◌, refl, Bool, true, false, cond, ◌||◌, List, ℕ, zero, suc, ◌+◌, ◌*◌, ◌/◌, ◌%◌, ◌≤◌, arith, ltb, get_or, ltb-false}
 use Rattle.bus.specs.Event.{Event}
 use Rattle.control.specs.declared.Group.{Group}
 use Rattle.chip.specs.declared.channel.Side.{Side}
@@ -17,9 +10,9 @@ use Rattle.chip.specs.State.{no_tally, tally_of}
 use Rattle.fates.specs.Bytes.{Byte}
 use Rattle.fates.specs.Promise.{run, Fates}
 use Rattle.calls.specs.Calls.{or_none, last_channel, last_tally, group_numbered, side_numbered, counter_numbered, tally_answer}
-use Rattle.restored.specs.Host.{host_run}
+use Rattle.restored.specs.Host.{host_run, Holds}
 use Rattle.restored.specs.Answers.{counts, tally_by}
-use Rattle.restored.proofs.Holds.{Holds, holds_run, tally_held}
+use Rattle.restored.proofs.Holds.{holds_run, tally_held}
 
 -- The first gives the tallies of the channels by their numbers.
 abbrev pub Numbered : (ℕ → ℕ → ℕ) → (Group → Side → Tally) → Type 0

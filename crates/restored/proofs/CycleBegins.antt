@@ -1,11 +1,6 @@
 -- The cycle that an image holds is one that its chip begins.
 -- Rests on Conditions, on the bus's Facts and on image's OneImage.
-use mathlib.Core.Path.{◌≡◌, ◌∙◌, refl, ap, sym}
-use mathlib.Core.Bool.{true}
-use mathlib.Core.List.{List}
-use Prim.Native.Nat.{ℕ, ◌<◌}
-use native.Mathlib.Omega.{arith}
-use borrow.Author.Tests.{ltb-true}
+use Rattle.std.proofs.Common.{◌≡◌, ◌∙◌, refl, ap, sym, true, List, ℕ, ◌<◌, arith, ltb-true}
 use Rattle.bus.specs.declared.Phase.{Phase}
 use Rattle.bus.specs.declared.Phase.TheVariants.{Reading, Writing}
 use Rattle.bus.specs.Facts.{Facts}

@@ -1,12 +1,6 @@
 -- A chip has an image exactly where the rules' own words say so.
 -- Rests on Conditions, on bits' Logic and fates' Tables.
-use mathlib.Core.Path.{◌≡◌, ◌∙◌, refl, ap}
-use mathlib.Core.Bool.{Bool, true, false}
-use mathlib.Core.Logic.{◌⊎◌, inl, inr}
-use Prim.Native.Nat.{ℕ, ◌<◌}
-use native.Mathlib.Omega.{arith}
-use borrow.Author.Tests.{eqb-true, eq-eqb, ltb-true, lt-ltb}
-use Rattle.std.specs.Prelude.{◌↔◌}
+use Rattle.std.proofs.Common.{◌≡◌, ◌∙◌, refl, ap, Bool, true, false, ◌⊎◌, inl, inr, ℕ, ◌<◌, arith, eqb-true, eq-eqb, ltb-true, lt-ltb, ◌↔◌}
 use Rattle.bits.specs.Bit.{bit_of}
 use Rattle.bits.proofs.Logic.{contrary}
 use Rattle.bus.specs.declared.Phase.{Phase}

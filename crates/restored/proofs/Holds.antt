@@ -1,11 +1,6 @@
 -- A host that holds the image of a chip: it holds that of the next chip after every event, and its calls answer what the chip does.
 -- Rests on Stays, on image's Long, ComesBack and OneImage, on calls' HostStep, and on fates' Followed.
-use mathlib.Core.Path.{◌≡◌, refl}
-use mathlib.Core.Bool.{true, ◌||◌}
-use mathlib.Core.List.{List, [], ◌∷◌}
-use Prim.Native.Nat.{ℕ, ◌*◌}
-use lib.Dec.{ltb}
-use lib.ListN.{length}
+use Rattle.std.proofs.Common.{◌≡◌, refl, true, ◌||◌, List, [], ◌∷◌, ℕ, ◌*◌, ltb, length}
 use Rattle.bus.specs.Event.{Event}
 use Rattle.chip.specs.declared.Edition.{Edition}
 use Rattle.chip.specs.declared.Edition.TheVariants.{Older, Newer}
@@ -24,17 +19,11 @@ use Rattle.image.specs.Slices.{saved_in}
 use Rattle.image.proofs.Long.{written_over}
 use Rattle.image.proofs.ComesBack.{comes_back}
 use Rattle.image.proofs.OneImage.{has_image_lem, tells_such}
-use Rattle.calls.specs.Calls.{packed, power_up_as_answer, power_up_as_image, or_none, last_port, last_channel, last_tally, pins_given, pins_answer, group_numbered, side_numbered, counter_numbered, tally_answer, reasons_given, explain_answer}
+use Rattle.calls.specs.Calls.{packed, power_up_as_image, or_none, last_port, last_channel, last_tally, pins_given, pins_answer, group_numbered, side_numbered, counter_numbered, tally_answer, reasons_given, explain_answer}
 use Rattle.calls.proofs.HostStep.{host_answer, by_number}
-use Rattle.restored.specs.Host.{passed, host_run, power_up_in, ByDefault}
+use Rattle.restored.specs.Host.{passed, host_run, power_up_in, Holds}
 use Rattle.restored.specs.Answers.{answer_to}
 use Rattle.restored.proofs.Stays.{image_stays, power_up_has}
-
--- The host holds the image of a chip that has one.
-pub record Holds (l : List ℕ) (c : Chip) : Type 0 where
-  pub image : is_image l ≡ true
-  pub state : state_of l ≡ c
-  pub has : has_image c ≡ true
 
 module _ (l : List ℕ) (c : Chip) (h : Holds l c) where
   pub holds_next : (e : Event) → Holds (passed l e) (after c e)
@@ -79,10 +68,6 @@ holds_new l ed v long =
     let c = power_up_as ed v in
     let has = power_up_has ed v in
     rw (new_image l ed v, written_over l c long) (record { image = has_image_lem c has; state = comes_back c has; has = has })
-
-pub by_default : (l : List ℕ) (a b c : ℕ) → ByDefault l a b c
-unfolding power_up_as_answer power_up_as_image
-by_default l a b c = record { levels_answer = refl; levels_image = refl; plain_image = refl }
 
 -- and from an image.
 pub holds_image : (l : List ℕ) → Bytes l → is_image l ≡ true → Holds l (state_of l)

@@ -3,6 +3,7 @@ pub mod Stays
 pub mod CycleBegins
 pub mod Holds
 pub mod Saved
+pub mod GoesOn
 pub mod Converted
 pub mod Shown
 pub mod SameDiscipline
@@ -12,6 +13,7 @@ pub mod Refusals
 pub mod SwitchedOn
 pub mod Having
 pub mod InRange
+pub mod Parts
 pub mod Table
 pub mod OlderBytes
 pub mod SavedOlder

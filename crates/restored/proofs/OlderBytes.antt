@@ -1,11 +1,6 @@
 -- Bytes are an older image exactly where they tell, place by place, a chip that has an image.
--- Rests on Having and Table, on image's SameBytes, OlderSameBytes, OlderComesBack and OlderOneImage, and on calls' Converted.
-use mathlib.Core.Path.{◌≡◌, ◌∙◌, refl, ap, sym, subst}
-use mathlib.Core.Bool.{true}
-use mathlib.Core.List.{List, [], ◌∷◌, ◌++◌}
-use Prim.Native.Nat.{ℕ, ◌+◌}
-use lib.ListN.{get_or}
-use Rattle.std.specs.Prelude.{◌↔◌}
+-- Rests on Having and Parts, on image's SameBytes, OlderSameBytes, OlderComesBack and OlderOneImage, and on calls' Converted.
+use Rattle.std.proofs.Common.{◌≡◌, ◌∙◌, refl, ap, sym, subst, true, List, [], ◌∷◌, ◌++◌, ℕ, ◌+◌, get_or, eq-eqb, ◌↔◌}
 use Rattle.bus.specs.declared.Phase.{Phase}
 use Rattle.bus.specs.declared.Phase.TheVariants.{Idle, Reading, Writing}
 use Rattle.control.specs.declared.Group.TheVariants.{A, B}
@@ -22,12 +17,13 @@ use Rattle.image.specs.Before.{NoneForced, FromBefore}
 use Rattle.image.proofs.OlderSameBytes.{same_bytes_lem}
 use Rattle.image.proofs.OlderComesBack.{comes_back, from_before}
 use Rattle.image.proofs.OlderOneImage.{older_where, tells_such}
-use Rattle.calls.proofs.Converted.{converts, convert_same}
+use Rattle.calls.specs.Calls.{convert_answer}
+use Rattle.calls.proofs.Converted.{converts, convert_same, brought_over}
 use Rattle.restored.specs.Having.{HasImage}
 use Rattle.restored.specs.Table.{byte}
 use Rattle.restored.specs.OlderBytes.{TellsFive, running_number, place_number, OlderTells, Converted}
 use Rattle.restored.proofs.Having.{has_so, has_by}
-use Rattle.restored.proofs.Table.{fill_told, enables_told, written_told, two_bytes, low_byte, high_byte, behind}
+use Rattle.restored.proofs.Parts.{fill_told, enables_told, written_told, two_bytes, low_byte, high_byte, behind}
 
 -- Part by part, the numbers of the layout are those of the table.
 running_told : (ph : Phase) → running_number ph ≡ bus_byte ph
@@ -71,7 +67,7 @@ module _ (o : List ℕ) (i : ℕ) (t : Tally) where
       ∷ low_byte o bytes (i + 8) tells.cleared j ∷ high_byte o bytes (i + 8) tells.cleared j ∷ []
 
 -- The older layout of a chip tells the chip.
-layout_tells : (c : Chip) → FromBefore c → OlderTells (older_of c) c
+pub layout_tells : (c : Chip) → FromBefore c → OlderTells (older_of c) c
 unfolding older_of
 layout_tells c (older, none) =
     let a = c.core.a.input in
@@ -151,3 +147,14 @@ older_image_where o bytes = (tells, λ (c, has, t). is_older_lem o bytes c t has
     tells good =
         let c = older_state o in
         (c, has_so c (tells_such o bytes good), subst (λ l. OlderTells l c) (same_bytes_lem o bytes good) (layout_tells c (from_before o)))
+
+-- So the older layout of a chip becomes its image.
+pub layout_converted : (c : Chip) → HasImage c → FromBefore c → Converted (older_of c) c
+unfolding convert_answer
+layout_converted c has before =
+    let is : is_older (older_of c) ≡ true = older_where c before.0 ∙ has_by c has in
+    record {
+      state = comes_back c before;
+      answer = λ room long. rw (is, eq-eqb _ 96 long);
+      written = λ room long. brought_over c room (has_by c has) before long;
+    }

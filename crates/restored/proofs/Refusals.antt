@@ -1,14 +1,6 @@
--- What is refused with 8, call by call.
--- Rests on bits' Logic, chip's Outcome and calls' HostStep and Converted.
-use mathlib.Core.Path.{◌≡◌, refl}
-use mathlib.Core.Bool.{Bool, true, false, cond, not, ◌||◌}
-use mathlib.Core.List.{List}
-use Prim.Native.Nat.{ℕ, ◌%◌, ◌≤◌}
-use native.Mathlib.Omega.{arith}
-use lib.Dec.{ltb}
-use lib.ListN.{length}
-use borrow.Author.Tests.{eq-eqb, ne_eqb, lt-ltb, le-ltb}
-use Rattle.std.specs.Prelude.{Option, Some, None}
+-- What the calls that ask for an image answer, of bytes that are none and of an image.
+-- Rests on bits' Logic, chip's Outcome and calls' HostStep.
+use Rattle.std.proofs.Common.{◌≡◌, Bool, true, false, cond, ◌||◌, List, ℕ, ◌%◌, ◌≤◌, arith, ltb, Option, Some, None}
 use Rattle.bits.proofs.Logic.{by_test}
 use Rattle.bus.specs.declared.Phase.{Phase}
 use Rattle.bus.specs.declared.Limits.{Limits}
@@ -19,17 +11,9 @@ use Rattle.chip.specs.Step.{limits}
 use Rattle.chip.proofs.Outcome.{step_number}
 use Rattle.image.specs.Loaded.{state_of}
 use Rattle.image.specs.Good.{is_image}
-use Rattle.image.specs.Slices.{saved_in}
-use Rattle.image.specs.OlderGood.{is_older}
-use Rattle.calls.specs.Calls.{last_port, last_channel, last_tally, power_up_as_answer, power_up_as_image, convert_answer, convert_image, step_answer, pins_answer, tally_answer, reasons_given, explain_answer}
+use Rattle.calls.specs.Calls.{last_port, last_channel, last_tally, step_answer, pins_answer, tally_answer, reasons_given, explain_answer}
 use Rattle.calls.proofs.HostStep.{bad_answer, bad_stays}
-use Rattle.calls.proofs.Converted.{convert_bad}
-use Rattle.restored.specs.Refusals.{RefusedBytes, AcceptedBytes, PowersUp, Converts}
-
--- What is so of both outcomes is so of either.
-either : {X : Type 0} (b : Bool) (x : X) → cond b x x ≡ x
-either true x = refl
-either false x = refl
+use Rattle.restored.specs.Refusals.{RefusedBytes, AcceptedBytes}
 
 -- The table of refusals has no number above 5.
 one_of_five : (a b c d e : Bool) → cond a 1 (cond b 2 (cond c 3 (cond d 4 (cond e 5 0)))) ≤ 5
@@ -76,24 +60,3 @@ module _ (l : List ℕ) where
     tally = λ k n. rw (good) (by_test Few (ltb last_channel k || ltb last_tally n) _ _ (λ above. omega arith) (λ below. omega arith));
     explain = λ g. rw (good) (explained_few (explained_of (state_of l) g));
   }
-
-  -- Power-ups.
-  pub powers_up : PowersUp l
-  unfolding power_up_as_answer power_up_as_image saved_in
-  powers_up = record {
-    accepted = λ long. rw (eq-eqb (length l) 96 long);
-    accepted_as = λ ed long few. rw (le-ltb 1 ed few, eq-eqb (length l) 96 long);
-    other_length = λ other. let no = ne_eqb (length l) 96 other in (rw (no), rw (no));
-    other_length_with = λ a b c other. let no = ne_eqb (length l) 96 other in (rw (no), rw (no));
-    other_length_as = λ ed a b c other. let no = ne_eqb (length l) 96 other in (rw (no) (either (not (ltb 1 ed)) 8), rw (no) (either (not (ltb 1 ed)) l));
-    no_edition = λ ed a b c many. let no = lt-ltb 1 ed many in (rw (no), rw (no));
-  }
-
--- Conversions.
-pub converts_so : (o l : List ℕ) → Converts o l
-unfolding convert_answer convert_image saved_in
-converts_so o l = record {
-  accepted = λ older long. rw (older, eq-eqb (length l) 96 long);
-  no_older = convert_bad o l;
-  other_length = λ other. let no = ne_eqb (length l) 96 other in (rw (no) (either (is_older o) 8), rw (no) (either (is_older o) l));
-}

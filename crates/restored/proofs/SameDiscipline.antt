@@ -1,10 +1,6 @@
 -- The discipline by the answers is the discipline by the chip.
 -- Rests on Holds, on account's Account, and on fates' Followed.
-use mathlib.Core.Path.{◌≡◌, refl, ap₂}
-use mathlib.Core.Bool.{Bool, true, false}
-use mathlib.Core.List.{List, [], ◌∷◌}
-use Prim.Native.Nat.{ℕ, ◌/◌, ◌%◌, ◌<◌}
-use native.Mathlib.Omega.{arith}
+use Rattle.std.proofs.Common.{◌≡◌, refl, ap₂, Bool, true, false, List, [], ◌∷◌, ℕ, ◌/◌, ◌%◌, ◌<◌, arith}
 use Rattle.bits.specs.Bit.{num}
 use Rattle.bits.specs.Sum.{byte_by}
 use Rattle.bus.specs.Event.{Event}
@@ -20,9 +16,9 @@ use Rattle.account.specs.Views.{pin_level}
 use Rattle.account.specs.Promise.{account_of}
 use Rattle.account.proofs.Account.{account_from}
 use Rattle.calls.specs.Calls.{packed}
-use Rattle.restored.specs.Host.{passed}
+use Rattle.restored.specs.Host.{passed, Holds}
 use Rattle.restored.specs.Answers.{ibf_answered, HostDisciplined}
-use Rattle.restored.proofs.Holds.{Holds, holds_next, pins_held}
+use Rattle.restored.proofs.Holds.{holds_next, pins_held}
 
 -- The levels of port C are a byte, so that they can be taken out of the answer.
 bit_below : (b : Bool) → num b < 2

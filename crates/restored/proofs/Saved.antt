@@ -1,42 +1,21 @@
--- What is promised of every byte, beginning at a chip that a host restores from an image; and what the host holds after a power-up.
--- Rests on Conditions, Stays and Holds, on image's ComesBack and SameBytes, and on fates' Tables, SurroundingsKept, Followed, SameByte,
--- InTheLatch, Discipline, Unforced and EveryByte.
-use mathlib.Core.Path.{◌≡◌, ◌∙◌, ap, sym, subst}
-use mathlib.Core.Bool.{true}
-use mathlib.Core.List.{List, [], ◌∷◌}
-use Prim.Native.Nat.{ℕ, ◌+◌, ◌*◌, ◌<◌}
-use native.Mathlib.Omega.{arith}
-use lib.ListN.{length}
-use Rattle.bus.specs.Event.{Event}
+-- What an image tells: its tallies have sixteen bits, and a byte waits only where the mode word strobes the channel.
+-- Rests on Conditions, on image's SameBytes, and on fates' Tables and SameByte.
+use Rattle.std.proofs.Common.{◌≡◌, ◌∙◌, ap, sym, true, List, ℕ, ◌+◌, ◌*◌, ◌<◌, arith}
 use Rattle.control.specs.declared.Group.{Group}
 use Rattle.control.specs.declared.Group.TheVariants.{A, B}
 use Rattle.chip.specs.declared.channel.Side.{Side}
 use Rattle.chip.specs.declared.channel.Side.TheVariants.{Input, Output}
-use Rattle.chip.specs.declared.Edition.{Edition}
 use Rattle.chip.specs.declared.Chip.{Chip}
-use Rattle.chip.specs.declared.Levels.{Levels}
-use Rattle.chip.specs.State.{power_up_as, tally_of}
+use Rattle.chip.specs.State.{tally_of}
 use Rattle.chip.specs.Handshakes.{strobed}
-use Rattle.fates.specs.Promise.{run, surroundings_of, WaitsByHandshake, SixteenBits}
-use Rattle.fates.specs.Discipline.{HasFound, Disciplined}
+use Rattle.fates.specs.Promise.{WaitsByHandshake, SixteenBits}
 use Rattle.fates.proofs.Tables.{strobes_same}
-use Rattle.fates.proofs.SurroundingsKept.{surroundings_next_lem}
-use Rattle.fates.proofs.Followed.{after}
 use Rattle.fates.proofs.SameByte.{strobed_alone}
-use Rattle.fates.proofs.InTheLatch.{held_from}
-use Rattle.fates.proofs.Discipline.{found_next, disciplined_from}
-use Rattle.fates.proofs.Unforced.{unforced_from}
-use Rattle.fates.proofs.EveryByte.{fates_from, no_read}
 use Rattle.image.specs.Places as places
-use Rattle.image.specs.Layout.{image_of}
 use Rattle.image.specs.Loaded.{byte_at, tally_at, state_of}
-use Rattle.image.specs.Good.{allowed, has_image, is_image, Bytes}
-use Rattle.image.proofs.ComesBack.{comes_back}
+use Rattle.image.specs.Good.{allowed, has_image, Bytes}
 use Rattle.image.proofs.SameBytes.{small}
-use Rattle.restored.specs.Host.{power_up_in, GoesOn, PoweredUp, StillNoneLost}
 use Rattle.restored.proofs.Conditions.{apart}
-use Rattle.restored.proofs.Stays.{reached}
-use Rattle.restored.proofs.Holds.{Holds, holds_new, holds_image, holds_run}
 
 -- Tallies of two bytes each.
 pub two_bytes : (b h : ℕ) → b < 256 → h < 256 → b + 256 * h < 65536
@@ -69,38 +48,3 @@ pub waits_strobed : (g : Group) (s : Side) (c : Chip) → has_image c ≡ true �
 waits_strobed g s c has waits =
     let w = c.core.word in
     strobed_alone w g s (strobes_same w g s ∙ sym (ap (allowed (strobed w g s) s) waits) ∙ (apart c has).channel g s)
-
--- From bytes that are the image of a chip whose tallies have sixteen bits, over all events.
-pub goes_from : (l : List ℕ) → Holds l (state_of l) → ((g : Group) (s : Side) → SixteenBits (tally_of (state_of l) g s)) → (es : List Event) → GoesOn l es
-goes_from l h small es =
-    let at_end = holds_run l (state_of l) es h in
-    record {
-      image = at_end.image;
-      state = at_end.state;
-      fates = λ g s. fates_from g s (state_of l) (small g s) es;
-      held = λ g s. held_from g s (state_of l) (waits_strobed g s (state_of l) h.has) es;
-      unforced = λ g s. unforced_from g s (state_of l) es;
-    }
-
--- From every image.
-pub goes_on_lem : (l : List ℕ) → Bytes l → is_image l ≡ true → (es : List Event) → GoesOn l es
-goes_on_lem l bytes good es = goes_from l (holds_image l bytes good) (sixteen_bits l bytes) es
-
--- From every power-up, in as many bytes as an image has, that held anything.
-pub powered_up : (l : List ℕ) (ed : Edition) (v : Levels) (es : List Event) → length l ≡ places.length → PoweredUp l ed v es
-powered_up l ed v es long =
-    let at_end = holds_run (power_up_in l ed v) (power_up_as ed v) es (holds_new l ed v long) in
-    record { image = at_end.image; state = at_end.state }
-
--- In a run that keeps to the discipline, a read of the strobed port has always found a byte.
-has_found : (g : Group) (c : Chip) (es : List Event) → HasFound g c → Disciplined g (surroundings_of c) c es → HasFound g (run c es)
-has_found g c [] found kept = found
-has_found g c (e ∷ es) found kept =
-    has_found g (after c e) es (found_next g c e found kept.0) (rw (surroundings_next_lem c e) kept.1)
-
--- From an image saved in such a run.
-pub still_none_lost : (g : Group) (ed : Edition) (l : Levels) (before es : List Event) → StillNoneLost g ed l before es
-still_none_lost g ed l before es kept_before kept =
-    let c = run (power_up_as ed l) before in
-    disciplined_from g (state_of (image_of c))
-    (subst (HasFound g) (sym (comes_back c (reached ed l before))) (has_found g (power_up_as ed l) before (no_read g ed l) kept_before)) es kept

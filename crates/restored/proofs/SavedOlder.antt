@@ -1,11 +1,6 @@
 -- The five saved images become those beside them: computed.
 -- Rests on image's Long.
-use mathlib.Core.Path.{◌≡◌, ◌∙◌, refl}
-use mathlib.Core.Bool.{true}
-use mathlib.Core.List.{List}
-use Prim.Native.Nat.{ℕ}
-use lib.ListN.{length}
-use borrow.Author.Tests.{eq-eqb}
+use Rattle.std.proofs.Common.{◌≡◌, ◌∙◌, refl, true, List, ℕ, length, eq-eqb}
 use Rattle.bits.specs.Bit.{bit_of, value_of}
 use Rattle.control.specs.Mode.{mode_of, input_of, strobed_input, strobed_output}
 use Rattle.image.specs.Layout.{image_of}

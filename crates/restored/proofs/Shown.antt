@@ -1,11 +1,6 @@
 -- What the chip shows at an event, the calls answer there.
 -- Rests on Holds, and on fates' Followed.
-use mathlib.Core.Path.{◌≡◌, ◌∙◌, refl}
-use mathlib.Core.Bool.{false}
-use mathlib.Core.List.{List, [], ◌∷◌}
-use Prim.Native.Nat.{ℕ, zero, suc}
-use native.Mathlib.Omega.{arith}
-use lib.Dec.{ltb}
+use Rattle.std.proofs.Common.{◌≡◌, ◌∙◌, refl, false, List, [], ◌∷◌, ℕ, zero, suc, arith, ltb}
 use Rattle.bus.specs.Event.{Event}
 use Rattle.control.specs.declared.Group.{Group}
 use Rattle.control.specs.declared.Group.TheVariants.{A, B}
@@ -16,9 +11,9 @@ use Rattle.fates.specs.Effects.{port_number}
 use Rattle.fates.specs.Promise.{Shows, ShownAt}
 use Rattle.fates.proofs.Followed.{after}
 use Rattle.calls.specs.Calls.{last_port}
-use Rattle.restored.specs.Host.{passed}
+use Rattle.restored.specs.Host.{passed, Holds}
 use Rattle.restored.specs.Answers.{AnswerShows, AnsweredAt}
-use Rattle.restored.proofs.Holds.{Holds, holds_next, answer_held, pins_held}
+use Rattle.restored.proofs.Holds.{holds_next, answer_held, pins_held}
 
 -- The pins call refuses neither port.
 is_port : (g : Group) → ltb last_port (port_number g) ≡ false

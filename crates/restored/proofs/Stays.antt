@@ -1,10 +1,6 @@
 -- The step takes states with an image to states with an image, and so does every history; the chip at every power-up has one.
 -- Rests on Conditions, on bits' Logic, and on fates' Shapes, Tables, SurroundingsKept, SameByte and Followed.
-use mathlib.Core.Path.{◌≡◌, ◌∙◌, refl, sym, subst}
-use mathlib.Core.Bool.{Bool, true, false, cond, ◌&&◌}
-use mathlib.Core.List.{List, [], ◌∷◌}
-use Prim.Native.Nat.{ℕ}
-use lib.Dec.{eqb, ltb}
+use Rattle.std.proofs.Common.{◌≡◌, ◌∙◌, refl, sym, subst, Bool, true, false, cond, ◌&&◌, List, [], ◌∷◌, ℕ, eqb, ltb}
 use Rattle.bits.specs.Bit.{bit_of}
 use Rattle.bits.proofs.Logic.{both, either_way}
 use Rattle.bus.specs.Event.{Event}

@@ -1,11 +1,6 @@
 -- What a power-up leaves in 96 bytes.
 -- Rests on nothing.
-use mathlib.Core.Path.{◌≡◌}
-use mathlib.Core.List.{List}
-use Prim.Native.Nat.{ℕ, zero, suc, ◌≤◌}
-use native.Mathlib.Omega.{arith}
-use lib.ListN.{length}
-use borrow.Author.Tests.{eq-eqb}
+use Rattle.std.proofs.Common.{◌≡◌, List, ℕ, zero, suc, ◌≤◌, arith, length, eq-eqb}
 use Rattle.bits.specs.Bit.{value_of}
 use Rattle.image.specs.Layout.{image_of}
 use Rattle.image.specs.Slices.{saved_in}

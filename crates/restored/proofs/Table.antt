@@ -1,75 +1,32 @@
 -- Bytes are an image exactly where they tell, place by place, a chip that has one.
--- Rests on Having, and on image's SameBytes, ComesBack and OneImage.
-use mathlib.Core.Path.{◌≡◌, ◌∙◌, refl, ap, sym, subst}
-use mathlib.Core.Bool.{Bool, true, false}
-use mathlib.Core.List.{List, [], ◌∷◌, ◌++◌}
-use Prim.Native.Nat.{ℕ, zero, suc, ◌+◌, ◌*◌, ◌/◌, ◌%◌}
-use native.Mathlib.Omega.{arith}
-use lib.ListN.{length, get_or, drop}
-use borrow.Author.Tests.{lt-ltb}
-use Rattle.std.specs.Prelude.{◌↔◌}
-use Rattle.bits.specs.Bit.{value_of}
-use Rattle.bits.specs.Table.{from}
+-- Rests on Parts and Having, and on image's SameBytes, ComesBack and OneImage.
+use Rattle.std.proofs.Common.{◌≡◌, ◌∙◌, refl, ap, sym, subst, true, List, [], ◌∷◌, ◌++◌, ℕ, ◌+◌, arith, get_or, lt-ltb, ◌↔◌}
 use Rattle.bus.specs.declared.Phase.{Phase}
 use Rattle.bus.specs.declared.Phase.TheVariants.{Idle, Reading, Writing}
-use Rattle.chip.specs.declared.channel.Fill.{Fill}
-use Rattle.chip.specs.declared.channel.Fill.TheVariants.{Empty, Waiting, Fetching}
 use Rattle.chip.specs.declared.channel.Tally.{Tally}
-use Rattle.chip.specs.declared.Enables.{Enables}
 use Rattle.chip.specs.declared.Edition.{Edition}
 use Rattle.chip.specs.declared.Edition.TheVariants.{Older, Newer}
 use Rattle.chip.specs.declared.Chip.{Chip}
-use Rattle.image.specs.Layout.{tally_bytes, fill_byte, enables_byte, bus_byte, written_byte, edition_byte, image_of}
-use Rattle.image.specs.Loaded.{byte_at, state_of}
+use Rattle.image.specs.Layout.{tally_bytes, bus_byte, edition_byte, image_of}
+use Rattle.image.specs.Loaded.{state_of}
 use Rattle.image.specs.Good.{is_image, Bytes}
 use Rattle.image.proofs.ComesBack.{comes_back}
-use Rattle.image.proofs.SameBytes.{small, spelled, same_bytes_lem}
+use Rattle.image.proofs.SameBytes.{spelled, same_bytes_lem}
 use Rattle.image.proofs.OneImage.{has_image_lem, tells_such}
 use Rattle.restored.specs.Having.{NamesAPlace, HasImage}
-use Rattle.restored.specs.Table.{byte, count_at, TellsTallies, condition_number, enables_number, bus_number, written_number, edition_number, Tells}
+use Rattle.restored.specs.Table.{byte, TellsTallies, bus_number, edition_number, Tells}
+use Rattle.restored.proofs.Parts.{fill_told, enables_told, written_told, two_bytes, low_byte, high_byte, behind}
 use Rattle.restored.proofs.Having.{an_address, has_so, has_by}
 
 -- Part by part, the numbers of the layout are those of the table.
-pub fill_told : (f : Fill) → condition_number f ≡ fill_byte f
-fill_told Empty = refl
-fill_told Waiting = refl
-fill_told Fetching = refl
-
-pub enables_told : (i o b : Bool) → let e : Enables = record { input = i; output = o; b = b } in enables_number e ≡ enables_byte e
-unfolding value_of
-enables_told true true true = refl
-enables_told true true false = refl
-enables_told true false true = refl
-enables_told true false false = refl
-enables_told false true true = refl
-enables_told false true false = refl
-enables_told false false true = refl
-enables_told false false false = refl
-
 bus_told : (ed : Edition) (ph : Phase) → NamesAPlace ed ph → bus_number ph ≡ bus_byte ph
 bus_told ed Idle few = refl
 bus_told ed (Reading p) few = rw (lt-ltb p 4 (an_address ed p few))
 bus_told ed (Writing x d) few = rw (lt-ltb x 4 (omega (arith, few)))
 
-pub written_told : (ph : Phase) → written_number ph ≡ written_byte ph
-written_told Idle = refl
-written_told (Reading p) = refl
-written_told (Writing x d) = refl
-
 edition_told : (ed : Edition) → edition_number ed ≡ edition_byte ed
 edition_told Older = refl
 edition_told Newer = refl
-
--- A count is what its two bytes tell, and they are what is told of it.
-pub two_bytes : (n : ℕ) {low high : ℕ} → n % 256 ≡ low → n / 256 ≡ high → n ≡ low + 256 * high
-two_bytes n first second = omega (arith, first, second)
-
-module _ (l : List ℕ) (bytes : Bytes l) (k : ℕ) {n : ℕ} (is : n ≡ count_at l k) where
-  pub low_byte : n % 256 ≡ byte l k
-  low_byte = omega (arith, is, small l bytes k)
-
-  pub high_byte : n / 256 ≡ byte l (k + 1)
-  high_byte = omega (arith, is, small l bytes k)
 
 -- The fourteen bytes of a channel's tallies.
 abbrev fourteen : List ℕ → ℕ → List ℕ
@@ -128,16 +85,6 @@ layout_tells c has =
       edition = edition_told c.edition;
       unused = refl;
     }
-
--- What stands behind a place are the bytes from there on.
-shifted : (f : ℕ → ℕ) (i n : ℕ) → from f (suc i) n ≡ from (λ k. f (suc k)) i n
-shifted f i zero = refl
-shifted f i (suc n) = ap (λ (l : List ℕ). f (suc i) ∷ l) (shifted f (suc i) n)
-
-pub behind : (l : List ℕ) (i n : ℕ) → length l ≡ i + n → from (byte_at l) i n ≡ drop i l
-behind l zero n long = spelled l n (omega (arith, long))
-behind [] (suc i) n long = absurd (omega (arith, long))
-behind (b ∷ l) (suc i) n long = shifted (byte_at (b ∷ l)) i n ∙ behind l i n (omega (arith, long))
 
 -- Bytes that tell a chip are its layout.
 pub told_layout : (l : List ℕ) (c : Chip) → Bytes l → HasImage c → Tells l c → image_of c ≡ l

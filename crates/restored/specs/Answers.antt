@@ -90,8 +90,8 @@ HostDisciplined g a l [] = Unit {0}
 HostDisciplined g a l (e ∷ es) = Minds (ibf_answered l g) (effect g Input a e) × HostDisciplined g (surroundings_next a e) (passed l e) es
 
 -- What is promised of a host that powers its chip up, of either edition and under any levels, in 96 bytes that held anything, and passes it any
--- events: what the calls answer, the tallies counting from 0; and that no input byte is overwritten or swallowed where device and program keep to
--- the discipline, and none planted or struck where no flag is forced. Nothing here asks a chip.
+-- events: what the calls answer, the tallies counting from 0; and that no input byte is overwritten or swallowed where device and program keep
+-- to the discipline, and none planted or struck where no flag is forced. Nothing here asks a chip.
 pub record HostKept (l : List ℕ) (ed : Edition) (v : Levels) (es : List Event) : Type 0 where
   pub answers : Answers (power_up_in l ed v) (opened ed v) es (λ k n. 0) (λ g s. bytes_of g s ed v es) (λ g s. bytes_of g s ed v es)
   pub none_lost : (g : Group) → HostDisciplined g (at_power_up ed v) (power_up_in l ed v) es → NoneLost (bytes_of g Input ed v es)

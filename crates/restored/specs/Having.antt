@@ -28,8 +28,8 @@ NamesAPlace ed (Writing x d) = x ≤ 3
 abbrev pub condition_in : Chip → Group → Side → Fill
 condition_in c g s = (channel_of c.core g s).fill
 
--- A chip has an image: its cycle names a place, bit 7 of its mode word is set, each input is empty unless the mode word strobes it, and each output
--- is empty, or it is strobed and a byte waits there, so that none is fetching. Which channels are strobed is said by the fates.
+-- A chip has an image: its cycle names a place, bit 7 of its mode word is set, each input is empty unless the mode word strobes it, and each
+-- output is empty, or it is strobed and a byte waits there, so that none is fetching. Which channels are strobed is said by the fates.
 pub record HasImage (c : Chip) : Type 0 where
   pub place : NamesAPlace c.edition c.phase
   pub mode_word : c.core.word / 128 % 2 ≡ 1

@@ -9,14 +9,22 @@ use Rattle.chip.specs.declared.Edition.{Edition}
 use Rattle.chip.specs.declared.Chip.{Chip}
 use Rattle.chip.specs.declared.Levels.{Levels}
 use Rattle.chip.specs.State.{power_up_as, tally_of}
-use Rattle.chip.specs.Step.{on_bus, stepped}
+use Rattle.chip.specs.Step.{on_bus, stepped, step_of}
 use Rattle.fates.specs.Surroundings.{at_power_up}
 use Rattle.fates.specs.Promise.{run, surroundings_of, new_bytes, old_byte, HeldInTheLatch, Fates}
 use Rattle.fates.specs.Discipline.{Disciplined, NoneLost, NeverForced, NoneForced}
 use Rattle.image.specs.Layout.{edition_byte, image_of}
 use Rattle.image.specs.Loaded.{state_of}
-use Rattle.image.specs.Good.{is_image}
-use Rattle.calls.specs.Calls.{power_up_answer, power_up_image, power_up_image_with, power_up_as_answer, power_up_as_image, step_image}
+use Rattle.image.specs.Good.{has_image, is_image}
+use Rattle.calls.specs.Calls.{packed, power_up_answer, power_up_image, power_up_image_with, power_up_as_answer, power_up_as_image, step_image}
+
+-- What the step of the chip that the bytes tell comes to: the image of the chip after the event,
+abbrev pub image_after : List ℕ → ℕ → ℕ → ℕ → List ℕ
+image_after l k x d = image_of (step_of (state_of l) k x d).chip
+
+-- and the number of the event, with the byte that it answers above it.
+abbrev pub number_and_byte : List ℕ → ℕ → ℕ → ℕ → ℕ
+number_and_byte l k x d = packed (step_of (state_of l) k x d).number (step_of (state_of l) k x d).byte 0
 
 -- The bytes that a call of the step leaves, where an event is passed to it,
 abbrev pub passed : List ℕ → Event → List ℕ
@@ -30,6 +38,12 @@ host_run l (e ∷ es) = host_run (passed l e) es
 -- The bytes in which a chip of this edition was powered up under these levels.
 abbrev pub power_up_in : List ℕ → Edition → Levels → List ℕ
 power_up_in l ed v = power_up_as_image l (edition_byte ed) v.a v.b v.c
+
+-- A host holds the image of a chip: its bytes are an image, the chip that is restored from them is this one, and it is one that has an image.
+pub record Holds (l : List ℕ) (c : Chip) : Type 0 where
+  pub image : is_image l ≡ true
+  pub state : state_of l ≡ c
+  pub has : has_image c ≡ true
 
 -- The power-ups that name no edition, or nothing, are those of the older edition, and of lines that are all low ("The 82C55A").
 pub record ByDefault (l : List ℕ) (a b c : ℕ) : Type 0 where
@@ -58,6 +72,12 @@ dropped c = on_bus Idle c.edition c.core
 pub record CycleBegins (l : List ℕ) : Type 0 where
   pub read : (x : ℕ) → (state_of l).phase ≡ Reading x → (stepped (dropped (state_of l)) (event 1 x 0)).number ≡ 0
   pub write : (x d : ℕ) → (state_of l).phase ≡ Writing x d → (stepped (dropped (state_of l)) (event 3 x d)).number ≡ 0
+
+-- A chip has an image, and comes back: the image that is saved of it is one, and the chip that is restored from that is the same.
+pub record ComesBack (c : Chip) : Type 0 where
+  pub has : has_image c ≡ true
+  pub saved : is_image (image_of c) ≡ true
+  pub restored : state_of (image_of c) ≡ c
 
 -- What is promised of a host that powers its chip up, of either edition and under any levels, in 96 bytes that held anything, and passes it any
 -- events: it always holds an image, that of the chip after these events, from that power-up.

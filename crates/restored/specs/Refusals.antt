@@ -3,8 +3,8 @@ use Rattle.std.specs.Prelude.{◌≡◌, true, false, List, ℕ, ◌%◌, ◌<�
 use Rattle.image.specs.OlderGood.{is_older}
 use Rattle.calls.specs.Calls.{power_up_answer, power_up_image, power_up_image_with, power_up_as_answer, power_up_as_image, convert_answer, convert_image, step_answer, step_image, pins_answer, tally_answer, explain_answer}
 
--- Bytes that are no image: the step, the pin view, the tallies and the explanation answer 8, whatever the operands, and the step leaves each byte as
--- it was.
+-- Bytes that are no image: the step, the pin view, the tallies and the explanation answer 8, whatever the operands, and the step leaves each
+-- byte as it was.
 pub record RefusedBytes (l : List ℕ) : Type 0 where
   pub step : (k x d : ℕ) → step_answer l k x d ≡ 8
   pub step_leaves : (k x d : ℕ) → step_image l k x d ≡ l

@@ -1,5 +1,5 @@
--- Images of 64 bytes that an earlier version saved along one history, and the 96 bytes that each becomes ("Forcing the flags"). Each has a row for
--- the tallies of each channel, low bytes first, and a row for each part behind them.
+-- Images of 64 bytes that an earlier version saved along one history, and the 96 bytes that each becomes ("Forcing the flags"). Each has a row
+-- for the tallies of each channel, low bytes first, and a row for each part behind them.
 use Rattle.std.specs.Prelude.{◌≡◌, List, [], ◌∷◌, ℕ}
 use Rattle.calls.specs.Calls.{convert_answer, convert_image}
 

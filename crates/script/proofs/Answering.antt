@@ -1,11 +1,6 @@
 -- The output while a text is answered into it: each line changes it, and what it will hold at the end stays the same.
 -- Rests on Filling and Levels.
-use mathlib.Core.Path.{◌≡◌, ◌∙◌, ap, sym}
-use mathlib.Core.List.{List, [], ◌∷◌, ◌++◌, append_assoc}
-use Prim.Native.Nat.{ℕ, suc, ◌+◌, ◌*◌, ◌-◌, ◌≤◌}
-use native.Mathlib.Nat.{add-zero, mul-zero, mul-suc}
-use native.Mathlib.Omega.{arith}
-use lib.ListN.{length, take, drop, length-drop, take-append-drop}
+use Rattle.std.proofs.Common.{◌≡◌, ◌∙◌, ap, sym, List, [], ◌∷◌, ◌++◌, append_assoc, ℕ, suc, ◌+◌, ◌*◌, ◌-◌, ◌≤◌, add-zero, mul-zero, mul-suc, arith, length, take, drop, length-drop, take-append-drop}
 use borrow.Author.Rules.{part_to_end}
 use Rattle.text.specs.Lines.{Line}
 use Rattle.script.specs.Answers.{Answerer, line_after, answers_from, state_after, left_after}

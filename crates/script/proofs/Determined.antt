@@ -1,8 +1,7 @@
 -- The contract of each public function of script leaves no choice: of the output and the subject that a run was lent neither. Nor does that of a
 -- method by which a device or a rack answers scripts, or of a refusal made from another. What a run tells, no other answer tells.
 -- Rests on bits', bus' and rack's Determined.
-use mathlib.Core.Path.{◌≡◌, ◌∙◌, refl, ap, ap₂, sym}
-use Rattle.std.specs.Prelude.{cond, ℕ, eqb, Result, Ok, Err}
+use Rattle.std.proofs.Common.{◌≡◌, ◌∙◌, refl, ap, ap₂, sym, cond, ℕ, eqb, Result, Ok, Err}
 use Rattle.bits.proofs.Determined.{Determines, equation_determines, equations_determine}
 use Rattle.bus.proofs.Determined.{answer_of, frame_of, frame_told_so}
 use Rattle.rack.proofs.Determined as racks

@@ -1,8 +1,6 @@
 -- A script is answered as its history is: what is no frame gets what an event of no kind gets.
 -- Rests on the bus's Numbering.
-use mathlib.Core.Path.{◌≡◌, refl, ap, sym}
-use mathlib.Core.List.{List, [], ◌∷◌, ◌++◌, map}
-use Prim.Native.Nat.{ℕ}
+use Rattle.std.proofs.Common.{◌≡◌, refl, ap, sym, List, [], ◌∷◌, ◌++◌, map, ℕ}
 use Rattle.bus.specs.Kinds.{is_kind}
 use Rattle.bus.specs.Device.{Device, run_in}
 use Rattle.bus.specs.Begun.{given_in}

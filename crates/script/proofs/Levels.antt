@@ -1,12 +1,7 @@
 -- The levels of the cards, while they are written: each card changes the output, and what it will hold at the end stays the same. And the width of
 -- an answer line.
 -- Rests on Stores.
-use mathlib.Core.Path.{◌≡◌, ◌∙◌, refl}
-use mathlib.Core.List.{List, [], ◌∷◌, ◌++◌}
-use Prim.Native.Nat.{ℕ, zero, suc, ◌+◌, ◌-◌, ◌*◌, ◌≤◌, ◌<◌}
-use native.Mathlib.Numerals.{add-one}
-use native.Mathlib.Omega.{arith}
-use lib.ListN.{length, length-append}
+use Rattle.std.proofs.Common.{◌≡◌, ◌∙◌, refl, List, [], ◌∷◌, ◌++◌, ℕ, zero, suc, ◌+◌, ◌-◌, ◌*◌, ◌≤◌, ◌<◌, add-one, arith, length, length-append}
 use lib.Seq.{sets, length-sets}
 use Rattle.bus.specs.Device.{Given}
 use Rattle.text.specs.Lines.{lf}

@@ -1,12 +1,6 @@
 -- The number of a run by what it comes to, and the room that it says there is.
 -- Rests on nothing.
-use mathlib.Core.Path.{◌≡◌, ◌∙◌, refl, ap}
-use mathlib.Core.Bool.{Bool, true, false, cond}
-use mathlib.Core.List.{List}
-use Prim.Native.Nat.{ℕ, zero, suc, ◌≤◌}
-use native.Mathlib.Omega.{arith}
-use lib.Dec.{ltb}
-use borrow.Author.Tests.{ltb-false, ne_eqb}
+use Rattle.std.proofs.Common.{◌≡◌, ◌∙◌, refl, ap, Bool, true, false, cond, List, ℕ, zero, suc, ◌≤◌, arith, ltb, ltb-false, ne_eqb}
 use Rattle.script.specs.Run.{Ran, too_long, room_for, too_long_number, no_room_number, run_number, ran_by, ran_of}
 
 module _ (w : ℕ) (text : List ℕ) (room : ℕ) where

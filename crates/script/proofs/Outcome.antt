@@ -1,13 +1,6 @@
 -- A run as a whole: what it leaves, and an empty text.
 -- Rests on text's LineCount, on Numbers and on Pieces.
-use mathlib.Core.Path.{◌≡◌, ◌∙◌, sym}
-use mathlib.Core.List.{List, []}
-use Prim.Native.Nat.{ℕ, ◌*◌, ◌≤◌}
-use native.Mathlib.Nat.{mul-zero}
-use native.Mathlib.Omega.{arith}
-use lib.ListN.{length, drop}
-use lib.Seq.{drop_at}
-use borrow.Author.Tests.{le-ltb, ne_eqb}
+use Rattle.std.proofs.Common.{◌≡◌, ◌∙◌, sym, List, [], ℕ, ◌*◌, ◌≤◌, mul-zero, arith, length, drop, drop_at, le-ltb, ne_eqb}
 use Rattle.std.proofs.Math.Nat.{mul-le-mul_left}
 use Rattle.text.specs.Lines.{lines_of, line_count}
 use Rattle.text.proofs.LineCount.{lines_at_most}

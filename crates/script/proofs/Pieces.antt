@@ -1,12 +1,6 @@
 -- A script in pieces: what stands up to an LF, and what follows, are answered one after the other.
 -- Rests on text's Pieces and on Levels.
-use mathlib.Core.Path.{◌≡◌, ◌∙◌, refl, ap, sym}
-use mathlib.Core.List.{List, [], ◌∷◌, ◌++◌, append_assoc}
-use Prim.Native.Nat.{ℕ, ◌+◌, ◌*◌}
-use native.Mathlib.Nat.{mul-zero, mul-suc}
-use native.Mathlib.Omega.{arith}
-use lib.ListN.{length, take, length-append}
-use lib.Seq.{take_at}
+use Rattle.std.proofs.Common.{◌≡◌, ◌∙◌, refl, ap, sym, List, [], ◌∷◌, ◌++◌, append_assoc, ℕ, ◌+◌, ◌*◌, mul-zero, mul-suc, arith, length, take, length-append, take_at}
 use Rattle.text.specs.Lines.{lf, Line, lines_of}
 use Rattle.text.proofs.Pieces.{lines_append}
 use Rattle.script.specs.Answers.{Answerer, line_after, answers_from, state_after, answers_of}

@@ -1,15 +1,7 @@
 -- What a caller of a run can count on: the answers have as many bytes as it says, lie within the output, and leave what stands behind
 -- them; and with enough room no text is refused for want of it.
 -- Rests on Pieces and RackRoom.
-use mathlib.Core.Path.{◌≡◌, refl}
-use mathlib.Core.Bool.{Bool, true, false, cond, not}
-use mathlib.Core.List.{List}
-use Prim.Native.Nat.{ℕ, ◌≤◌}
-use native.Mathlib.Omega.{arith}
-use lib.Dec.{ltb}
-use lib.ListN.{length, drop}
-use lib.Seq.{drop_at}
-use borrow.Author.Tests.{ltb-true, ltb-false}
+use Rattle.std.proofs.Common.{◌≡◌, refl, Bool, true, false, cond, not, List, ℕ, ◌≤◌, arith, ltb, length, drop, drop_at, ltb-true, ltb-false}
 use Rattle.rack.specs.declared.Rack.{Rack}
 use Rattle.rack.specs.Bases.{bad_rack_number}
 use Rattle.script.specs.Answers.{answers_from}

@@ -1,12 +1,6 @@
 -- What is left of a text behind its first line: no more bytes than the text has.
 -- Rests on nothing.
-use mathlib.Core.Path.{◌≡◌, ap}
-use mathlib.Core.Bool.{Bool, true, false, cond}
-use mathlib.Core.List.{List, [], ◌∷◌}
-use Prim.Native.Nat.{ℕ, suc, ◌+◌, ◌≤◌}
-use native.Mathlib.Omega.{arith}
-use lib.Dec.{eqb}
-use lib.ListN.{length}
+use Rattle.std.proofs.Common.{◌≡◌, ap, Bool, true, false, cond, List, [], ◌∷◌, ℕ, suc, ◌+◌, ◌≤◌, arith, eqb, length}
 use Rattle.text.specs.Lines.{lf, Line, ended, rest, before_lines, lines_of}
 
 -- The bytes of some lines, with the LF of each that is ended.

@@ -1,11 +1,6 @@
 -- The base that digits write, by how many there are: four and more, or fewer.
 -- Rests on nothing.
-use mathlib.Core.Path.{◌≡◌, refl}
-use mathlib.Core.List.{List, [], ◌∷◌}
-use Prim.Native.Nat.{ℕ, ◌+◌, ◌*◌, ◌≤◌, ◌<◌}
-use native.Mathlib.Omega.{arith}
-use borrow.Author.Tests.{lt-ltb, le-ltb}
-use lib.ListN.{length, drop}
+use Rattle.std.proofs.Common.{◌≡◌, refl, List, [], ◌∷◌, ℕ, ◌+◌, ◌*◌, ◌≤◌, ◌<◌, arith, lt-ltb, le-ltb, length, drop}
 use Rattle.text.specs.Digits.{no_byte}
 use Rattle.text.specs.Frames.{leading_byte}
 use Rattle.script.specs.RackBases.{base_digits, no_base, base_of, leading_base}

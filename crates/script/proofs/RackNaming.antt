@@ -1,12 +1,6 @@
 -- What the bases of a line make: too many of them, or one whose digits are missing, make no rack.
 -- Rests on nothing.
-use mathlib.Core.Path.{◌≡◌, refl}
-use mathlib.Core.Bool.{Bool, true, false, cond, not, ◌&&◌}
-use mathlib.Core.List.{List, [], ◌∷◌, ◌++◌}
-use Prim.Native.Nat.{ℕ, ◌<◌}
-use Rattle.std.specs.Prelude.{Ok}
-use lib.Dec.{leb}
-use lib.ListN.{length}
+use Rattle.std.proofs.Common.{◌≡◌, refl, Bool, true, false, cond, not, ◌&&◌, List, [], ◌∷◌, ◌++◌, ℕ, ◌<◌, Ok, leb, length}
 use borrow.Author.Tests.{lt-leb}
 use Rattle.rack.specs.Bases.{most_cards, is_base, is_among, are_bases, makes_rack}
 use Rattle.rack.specs.State.{rack_of, built_of}

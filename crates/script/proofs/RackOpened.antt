@@ -1,13 +1,6 @@
--- What stands behind the first line of a text, where that is a rack, is given to the run of one who answers scripts: what that run tells and leaves is
--- what the rack's run does.
--- Rests on Numbers and RackFirstLine.
-use mathlib.Core.Path.{◌≡◌, ◌∙◌, refl, ap, sym}
-use mathlib.Core.List.{List, ◌∷◌}
-use Prim.Native.Nat.{ℕ, ◌*◌, ◌≤◌}
-use native.Mathlib.Omega.{arith}
-use lib.ListN.{length}
-use borrow.Author.Tests.{le-ltb}
-use Rattle.std.specs.Prelude.{Result, Ok, Err, IsErrAnd}
+-- What stands behind the first line of a text, where that is a rack, is given to the run of one who answers scripts: what that run tells and
+-- leaves is what the rack's run does. Rests on Numbers and RackFirstLine.
+use Rattle.std.proofs.Common.{◌≡◌, ◌∙◌, refl, ap, sym, List, ◌∷◌, ℕ, ◌*◌, ◌≤◌, arith, length, le-ltb, Result, Ok, Err, IsErrAnd}
 use Rattle.rack.specs.declared.Rack.{Rack}
 use Rattle.script.specs.Run as scripts
 use Rattle.script.specs.Run.{longest_script, width_of}

@@ -1,10 +1,6 @@
 -- The bases of a line, while they are read one after the other.
 -- Rests on RackNaming.
-use mathlib.Core.Path.{◌≡◌, refl, sym}
-use mathlib.Core.List.{List, [], ◌∷◌, ◌++◌, append_assoc, append-nil}
-use Prim.Native.Nat.{ℕ, min, ◌<◌}
-use native.Mathlib.Omega.{arith}
-use lib.ListN.{length, length-append}
+use Rattle.std.proofs.Common.{◌≡◌, refl, sym, List, [], ◌∷◌, ◌++◌, append_assoc, append-nil, ℕ, min, ◌<◌, arith, length, length-append}
 use Rattle.rack.specs.Bases.{most_cards}
 use Rattle.rack.specs.State.{built_of}
 use Rattle.script.specs.RackBases.{base_digits, no_base, leading_base, bases_of_line, no_rack}

@@ -1,12 +1,6 @@
 -- The room that is enough for the answers to any script.
 -- Rests on bits' Logic, rack's InBases and text's LineCount.
-use mathlib.Core.Path.{◌≡◌, refl}
-use mathlib.Core.List.{List, [], ◌∷◌}
-use Prim.Native.Nat.{ℕ, ◌*◌, ◌≤◌}
-use native.Mathlib.Nat.{mul-le-mul}
-use native.Mathlib.Omega.{arith}
-use lib.ListN.{length}
-use Rattle.std.specs.Prelude.{Result}
+use Rattle.std.proofs.Common.{◌≡◌, refl, List, [], ◌∷◌, ℕ, ◌*◌, ◌≤◌, mul-le-mul, arith, length, Result}
 use Rattle.std.specs.Result.{result_unwrap_or}
 use Rattle.bits.proofs.Logic.{by_test}
 use Rattle.rack.specs.declared.Rack.{Rack}

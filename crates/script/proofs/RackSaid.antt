@@ -1,13 +1,6 @@
 -- What an answer says of a line: an event is told by the numbers that name it.
 -- Rests on bits' Logic, the bus's ByKind and text's Leading.
-use mathlib.Core.Path.{◌≡◌, refl, ap}
-use mathlib.Core.Bool.{Bool, true, false, cond, ◌&&◌}
-use mathlib.Core.List.{List}
-use Prim.Native.Nat.{ℕ, ◌+◌, ◌*◌, ◌<◌, ◌≤◌}
-use native.Mathlib.Omega.{arith}
-use lib.ListN.{length}
-use borrow.Author.Tests.{eq-eqb, lt-ltb}
-use Rattle.std.proofs.Common.{None}
+use Rattle.std.proofs.Common.{◌≡◌, refl, ap, Bool, true, false, cond, ◌&&◌, List, ℕ, ◌+◌, ◌*◌, ◌<◌, ◌≤◌, arith, length, eq-eqb, lt-ltb, None}
 use Rattle.bits.proofs.Logic.{either_way}
 use Rattle.bus.specs.Kinds.{begins, is_kind, no_kind}
 use Rattle.bus.proofs.ByKind.{by_known_kind, none_above, last_choice}

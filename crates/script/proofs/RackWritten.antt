@@ -1,12 +1,6 @@
 -- Every event that a frame can hold is read back from it, and so are good bases from the digits that write them.
 -- Rests on bits' Logic and text's Written.
-use mathlib.Core.Path.{◌≡◌, refl, ap₂}
-use mathlib.Core.Bool.{Bool, true, cond, not, ◌&&◌}
-use mathlib.Core.List.{List, [], ◌∷◌, ◌++◌}
-use Prim.Native.Nat.{ℕ, ◌+◌, ◌*◌, ◌/◌, ◌%◌, ◌<◌}
-use native.Mathlib.Omega.{arith}
-use lib.Dec.{eqb, leb, ltb}
-use borrow.Author.Tests.{lt-ltb, leb-true}
+use Rattle.std.proofs.Common.{◌≡◌, refl, ap₂, Bool, true, cond, not, ◌&&◌, List, [], ◌∷◌, ◌++◌, ℕ, ◌+◌, ◌*◌, ◌/◌, ◌%◌, ◌<◌, arith, eqb, leb, ltb, lt-ltb, leb-true}
 use Rattle.bits.proofs.Logic.{both}
 use Rattle.bus.specs.Kinds as kinds
 use Rattle.bus.specs.Kinds.{is_kind}

@@ -1,11 +1,6 @@
 -- Runs of stores, one behind the other, are one run.
 -- Rests on nothing.
-use mathlib.Core.Path.{◌≡◌, ◌∙◌, ap}
-use mathlib.Core.List.{List, [], ◌∷◌, ◌++◌}
-use Prim.Native.Nat.{ℕ, suc, ◌+◌}
-use native.Mathlib.Nat.{add-zero}
-use native.Mathlib.Omega.{arith}
-use lib.ListN.{length, set}
+use Rattle.std.proofs.Common.{◌≡◌, ◌∙◌, ap, List, [], ◌∷◌, ◌++◌, ℕ, suc, ◌+◌, add-zero, arith, length, set}
 use lib.Seq.{sets}
 
 further : (n k : ℕ) → n + suc k ≡ suc n + k

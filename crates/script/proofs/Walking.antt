@@ -1,12 +1,6 @@
 -- A walk through the lines of a text: each line changes the state and the count, and what they will be at the end stays the same.
 -- Rests on text's LineCount.
-use mathlib.Core.Path.{◌≡◌}
-use mathlib.Core.Bool.{Bool, true, false, not}
-use mathlib.Core.List.{List, [], ◌∷◌}
-use Prim.Native.Nat.{ℕ, ◌+◌, ◌≤◌}
-use native.Mathlib.Omega.{arith}
-use lib.Dec.{eqb}
-use lib.ListN.{length}
+use Rattle.std.proofs.Common.{◌≡◌, Bool, true, false, not, List, [], ◌∷◌, ℕ, ◌+◌, ◌≤◌, arith, eqb, length}
 use Rattle.bits.specs.Bit.{num}
 use Rattle.text.specs.Lines.{Line, lines_of}
 use Rattle.text.proofs.LineCount.{lines_at_most}

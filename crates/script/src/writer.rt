@@ -24,8 +24,8 @@ fn put_levels<S: Scripted>(out: &mut [u8], subject: &S) -> usize
     ensures output { out.new ≡ sets out.old front_digits (all_levels S.answerer subject.now) }
 {
     let mut at = FRONT_DIGITS;
-    // By places, since whoever answers names a card by its place; and by a cursor, since after a loop over the cards and over chunks of the output the
-    // prover does not know what was written.
+    // By places, since whoever answers names a card by its place; and by a cursor, since after a loop over the cards and over chunks of the
+    // output the prover does not know what was written.
     for card in 0..subject.cards() {
         put(out, at, subject.levels(card, 0));
         put(out, at + 2, subject.levels(card, 1));

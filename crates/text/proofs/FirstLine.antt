@@ -1,15 +1,7 @@
 -- A text that is not empty is its first line and the lines of what stands behind it.
 -- Rests on FirstLength.
-use mathlib.Core.Path.{◌≡◌, ◌∙◌, refl, ap}
-use mathlib.Core.Bool.{Bool, true, false, cond}
-use mathlib.Core.List.{List, [], ◌∷◌}
-use Prim.Native.Nat.{ℕ, suc, ◌+◌, ◌<◌, ◌≤◌}
-use native.Mathlib.Nat.{not-suc-le-zero}
-use native.Mathlib.Numerals.{add-one}
-use native.Mathlib.Omega.{arith}
-use borrow.Author.Tests.{lt-ltb, le-ltb}
-use lib.Dec.{eqb, ltb, leb-suc-suc}
-use lib.ListN.{length, get_or, take, drop, length-drop}
+use Rattle.std.proofs.Common.{◌≡◌, ◌∙◌, refl, ap, Bool, true, false, cond, List, [], ◌∷◌, ℕ, suc, ◌+◌, ◌<◌, ◌≤◌, not-suc-le-zero, add-one, arith, lt-ltb, le-ltb, eqb, ltb, length, get_or, take, drop, length-drop}
+use lib.Dec.{leb-suc-suc}
 use Rattle.std.proofs.lemmas.List.{take_all}
 use Rattle.text.specs.Lines.{lf, Line, ended, rest, with_byte, before_lines, lines_of}
 use Rattle.text.specs.LineEnds.{first_length, first_line}

@@ -1,9 +1,6 @@
 -- The byte at a place of a line where nothing of the line is left: 00.
 -- Rests on nothing.
-use mathlib.Core.Path.{◌≡◌}
-use mathlib.Core.List.{List}
-use Prim.Native.Nat.{ℕ, ◌≤◌}
-use lib.ListN.{length, drop, drop_of_length-le}
+use Rattle.std.proofs.Common.{◌≡◌, List, ℕ, ◌≤◌, length, drop, drop_of_length-le}
 use Rattle.text.specs.Frames.{leading_byte}
 
 pub none_left : (line : List ℕ) (at : ℕ) → length line ≤ at → leading_byte (drop at line) ≡ 0

@@ -1,11 +1,6 @@
 -- A text has no more lines than bytes.
 -- Rests on nothing.
-use mathlib.Core.Bool.{Bool, true, false, cond}
-use mathlib.Core.List.{List, [], ◌∷◌}
-use Prim.Native.Nat.{ℕ, suc, ◌≤◌}
-use native.Mathlib.Omega.{arith}
-use lib.Dec.{eqb}
-use lib.ListN.{length}
+use Rattle.std.proofs.Common.{Bool, true, false, cond, List, [], ◌∷◌, ℕ, suc, ◌≤◌, arith, eqb, length}
 use Rattle.text.specs.Lines.{lf, Line, ended, before_lines, lines_of}
 
 before_at_most : (b : ℕ) (ls : List Line) → length (before_lines b ls) ≤ suc (length ls)

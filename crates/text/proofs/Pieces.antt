@@ -1,13 +1,6 @@
 -- The lines of a text in pieces: those up to an LF do not hang on what follows.
 -- Rests on FirstLine.
-use mathlib.Core.Path.{◌≡◌, ◌∙◌, refl, ap}
-use mathlib.Core.Bool.{Bool, true, false, cond}
-use mathlib.Core.List.{List, [], ◌∷◌, ◌++◌}
-use Prim.Native.Nat.{ℕ, ◌<◌}
-use native.Mathlib.Nat.{not-suc-le-zero}
-use native.Mathlib.Omega.{arith}
-use lib.Dec.{eqb}
-use lib.ListN.{length, length-append}
+use Rattle.std.proofs.Common.{◌≡◌, ◌∙◌, refl, ap, Bool, true, false, cond, List, [], ◌∷◌, ◌++◌, ℕ, ◌<◌, not-suc-le-zero, arith, eqb, length, length-append}
 use Rattle.text.specs.Lines.{lf, Line, ended, before_lines, lines_of}
 use Rattle.text.proofs.FirstLine.{a_line}
 

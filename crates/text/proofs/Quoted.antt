@@ -1,8 +1,6 @@
 -- Who answers every text alike answers the quoted ones alike.
 -- Rests on nothing.
-use mathlib.Core.Path.{◌≡◌, refl, ap₂}
-use mathlib.Core.List.{List, [], ◌∷◌}
-use Prim.Native.Nat.{ℕ}
+use Rattle.std.proofs.Common.{◌≡◌, refl, ap₂, List, [], ◌∷◌, ℕ}
 use Rattle.text.specs.Quoted.{codes, Text, answered}
 
 pub answered_alike : (f g : List ℕ → List ℕ) → ((text : List ℕ) → f text ≡ g text) → (ts : List Text) → answered f ts ≡ answered g ts

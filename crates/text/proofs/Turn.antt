@@ -1,12 +1,7 @@
 -- One law for every loop over the lines of a text by their places, whatever it does with them: it applies `turn` at each line and `no_more`
 -- behind the last.
 -- Rests on FirstLength and FirstLine.
-use mathlib.Core.Path.{◌≡◌}
-use mathlib.Core.List.{List, [], ◌∷◌}
-use Prim.Native.Nat.{ℕ, suc, ◌+◌, ◌-◌, ◌≤◌, ◌<◌}
-use native.Mathlib.Omega.{arith}
-use lib.ListN.{length, drop, length-drop}
-use lib.Seq.{drop-drop}
+use Rattle.std.proofs.Common.{◌≡◌, List, [], ◌∷◌, ℕ, suc, ◌+◌, ◌-◌, ◌≤◌, ◌<◌, arith, length, drop, length-drop, drop-drop}
 use Rattle.text.specs.Lines.{Line, lines_of}
 use Rattle.text.specs.LineEnds.{first_length, line_end, line_between}
 use Rattle.text.proofs.FirstLength.{no_longer}

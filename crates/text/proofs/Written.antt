@@ -1,11 +1,6 @@
 -- Every event, written out as a frame, is read as that event.
 -- Rests on the bus's ByKind and bits' Tested.
-use mathlib.Core.Path.{◌≡◌}
-use mathlib.Core.Bool.{true}
-use mathlib.Core.List.{◌++◌}
-use Prim.Native.Nat.{ℕ, ◌/◌, ◌<◌}
-use native.Mathlib.Omega.{arith}
-use borrow.Author.Tests.{lt-ltb}
+use Rattle.std.proofs.Common.{◌≡◌, true, ◌++◌, ℕ, ◌/◌, ◌<◌, arith, lt-ltb}
 use Rattle.bits.proofs.Tested.{numbers}
 use Rattle.bus.specs.Kinds.{is_kind, operands_of}
 use Rattle.bus.proofs.ByKind.{kind_small}

@@ -1,14 +1,6 @@
 -- Every line that is a frame is the event that it says, written out: two lines that say the same are the same.
 -- Rests on bits' Logic and Tested, the bus's ByKind, Leading and Written.
-use mathlib.Core.Path.{◌≡◌, ◌∙◌, refl, ap, sym}
-use mathlib.Core.Bool.{Bool, true, false, cond, ◌&&◌}
-use mathlib.Core.List.{List, [], ◌∷◌, ◌++◌}
-use Prim.Native.Nat.{ℕ, zero, suc, ◌+◌, ◌*◌, ◌/◌, ◌%◌, ◌<◌, ◌≤◌}
-use native.Mathlib.Omega.{arith}
-use lib.Dec.{eqb, ltb}
-use lib.ListN.{length, drop, get_or, length-drop, drop_of_length-le}
-use lib.Seq.{drop-drop}
-use borrow.Author.Tests.{eqb-true, ltb-true, ltb-false, lt-ltb, ne_eqb}
+use Rattle.std.proofs.Common.{◌≡◌, ◌∙◌, refl, ap, sym, Bool, true, false, cond, ◌&&◌, List, [], ◌∷◌, ◌++◌, ℕ, zero, suc, ◌+◌, ◌*◌, ◌/◌, ◌%◌, ◌<◌, ◌≤◌, arith, eqb, ltb, length, drop, get_or, length-drop, drop_of_length-le, drop-drop, eqb-true, ltb-true, ltb-false, lt-ltb, ne_eqb}
 use Rattle.bits.proofs.Logic.{both}
 use Rattle.bits.proofs.Tested.{numbers}
 use Rattle.bus.specs.Kinds.{is_kind, operands_of}

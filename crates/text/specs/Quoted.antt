@@ -1,7 +1,7 @@
 -- Scripts and their answers, quoted as strings.
 use Rattle.std.specs.Prelude.{List, [], ◌∷◌, ℕ}
-use Prim.Native.Char.{code}
 use Prim.Native.String.{String}
+use Prim.Native.Char.{code}
 
 -- The codes of a text's characters.
 abbrev pub codes : String → List ℕ

@@ -31,6 +31,7 @@ impl<'a> Iterator for Lines<'a> {
 
     ghost remaining = { item_count lines_left };
 
+    #[tactic(auto, using(crate::proofs::FirstLine::rest_alone, crate::proofs::FirstLine::no_line))]
     fn next(&mut self) -> Option<Line<'a>> {
         if self.text.is_empty() {
             return None;

@@ -1,9 +1,8 @@
 -- With room for 4,096 answers, what a run leaves in front of the output, or its number alone, is what the program prints of a script; and it is
 -- refused where the text is too long.
 -- Rests on bits' Logic and on script's Numbers, Outcome and Pieces.
-use Rattle.std.proofs.Common.{◌≡◌, ◌≢◌, Result, Ok, Err, is_err, ℕ, ◌*◌, ◌≤◌, Bool, true, false, List, length, take, drop, sym, ◌∙◌, refl, take_at, eqb, arith}
+use Rattle.std.proofs.Common.{◌≡◌, ◌≢◌, Result, Ok, Err, is_err, ℕ, ◌*◌, ◌≤◌, Bool, true, false, List, length, take, drop, sym, ◌∙◌, refl, take_at, eqb, arith, eq-eqb}
 use Rattle.std.proofs.lemmas.Bool.{ltb-false}
-use borrow.Author.Tests.{eq-eqb}
 use Rattle.bits.proofs.Logic.{contrary}
 use Rattle.bus.specs.Device.{Device}
 use Rattle.bus.specs.declared.Pins.{Pins}

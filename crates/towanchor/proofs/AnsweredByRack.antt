@@ -1,8 +1,7 @@
 -- With room for any script's answers, what a rack's run leaves in front of the output, or its number alone, is what the program prints; and
 -- it is refused where the text is too long or its first line is no rack.
 -- Rests on bits' Logic and on script's RackRoom and RackEnough.
-use Rattle.std.proofs.Common.{◌≡◌, ◌≢◌, Result, Ok, Err, is_err, ℕ, ◌≤◌, Bool, true, false, cond, not, List, length, take, drop, ap, sym, ◌∙◌, refl, take_at, eqb, ltb, arith}
-use borrow.Author.Tests.{eq-eqb}
+use Rattle.std.proofs.Common.{◌≡◌, ◌≢◌, Result, Ok, Err, is_err, ℕ, ◌≤◌, Bool, true, false, cond, not, List, length, take, drop, ap, sym, ◌∙◌, refl, take_at, eqb, ltb, arith, eq-eqb}
 use Rattle.bits.proofs.Logic.{contrary}
 use Rattle.script.specs.Run.{too_long, too_long_number}
 use Rattle.rack.specs.Bases.{bad_rack_number}
@@ -13,9 +12,8 @@ use Rattle.script.specs.RackAnswers.{answering}
 use Rattle.script.specs.RackRun.{run_told, names_rack, rack_named, to_answer, room_for_text, run_number, run_refusal_number, run_refusal_never_0, Ran, ran_of, output_left}
 use Rattle.script.proofs.RackRoom.{most_room}
 use Rattle.script.proofs.RackEnough.{answers_length, room_enough}
-use Rattle.prints.specs.Printed.{refusal_text, printed_of_rack}
+use Rattle.prints.specs.Printed.{refusal_text, printed_of_rack, refuses_rack}
 use Rattle.towanchor.specs.OfRun.{kept_of}
-use Rattle.towanchor.specs.Failing.{refuses_rack}
 
 -- What is to be printed of a run.
 abbrev given : Result counts.Ran RackRunRefusal → Result ℕ RackRunRefusal

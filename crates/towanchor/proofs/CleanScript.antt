@@ -1,12 +1,9 @@
 -- With room for the longest script in both outputs, what mending leaves in front of the first, or its number alone, is what the program prints
 -- of a captured script; and it is refused where the text or its clean form is too long.
 -- Rests on bits' Logic, text's LineCount and mend's Numbers.
-use Rattle.std.proofs.Common.{◌≡◌, ◌≢◌, Ok, Err, ℕ, ◌≤◌, Bool, true, false, List, [], ◌∷◌, ◌++◌, length, take, drop, refl, sym, ap, ◌∙◌, take_at, eqb, arith}
-use mathlib.Core.List.{append_assoc}
-use Rattle.std.specs.Prelude.{codes}
+use Rattle.std.proofs.Common.{◌≡◌, ◌≢◌, Ok, Err, ℕ, ◌≤◌, Bool, true, false, List, [], ◌∷◌, ◌++◌, length, take, drop, refl, sym, ap, ◌∙◌, take_at, eqb, arith, append_assoc, codes, le-ltb}
 use Rattle.std.specs.Fmt.{decimal}
 use Rattle.std.proofs.lemmas.Bool.{ltb-false}
-use borrow.Author.Tests.{le-ltb}
 use Rattle.bits.proofs.Logic.{neither}
 use Rattle.text.specs.Lines.{lf, Line, line_count}
 use Rattle.text.proofs.LineCount.{lines_at_most}
@@ -24,7 +21,7 @@ use Rattle.mend.specs.Words.{sign_words}
 use Rattle.mend.specs.Mend.{clean_of, mend_number, mend_refusal_number, Outcome, outcome_of, mend_told, clean_left}
 use Rattle.mend.proofs.Numbers.{number_is, lengths_are, written}
 use Rattle.prints.specs.Printed.{refusal_text}
-use Rattle.towanchor.specs.Mended.{refuses_mending, printed_mended, said_of, is_unfit}
+use Rattle.prints.specs.Mended.{refuses_mending, printed_mended, said_of, is_unfit}
 
 module _ (text clean report : List ℕ) (clean_room : longest_script ≤ length clean) (report_room : longest_script ≤ length report) where
   abbrev number : ℕ

@@ -1,25 +1,13 @@
--- What a script leaves of the chip that meets it ("Why the interrupt is quiet").
-use Rattle.std.specs.Prelude.{List, ℕ, Result, Ok, Err}
+-- What an answer tells of what a script leaves ("Why the interrupt is quiet").
+use Rattle.std.specs.Prelude.{Result, Ok, Err}
 use Rattle.chip.specs.declared.Chip.{Chip}
-use Rattle.chip.specs.declared.Edition.TheVariants.{Older}
-use Rattle.chip.specs.State.{all_high, power_up_as}
-use Rattle.chip.specs.Pins.{pins_of}
-use Rattle.chip.specs.Step.{device}
 use Rattle.script.specs.declared.RunRefusal.{RunRefusal}
-use Rattle.script.specs.Answers.{by_device}
 use Rattle.script.specs.Run.{run_refusal_number}
 use Rattle.script.specs.Left as walk
+use Rattle.prints.specs.Left.{met}
 use Rattle.towanchor.specs.declared.quiet.Left.{Left}
 
--- A script meets a chip of the older edition, with every line high.
-abbrev pub met : Chip
-met = power_up_as Older all_high
-
--- What its lines leave of that chip.
-abbrev pub left_of : List ℕ → walk.Left Chip
-left_of text = walk.left_by (by_device device pins_of) met text
-
--- What an answer tells of it: a text that is too long leaves the chip as it was.
+-- A text that is too long leaves the chip as it was.
 abbrev pub told : Result Left RunRefusal → walk.Left Chip
 told (Ok l) = walk.left 0 l.chip l.refused
 told (Err r) = walk.left (run_refusal_number r) met 0

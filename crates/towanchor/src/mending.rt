@@ -1,7 +1,7 @@
 // The clean form of a captured script, made by the function that hosts call, and what is said of its lines.
 ghost use Rattle.std.specs.Prelude.{◌≡◌, ◌++◌, ◌||◌, IfOk, OnOk, is_some, string_bytes};
 ghost use Rattle.text.specs.Answers.{line_of};
-ghost use Rattle.towanchor.specs.Mended.{refuses_mending, printed_mended, said_of, said_of_all, is_unfit, has_unfit};
+ghost use Rattle.prints.specs.Mended.{refuses_mending, printed_mended, said_of, said_of_all, is_unfit, has_unfit};
 
 use super::output::{self, Printed};
 use anyhow::Context;

@@ -2,7 +2,8 @@
 // hosts in C.
 ghost use Rattle.std.specs.Prelude.{◌≡◌, IfOk, is_some};
 ghost use Rattle.script.specs.Run.{too_long};
-ghost use Rattle.towanchor.specs.Left.{told, left_of};
+ghost use Rattle.prints.specs.Left.{left_of};
+ghost use Rattle.towanchor.specs.Left.{told};
 
 use super::output::Printed;
 use super::refusals::Refused;

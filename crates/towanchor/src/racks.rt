@@ -1,7 +1,6 @@
 //! The answers of a rack to its script.
 ghost use Rattle.std.specs.Prelude.{◌≡◌, IfOk, is_some};
-ghost use Rattle.prints.specs.Printed.{printed_of_rack};
-ghost use Rattle.towanchor.specs.Failing.{refuses_rack};
+ghost use Rattle.prints.specs.Printed.{printed_of_rack, refuses_rack};
 
 use super::output::{self, Printed};
 use script::racks::MOST_ROOM;

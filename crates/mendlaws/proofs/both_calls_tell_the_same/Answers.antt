@@ -1,6 +1,6 @@
 -- The call of Rattle tells what the call for C answers.
--- Rests on Calls.
-use Rattle.mendlaws.proofs.Calls.{tells}
+-- Rests on Tells.
+use Rattle.mendlaws.proofs.Tells.{tells}
 use Rattle.mendlaws.proofs.both_calls_tell_the_same.Goals as goal
 
 pub returns : goal.returns

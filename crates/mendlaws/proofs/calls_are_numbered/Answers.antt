@@ -1,6 +1,6 @@
 -- The number of every call.
--- Rests on Mended.
-use Rattle.mendlaws.proofs.Mended.{numbered}
+-- Rests on Numbered.
+use Rattle.mendlaws.proofs.Numbered.{numbered}
 use Rattle.mendlaws.proofs.calls_are_numbered.Goals as goal
 
 pub returns : goal.returns

@@ -1,7 +1,8 @@
 -- A line means the frame that it is when it is mended.
 -- Rests on Steps.
-use Rattle.mendlaws.proofs.Steps.{means_the_same}
+use Rattle.mend.specs.Line.{bytes_of, mended}
+use Rattle.mendlaws.proofs.Steps.{mends, alone, fit, unfit}
 use Rattle.mendlaws.proofs.fit_lines_mean_the_same.Goals as goal
 
 pub returns : goal.returns
-returns c = means_the_same
+returns c l = record { bytes = mended (bytes_of l); mends = mends l; alone = alone l; fit = fit l; unfit = unfit l }

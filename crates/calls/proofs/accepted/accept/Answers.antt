@@ -1,7 +1,6 @@
 -- `accepted::accept` meets its contract where a read changes the bus alone.
 -- Rests on image's Parts.
-use Rattle.std.proofs.Common.{rules}
-use borrow.Author.Tests.{ne_eqb}
+use Rattle.std.proofs.Common.{rules, ne_eqb}
 use Rattle.chip.specs.Read.{after_read_begins}
 use Rattle.image.specs.Good.{Told}
 use Rattle.image.proofs.Parts.{bus_saved}

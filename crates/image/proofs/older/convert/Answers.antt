@@ -1,6 +1,5 @@
 -- `older::convert` meets its contract: both slices are as long as their arrays.
-use Rattle.std.proofs.Common.{length}
-use borrow.Author.Tests.{eq-eqb}
+use Rattle.std.proofs.Common.{length, eq-eqb}
 use Rattle.image.specs.Places as now
 use Rattle.image.specs.OlderPlaces as places
 use Rattle.image.specs.OlderSlices.{converted_in}

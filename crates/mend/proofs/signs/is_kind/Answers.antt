@@ -1,7 +1,6 @@
 -- `signs::is_kind` meets its contract, by the number that the two digits write.
 -- Rests on Unfit, and on the contracts of what it calls.
-use Rattle.std.proofs.Common.{◌∙◌, ap, sym, rules}
-use Rattle.std.specs.Prelude.{is_some}
+use Rattle.std.proofs.Common.{◌∙◌, ap, sym, rules, is_some}
 use Rattle.bus.specs.Kinds.{is_kind}
 use Rattle.mend.specs.Line.{raised}
 use Rattle.mend.proofs.Unfit.{kind_found, number_written, none_written}

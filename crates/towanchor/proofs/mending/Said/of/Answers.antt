@@ -1,9 +1,8 @@
 -- `towanchor::mending::Said::of`: at each turn one line more is said. There are no more lines than bytes, so that each has a number.
 -- Rests on text's LineCount.
-use Rattle.std.proofs.Common.{refl, arith}
-use mathlib.Core.Logic.{inl}
+use Rattle.std.proofs.Common.{refl, arith, inl}
 use Rattle.text.proofs.LineCount.{lines_at_most}
-use Rattle.towanchor.specs.Mended.{said_of_all, has_unfit}
+use Rattle.prints.specs.Mended.{said_of_all, has_unfit}
 use Rattle.towanchor.proofs.mending.Said.of.Goals as goal
 
 pub loop-at-init-derived : goal.loop-at-init-derived

@@ -1,9 +1,8 @@
 -- What is said so far, and what is still to be said of the lines that are left, is what is said of all; and so of whether one is unfit.
-use Rattle.std.proofs.Common.{◌≡◌, ◌+◌, ◌++◌, string_bytes}
-use mathlib.Core.Bool.{◌||◌}
+use Rattle.std.proofs.Common.{◌≡◌, ◌+◌, ◌++◌, string_bytes, ◌||◌}
 use Rattle.std.specs.List.{list_any}
 use Rattle.text.specs.Answers.{lines_left}
-use Rattle.towanchor.specs.Mended.{said_from, said_of_all, is_unfit, has_unfit}
+use Rattle.prints.specs.Mended.{said_from, said_of_all, is_unfit, has_unfit}
 use Rattle.towanchor.proofs.mending.Said.of.Given as goal
 
 abbrev pub invariant-loop-at : goal.invariant-loop-at

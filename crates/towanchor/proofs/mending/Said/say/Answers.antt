@@ -1,7 +1,6 @@
 -- `towanchor::mending::Said::say`: of a kept line nothing is said, and of another its number and its sign.
 -- Rests on CleanScript.
-use Rattle.std.proofs.Common.{rules, ◌≡◌, ◌∙◌, ap, sym, eqb}
-use Rattle.std.specs.Prelude.{◌||◌}
+use Rattle.std.proofs.Common.{rules, ◌≡◌, ◌∙◌, ap, sym, eqb, ◌||◌}
 use Rattle.std.proofs.lemmas.Result.{on_ok_weaker}
 use Rattle.text.specs.Answers.{line_of}
 use Rattle.mend.specs.declared.signs.Sign.TheVariants.{Kept}

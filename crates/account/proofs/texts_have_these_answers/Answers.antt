@@ -1,0 +1,7 @@
+-- The scripts that are listed have the answers beside them.
+-- Rests on Texts.
+use Rattle.account.proofs.Texts.{texts_answered}
+use Rattle.account.proofs.texts_have_these_answers.Goals as goal
+
+pub returns : goal.returns
+returns c = texts_answered

@@ -1,0 +1,7 @@
+-- The example is trimmed as it says.
+-- Rests on Example.
+use Rattle.journallaws.proofs.Example.{trimmed_so}
+use Rattle.journallaws.proofs.example_is_trimmed.Goals as goal
+
+pub returns : goal.returns
+returns c = trimmed_so
