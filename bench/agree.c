@@ -1,5 +1,5 @@
-/* Compares both ways into the plain C model with the proved functions: answers and images, over pseudo-random events and views,
-   from power-up and from arbitrary good images, and over damaged images. Its status is 0 where they never differ. */
+/* Compares both C models with the proved functions: answers and images, over pseudo-random events and views, from power-up and from
+   arbitrary good images, and over damaged images. Its status is 0 where they never differ. */
 #include "models.h"
 
 int printf(const char *format, ...);

@@ -1,6 +1,6 @@
 /* Lets one kind of call happen many times in one model, to be counted from outside.
    usage: events                       prints what can be counted, a line each: its place, its calls in a round, its name
-          events MODEL PLACE ROUNDS    MODEL: 0 proved, 1 plain in place, 2 plain loaded, 3 a function that only returns */
+          events MODEL PLACE ROUNDS    MODEL: 0 proved, 1 plain, 2 quick, 3 a function that only returns */
 #include "models.h"
 
 int printf(const char *format, ...);
@@ -66,6 +66,8 @@ static const struct {
     unsigned int number;
 } kinds[] = {
     { "refused, no such kind", OLDER, STEP, A_BYTE_WAITS, "09", TOWANCHOR_NO_SUCH_KIND },
+    { "refused, a cycle runs", OLDER, STEP, A_BYTE_WAITS "0102", "0101", TOWANCHOR_CYCLE_RUNS },
+    { "refused, no cycle runs", OLDER, STEP, A_BYTE_WAITS, "02", TOWANCHOR_NO_CYCLE_RUNS },
     { "reset", OLDER, STEP, A_BYTE_WAITS, "00", 0 },
     { "begin read of A, a byte waits", OLDER, STEP, A_BYTE_WAITS, "0100", 0 },
     { "begin read of B in mode 0", OLDER, STEP, "", "0101", 0 },
@@ -74,7 +76,10 @@ static const struct {
     { "begin read of control, 82C55A", NEWER, STEP, A_BYTE_WAITS, "0103", 0 },
     { "end read of control, 82C55A", NEWER, STEP, A_BYTE_WAITS "0103", "02", 0 },
     { "end read of A", OLDER, STEP, A_BYTE_WAITS "0100", "02", 0 },
+    { "end read of A, a byte swallowed", OLDER, STEP, A_BYTE_WAITS "0100 0502EF", "02", 0 },
+    { "end read of C", OLDER, STEP, A_BYTE_WAITS "0102", "02", 0 },
     { "begin write", OLDER, STEP, SCALE_AND_PRINTER, "030154", 0 },
+    { "end write to A in mode 0", OLDER, STEP, "030380 02 030054", "02", 0 },
     { "end write to B, strobed", OLDER, STEP, SCALE_AND_PRINTER "030154", "02", 0 },
     { "end write to C", OLDER, STEP, SCALE_AND_PRINTER "0302FF", "02", 0 },
     { "end write of a mode word", OLDER, STEP, A_BYTE_WAITS "0303B4", "02", 0 },
@@ -82,15 +87,19 @@ static const struct {
     { "end write that forces IBF", OLDER, STEP, SCALE_AND_PRINTER "03030B", "02", 0 },
     { "levels on A", OLDER, STEP, SCALE_AND_PRINTER, "050041", 0 },
     { "levels on A, STB low", OLDER, STEP, SCALE_AND_PRINTER "0502EF", "050041", 0 },
+    { "levels on B, STB low", OLDER, STEP, BYTES_WAIT_IN_MODE_2 "0502FB", "050141", 0 },
     { "levels on C, STB falls", OLDER, STEP, SCALE_AND_PRINTER, "0502EF", 0 },
     { "levels on C, ACK falls", OLDER, STEP, SCALE_AND_PRINTER "030154 02", "0502FB", 0 },
+    { "levels on C in a read of A", OLDER, STEP, A_BYTE_WAITS "0100", "0502EF", 0 },
     { "levels on C, three edges", OLDER, STEP, BYTES_WAIT_IN_MODE_2, "0502AB", 0 },
     { "levels on C, nothing falls", OLDER, STEP, SCALE_AND_PRINTER, "0502FF", 0 },
     { "view of A", OLDER, PINS, A_BYTE_WAITS, "00", 0 },
     { "view of B", OLDER, PINS, A_BYTE_WAITS, "01", 0 },
     { "view of C, mode 1", OLDER, PINS, A_BYTE_WAITS, "02", 0 },
+    { "view of C in a read of A", OLDER, PINS, A_BYTE_WAITS "0100", "02", 0 },
     { "view of C, mode 2", OLDER, PINS, BYTES_WAIT_IN_MODE_2, "02", 0 },
     { "explain A, mode 1", OLDER, EXPLAIN, A_BYTE_WAITS, "00", 0 },
+    { "explain A in a read of A", OLDER, EXPLAIN, A_BYTE_WAITS "0100", "00", 0 },
     { "explain A, mode 2", OLDER, EXPLAIN, BYTES_WAIT_IN_MODE_2, "00", 0 },
     { "explain B, mode 0", OLDER, EXPLAIN, "", "01", 0 },
     { "a tally", OLDER, TALLY, A_BYTE_WAITS, "0000", 0 },

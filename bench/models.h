@@ -1,8 +1,9 @@
-/* The three models, by one type: the proved functions, and the two ways into the plain C model. */
+/* The three models, by one type: the proved functions, the plain C model and the quick one. */
 #ifndef MODELS_H
 #define MODELS_H
 
 #include "plain.h"
+#include "quick.h"
 #include "towanchor.h"
 
 struct model {
@@ -13,12 +14,12 @@ struct model {
     unsigned int (*explain)(const unsigned char *image, size_t length, unsigned char group);
 };
 
-enum { PROVED, IN_PLACE, LOADED, MODELS };
+enum { PROVED, PLAIN, QUICK, MODELS };
 
 static const struct model models[MODELS] = {
     [PROVED] = { "proved", towanchor_step, towanchor_pins, towanchor_tally, towanchor_explain },
-    [IN_PLACE] = { "plain in place", plain_step, plain_pins, plain_tally, plain_explain },
-    [LOADED] = { "plain loaded", loaded_step, loaded_pins, loaded_tally, loaded_explain },
+    [PLAIN] = { "plain", plain_step, plain_pins, plain_tally, plain_explain },
+    [QUICK] = { "quick", quick_step, quick_pins, quick_tally, quick_explain },
 };
 
 #endif

@@ -1,55 +1,8 @@
-/* A plain model of the 8255A and the 82C55A in C, which the proved functions are measured against: the rules written once, over a
-   chip that lies in memory as the image does, and two ways in, one that works on the image in place and one that loads and saves it. */
+/* A plain model of the 8255A and the 82C55A in C, which the proved functions are measured against: the rules as they are read, over a
+   chip that lies in memory as the image does. */
+#include "chip.h"
+#include "explain.h"
 #include "plain.h"
-
-enum { PORT_A, PORT_B, PORT_C, CONTROL };
-enum { GROUP_A, GROUP_B };
-enum { A_IN, A_OUT, B_IN, B_OUT, CHANNELS };
-enum { EMPTY, WAITING, FETCHING };
-enum { OFFERED, HANDED_OVER, OVERWRITTEN, SWALLOWED, CLEARED, PLANTED, STRUCK, TALLIES };
-
-/* What runs on the bus: a read at its address, or a write at WRITING and its address, or nothing. */
-enum { READING, WRITING = 4, IDLE = 8 };
-
-enum { OLDER, NEWER };
-
-enum { RESET, BEGIN_READ, END_CYCLE, BEGIN_WRITE, OUTSIDE_LEVELS = 5 };
-
-/* The numbers of the answers, 8 being the one for the image. */
-enum { ACCEPTED, NO_SUCH_KIND, OUT_OF_RANGE, NOT_READABLE, CYCLE_RUNS, NO_CYCLE_RUNS, BAD_IMAGE = 8 };
-
-/* What a half of INTR is doing. Of those by which it is low, from ENABLE_OFF to OWN_CYCLE, the first that holds is given. */
-enum { NO_HALF, MODE_ZERO, ENABLE_OFF, FLAG_WRONG, LINE_LOW, OWN_CYCLE, HIGH };
-
-/* The bits of a mode word. */
-enum { MODE_WORD = 0x80, MODE_2_A = 0x40, MODE_1_A = 0x20, INPUT_A = 0x10, INPUT_C_UPPER = 0x08 };
-enum { MODE_1_B = 0x04, INPUT_B = 0x02, INPUT_C_LOWER = 0x01 };
-enum { WORD_AFTER_RESET = MODE_WORD | INPUT_A | INPUT_C_UPPER | INPUT_B | INPUT_C_LOWER };
-
-/* Pins of port C; those of port B serve both ways. STB and ACK, which the outside drives, are also the places of the enables. */
-enum { OBF_A = 0x80, ACK_A = 0x40, IBF_A = 0x20, STB_A = 0x10, INTR_A = 0x08 };
-enum { STB_ACK_B = 0x04, IBF_OBF_B = 0x02, INTR_B = 0x01 };
-enum { FROM_OUTSIDE = STB_A | ACK_A | STB_ACK_B };
-enum { FLAGS = OBF_A | IBF_A | IBF_OBF_B };
-
-/* The image as x86-64 sees it, which has the low byte of a number first, as the image has. Packed and may_alias because a caller
-   may lend any 96 bytes, and the functions in place look at them as a chip. */
-struct __attribute__((packed, may_alias)) chip {
-    unsigned short tallies[CHANNELS][TALLIES];
-    unsigned char outside[3];
-    unsigned char latch_c;
-    unsigned char latches[CHANNELS];
-    unsigned char conditions[CHANNELS];
-    unsigned char word;
-    unsigned char enables;
-    unsigned char bus;
-    unsigned char data;
-    unsigned char edition;
-    unsigned char unused[23];
-};
-
-enum { IMAGE = 96 };
-_Static_assert(sizeof(struct chip) == IMAGE, "a chip lies in memory as the image does");
 
 int memcmp(const void *left, const void *right, size_t length);
 
@@ -194,64 +147,6 @@ static unsigned int tally_of(const struct chip *chip, unsigned char channel, uns
     if (channel >= CHANNELS || tally >= TALLIES)
         return OUT_OF_RANGE;
     return ACCEPTED | (unsigned int)chip->tallies[channel][tally] << 8;
-}
-
-/* What INTR is doing. */
-
-/* The line is STB of an input or ACK of an output, on whose place the half has its enable. */
-static unsigned int reason(const struct chip *chip, unsigned char line, int flag, int own_cycle)
-{
-    if (!(chip->enables & line))
-        return ENABLE_OFF;
-    if (!flag)
-        return FLAG_WRONG;
-    if (!(chip->outside[PORT_C] & line))
-        return LINE_LOW;
-    return own_cycle ? OWN_CYCLE : HIGH;
-}
-
-static unsigned int input_half(const struct chip *chip, int in, unsigned char line, unsigned char port)
-{
-    return reason(chip, line, input_full(chip, in), runs(chip, READING, port));
-}
-
-static unsigned int output_half(const struct chip *chip, int out, unsigned char line, unsigned char port)
-{
-    return reason(chip, line, output_free(chip, out), runs(chip, WRITING, port));
-}
-
-static unsigned int explained(unsigned int input, unsigned int output)
-{
-    return ACCEPTED | input << 8 | output << 16;
-}
-
-static unsigned int explain_a(const struct chip *chip)
-{
-    if (chip->word & MODE_2_A)
-        return explained(input_half(chip, A_IN, STB_A, PORT_A), output_half(chip, A_OUT, ACK_A, PORT_A));
-    if (!(chip->word & MODE_1_A))
-        return explained(MODE_ZERO, MODE_ZERO);
-    if (chip->word & INPUT_A)
-        return explained(input_half(chip, A_IN, STB_A, PORT_A), NO_HALF);
-    return explained(NO_HALF, output_half(chip, A_OUT, ACK_A, PORT_A));
-}
-
-static unsigned int explain_b(const struct chip *chip)
-{
-    if (!(chip->word & MODE_1_B))
-        return explained(MODE_ZERO, MODE_ZERO);
-    if (chip->word & INPUT_B)
-        return explained(input_half(chip, B_IN, STB_ACK_B, PORT_B), NO_HALF);
-    return explained(NO_HALF, output_half(chip, B_OUT, STB_ACK_B, PORT_B));
-}
-
-static unsigned int explain(const struct chip *chip, unsigned char group)
-{
-    switch (group) {
-    case GROUP_A: return explain_a(chip);
-    case GROUP_B: return explain_b(chip);
-    default: return OUT_OF_RANGE;
-    }
 }
 
 /* What can happen to a channel. */
@@ -503,7 +398,7 @@ static unsigned int step(struct chip *chip, unsigned char kind, unsigned char fi
     }
 }
 
-/* In place. */
+/* The calls. */
 
 unsigned int plain_step(unsigned char *image, size_t length, unsigned char kind, unsigned char first, unsigned char second)
 {
@@ -535,95 +430,4 @@ unsigned int plain_explain(const unsigned char *image, size_t length, unsigned c
     if (length != IMAGE || !good(chip))
         return BAD_IMAGE;
     return explain(chip, group);
-}
-
-/* Loaded. The image's numbers of two bytes have the low byte first. */
-
-enum { TALLIES_AT = 0, TALLIES_EACH = 14, OUTSIDE_AT = 56, LATCH_C_AT = 59, LATCHES_AT = 60, CONDITIONS_AT = 64, WORD_AT = 68, ENABLES_AT,
-       BUS_AT, DATA_AT, EDITION_AT, UNUSED_AT };
-
-static void load(struct chip *chip, const unsigned char *image)
-{
-    int channel, tally, port, i;
-    for (channel = 0; channel < CHANNELS; channel++) {
-        for (tally = 0; tally < TALLIES; tally++) {
-            const unsigned char *at = image + TALLIES_AT + TALLIES_EACH * channel + 2 * tally;
-            chip->tallies[channel][tally] = at[0] | at[1] << 8;
-        }
-        chip->latches[channel] = image[LATCHES_AT + channel];
-        chip->conditions[channel] = image[CONDITIONS_AT + channel];
-    }
-    for (port = PORT_A; port <= PORT_C; port++)
-        chip->outside[port] = image[OUTSIDE_AT + port];
-    chip->latch_c = image[LATCH_C_AT];
-    chip->word = image[WORD_AT];
-    chip->enables = image[ENABLES_AT];
-    chip->bus = image[BUS_AT];
-    chip->data = image[DATA_AT];
-    chip->edition = image[EDITION_AT];
-    for (i = 0; i < IMAGE - UNUSED_AT; i++)
-        chip->unused[i] = image[UNUSED_AT + i];
-}
-
-static void save(const struct chip *chip, unsigned char *image)
-{
-    int channel, tally, port;
-    for (channel = 0; channel < CHANNELS; channel++) {
-        for (tally = 0; tally < TALLIES; tally++) {
-            unsigned char *at = image + TALLIES_AT + TALLIES_EACH * channel + 2 * tally;
-            at[0] = chip->tallies[channel][tally] & 0xff;
-            at[1] = chip->tallies[channel][tally] >> 8;
-        }
-        image[LATCHES_AT + channel] = chip->latches[channel];
-        image[CONDITIONS_AT + channel] = chip->conditions[channel];
-    }
-    for (port = PORT_A; port <= PORT_C; port++)
-        image[OUTSIDE_AT + port] = chip->outside[port];
-    image[LATCH_C_AT] = chip->latch_c;
-    image[WORD_AT] = chip->word;
-    image[ENABLES_AT] = chip->enables;
-    image[BUS_AT] = chip->bus;
-    image[DATA_AT] = chip->data;
-    image[EDITION_AT] = chip->edition;
-}
-
-unsigned int loaded_step(unsigned char *image, size_t length, unsigned char kind, unsigned char first, unsigned char second)
-{
-    struct chip chip;
-    unsigned int answer;
-    if (length != IMAGE)
-        return BAD_IMAGE;
-    load(&chip, image);
-    if (!good(&chip))
-        return BAD_IMAGE;
-    answer = step(&chip, kind, first, second);
-    save(&chip, image);
-    return answer;
-}
-
-unsigned int loaded_pins(const unsigned char *image, size_t length, unsigned char port)
-{
-    struct chip chip;
-    if (length != IMAGE)
-        return BAD_IMAGE;
-    load(&chip, image);
-    return good(&chip) ? pins(&chip, port) : BAD_IMAGE;
-}
-
-unsigned int loaded_tally(const unsigned char *image, size_t length, unsigned char channel, unsigned char tally)
-{
-    struct chip chip;
-    if (length != IMAGE)
-        return BAD_IMAGE;
-    load(&chip, image);
-    return good(&chip) ? tally_of(&chip, channel, tally) : BAD_IMAGE;
-}
-
-unsigned int loaded_explain(const unsigned char *image, size_t length, unsigned char group)
-{
-    struct chip chip;
-    if (length != IMAGE)
-        return BAD_IMAGE;
-    load(&chip, image);
-    return good(&chip) ? explain(&chip, group) : BAD_IMAGE;
 }

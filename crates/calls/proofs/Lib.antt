@@ -1,5 +1,5 @@
-pub mod Running
 pub mod HostStep
 pub mod Converted
 pub mod Determined
 pub mod Counted
+pub mod Rewritten

@@ -9,8 +9,6 @@ ghost use Rattle.calls.specs.Calls.{power_up_answer, power_up_image, power_up_im
 use chip::{Chip, Edition, Levels};
 use refusals::{CallRefusal, answer};
 
-mod accepted;
-mod ended;
 mod events;
 mod refusals;
 mod views;
@@ -57,10 +55,10 @@ pub fn towanchor_step(image: &mut [u8], kind: u8, first: u8, second: u8) -> u32
     ensures value { result ≡ step_answer image.old kind first second }
     ensures image_after { image.new ≡ step_image image.old kind first second }
 {
-    answer(match image.as_mut_array() {
+    match image.as_mut_array() {
         Some(image) => events::step(image, kind, first, second),
-        None => Err(CallRefusal::NoState),
-    })
+        None => answer(Err(CallRefusal::NoState)),
+    }
 }
 
 /// The levels of a port's pins, and a one for each that the chip drives. 8 where the bytes are no image, and then 2 where there is no such port.

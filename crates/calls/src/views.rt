@@ -1,56 +1,51 @@
 //! What is seen of the chip that an image tells: the pins of a port, a tally, and why an INTR is low.
 ghost use Rattle.std.specs.Prelude.{◌≡◌, true, false, MatchResult};
-ghost use Rattle.image.specs.Loaded.{state_of};
 ghost use Rattle.image.specs.Good.{is_image};
 ghost use Rattle.calls.specs.declared.refusals.CallRefusal.TheVariants as refusals;
 ghost use Rattle.calls.specs.Answers.{answered};
 ghost use Rattle.calls.specs.Calls.{pins_answer, tally_answer, explain_answer};
 
 use super::refusals::CallRefusal;
-use bus::devices::Device;
-use chip::Chip;
+use chip::{pins, reasons};
 use control::Group;
-use image::places::{CHANNEL_TALLIES, TALLIES};
+use image::places::{CHANNEL_TALLIES, LENGTH, TALLIES};
 
 // The last of the four channels, and of the seven tallies of each, by C's numbers.
 const LAST_CHANNEL: u8 = 3;
 
 const LAST_TALLY: u8 = 6;
 
-// A part of each view, for which the compiler then loads only what that view looks at.
+// The bytes, where they are an image.
 #[inline(always)]
-#[tactic(auto, using(image::proofs::Long::is_long, image::proofs::Long::loaded))]
-fn load(image: &[u8]) -> Result<Chip, CallRefusal>
-    ensures { MatchResult result (λ chip. (is_image image.now ≡ true) × (chip ≡ state_of image.now)) (λ refusal. (is_image image.now ≡ false) × (refusal ≡ refusals.NoState)) }
+#[tactic(auto, using(image::proofs::Long::is_long))]
+fn checked(image: &[u8]) -> Result<&[u8; LENGTH], CallRefusal>
+    ensures { MatchResult result (λ checked. (is_image image.now ≡ true) × (checked.now ≡ image.now)) (λ refusal. (is_image image.now ≡ false) × (refusal ≡ refusals.NoState)) }
 {
-    if image::check::good(image) {
-        Ok(image::load::state(image))
-    } else {
-        Err(CallRefusal::NoState)
+    if !image::check::good(image) {
+        return Err(CallRefusal::NoState);
     }
+    image.as_array().ok_or(CallRefusal::NoState)
 }
 
 #[tactic(auto, unfolding(crate::specs::Calls::pins_answer))]
 pub(super) fn pins(image: &[u8], port: u8) -> Result<u16, CallRefusal>
     ensures { answered result ≡ pins_answer image.now port }
 {
-    let chip = load(image)?;
+    let image = checked(image)?;
     if chip::PORT_C < port {
         return Err(CallRefusal::OutOfRange);
     }
-    let pins = chip.pins(port);
+    let pins = pins::pins(image, port);
     Ok(u16::from_le_bytes([pins.levels, pins.driven]))
 }
 
 // C numbers channels and tallies in the order in which an image has them, so that the two numbers tell where the two bytes stand. Behind the
-// check nothing is read but these two, and no state is loaded.
+// check nothing is read but these two.
 #[tactic(auto, using(image::proofs::Long::is_long, crate::proofs::Counted::counted), unfolding(crate::specs::Calls::tally_answer))]
 pub(super) fn tally(image: &[u8], channel: u8, number: u8) -> Result<u16, CallRefusal>
     ensures { answered result ≡ tally_answer image.now channel number }
 {
-    if !image::check::good(image) {
-        return Err(CallRefusal::NoState);
-    }
+    let image = checked(image)?;
     if LAST_CHANNEL < channel || LAST_TALLY < number {
         return Err(CallRefusal::OutOfRange);
     }
@@ -62,11 +57,11 @@ pub(super) fn tally(image: &[u8], channel: u8, number: u8) -> Result<u16, CallRe
 pub(super) fn explain(image: &[u8], group: u8) -> Result<u16, CallRefusal>
     ensures { answered result ≡ explain_answer image.now group }
 {
-    let chip = load(image)?;
+    let image = checked(image)?;
     // Each group has a call of its own, so that the compiler loads no more than is asked of that group.
     let explained = match Group::numbered(group).ok_or(CallRefusal::OutOfRange)? {
-        Group::A => chip.explain(Group::A),
-        Group::B => chip.explain(Group::B),
+        Group::A => reasons::explain(image, Group::A),
+        Group::B => reasons::explain(image, Group::B),
     };
     let halves = explained.halves();
     Ok(u16::from_le_bytes([halves.input, halves.output]))

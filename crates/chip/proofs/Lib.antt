@@ -17,3 +17,6 @@ pub mod Strobed
 pub mod Ends
 pub mod Outcome
 pub mod Editions
+pub mod OneSideOfB
+pub mod Fallen
+pub mod NoneWaits

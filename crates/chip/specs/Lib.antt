@@ -2,6 +2,7 @@ pub mod Channel
 pub mod Moves
 pub mod Addresses
 pub mod State
+pub mod Held
 pub mod Handshakes
 pub mod ModeWord
 pub mod ControlWord

@@ -1,8 +1,8 @@
 //! One strobed channel: whether a byte waits in it, its latch, and what became of the bytes offered to it or planted in it. The four
 //! channels of a chip are all of this kind.
 ghost use Rattle.std.specs.Prelude.{◌≡◌};
-ghost use Rattle.chip.specs.Channel.{flag_of, has_room, next};
-ghost use Rattle.chip.specs.Moves.{after_offer, after_follow, after_hand_over, after_end_read, after_clear, tells_of_a_byte, after_plant, after_strike, after_force};
+ghost use Rattle.chip.specs.Channel.{is_waiting, flag_of, has_room, next};
+ghost use Rattle.chip.specs.Moves.{after_offer, after_hand_over, after_end_read, after_clear, tells_of_a_byte, after_plant, after_strike, after_force};
 
 /// Which way a channel's bytes go: an input takes them in by STB, an output gives them out by ACK.
 #[derive(Clone, Copy, Debug, PartialEq, Eq)]
@@ -53,6 +53,13 @@ impl Fill {
         }
     }
 
+    // Whether a byte waits.
+    pub(super) fn is_waiting(self) -> bool
+        ensures { result ≡ is_waiting self }
+    {
+        self == Fill::Waiting
+    }
+
     // Whether a byte can be planted: the flag tells of none.
     #[tactic(auto, unfolding(crate::specs::Channel::flag_of, crate::specs::Channel::has_room))]
     fn has_room(self, side: Side) -> bool
@@ -90,17 +97,9 @@ impl Channel {
         ensures { self.new ≡ after_offer self.old byte }
     {
         count(&mut self.tally.offered, true);
-        count(&mut self.tally.overwritten, self.fill == Fill::Waiting);
+        count(&mut self.tally.overwritten, self.fill.is_waiting());
         self.fill = Fill::Waiting;
         self.latch = byte;
-    }
-
-    /// Levels go through, and stand in the latch. The condition and the tallies stay, whatever they are.
-    #[tactic(auto, unfolding(crate::specs::Moves::after_follow))]
-    pub fn follow(&mut self, levels: u8)
-        ensures { self.new ≡ after_follow self.old levels }
-    {
-        self.latch = levels;
     }
 
     /// A byte that waits is handed over, and the channel is left as named: fetching by a read that begins, empty by ACK.
@@ -108,7 +107,7 @@ impl Channel {
     pub fn hand_over(&mut self, left: Fill)
         ensures { self.new ≡ after_hand_over self.old left }
     {
-        if self.fill == Fill::Waiting {
+        if self.fill.is_waiting() {
             count(&mut self.tally.handed, true);
             self.fill = left;
         }
@@ -119,7 +118,7 @@ impl Channel {
     pub fn end_read(&mut self)
         ensures { self.new ≡ after_end_read self.old }
     {
-        count(&mut self.tally.swallowed, self.fill == Fill::Waiting);
+        count(&mut self.tally.swallowed, self.fill.is_waiting());
         self.fill = Fill::Empty;
     }
 
@@ -128,7 +127,7 @@ impl Channel {
     pub fn clear(&mut self)
         ensures { self.new ≡ after_clear self.old }
     {
-        count(&mut self.tally.cleared, self.fill == Fill::Waiting);
+        count(&mut self.tally.cleared, self.fill.is_waiting());
         self.fill = Fill::Empty;
         self.latch = 0;
     }
@@ -147,7 +146,7 @@ impl Channel {
     fn strike(&mut self)
         ensures { self.new ≡ after_strike self.old }
     {
-        if self.fill == Fill::Waiting {
+        if self.fill.is_waiting() {
             count(&mut self.tally.struck, true);
             self.fill = Fill::Empty;
         }

@@ -3,10 +3,9 @@ ghost use Rattle.std.specs.Prelude.{◌≡◌};
 ghost use Rattle.chip.specs.Step as sheet;
 ghost use Rattle.chip.specs.Pins.{pins_of};
 
-use super::{Chip, Edition, POWER_UP_WORD};
+use super::{Chip, Edition, POWER_UP_WORD, cycles, outside, pins, reads, settings};
 use bus::devices::Device;
 use bus::{Limits, Phase, Pins};
-use std::mem;
 
 impl Edition {
     /// How far the addresses and ports of a chip of this edition reach. Control has no levels, and only the newer edition reads it.
@@ -40,29 +39,26 @@ impl Device for Chip {
     }
 
     fn answer(&self, address: u8) -> u8 {
-        self.read(address)
+        pins::read(self, address)
     }
 
     fn pins(&self, port: u8) -> Pins {
-        self.pins_of(port)
+        pins::pins(self, port)
     }
 
     fn reset(&mut self) {
         self.phase = Phase::Idle;
-        self.core.renew(POWER_UP_WORD);
+        settings::renew(self, POWER_UP_WORD);
     }
 
     fn begin_read(&mut self, address: u8) {
         self.phase = Phase::Reading(address);
-        self.core.begin_read(address);
+        reads::begin_read(self, address);
     }
 
     fn end_cycle(&mut self) {
-        match mem::replace(&mut self.phase, Phase::Idle) {
-            Phase::Idle => {}
-            Phase::Reading(address) => self.core.end_read(address),
-            Phase::Writing(address, byte) => self.core.end_write(address, byte),
-        }
+        cycles::end_cycle(self);
+        self.phase = Phase::Idle;
     }
 
     // The byte takes effect at the end.
@@ -72,6 +68,6 @@ impl Device for Chip {
 
     // Levels leave the bus as it is.
     fn put_levels(&mut self, port: u8, levels: u8) {
-        self.core.put_levels(port, levels);
+        outside::put_levels(self, port, levels);
     }
 }

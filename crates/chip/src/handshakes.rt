@@ -1,10 +1,9 @@
 //! What differs between the four channels: when the mode word strobes them, the pin of their line, their enable, their own cycle.
 ghost use Rattle.std.specs.Prelude.{◌≡◌};
 ghost use Rattle.chip.specs.Handshakes.{own_address, strobed, line_pin, enable_of, running};
-ghost use Rattle.chip.specs.Status.{flag_at};
 
 use super::channel::Side;
-use super::{Core, Enables, PORT_A, PORT_B};
+use super::{Enables, PORT_A, PORT_B};
 use bus::Phase;
 use control::{Group, mode};
 
@@ -71,21 +70,12 @@ impl Enables {
     }
 }
 
-impl Core {
-    // Whether the mode word strobes the channel.
-    pub(super) fn strobes(&self, group: Group, side: Side) -> bool
-        ensures { result ≡ strobed self.now.word group side }
-    {
-        match side {
-            Side::Input => mode::strobed_input(self.word, group),
-            Side::Output => mode::strobed_output(self.word, group),
-        }
-    }
-
-    // IBF or OBF of the channel.
-    pub(super) fn flag(&self, group: Group, side: Side) -> bool
-        ensures { result ≡ flag_at self.now group side }
-    {
-        self.channel(group, side).fill.flag(side)
+// Whether the mode word strobes the channel.
+pub(super) fn strobes(word: u8, group: Group, side: Side) -> bool
+    ensures { result ≡ strobed word group side }
+{
+    match side {
+        Side::Input => mode::strobed_input(word, group),
+        Side::Output => mode::strobed_output(word, group),
     }
 }

@@ -1,21 +1,23 @@
 //! One 8255A or 82C55A: its state, what it is at power-up, and what each event on the bus makes of it. A channel is named by its group and
-//! its side, as the data sheet names it, and not by a type of both: most rules speak of one of the two alone. Where an address or a group
-//! chooses a port, A and B have an arm each: a function that lends the chosen port would save no line.
+//! its side, as the data sheet names it, and not by a type of both: most rules speak of one of the two alone. Where an address chooses a port, A
+//! and B have an arm each, so that the compiler works out the way of each. The rules are functions over whoever holds a chip (holder.rt).
 #![tactic(auto)]
 
 ghost use Rattle.std.specs.Prelude.{◌≡◌};
 ghost use Rattle.chip.specs.State.{edition_numbered, fresh_port, power_up_as, power_up, port_of, side_of, channel_of, tally_of};
 
 pub mod channel;
+pub mod cycles;
 mod device;
 pub mod handshakes;
-mod outside;
-mod pins;
-mod reads;
+pub mod holder;
+pub mod outside;
+pub mod pins;
+pub mod reads;
 pub mod reasons;
-mod settings;
-mod status;
-mod writes;
+pub mod settings;
+pub mod status;
+pub mod writes;
 
 use bus::Phase;
 use channel::{Channel, Side, Tally};

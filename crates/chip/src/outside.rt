@@ -1,95 +1,94 @@
 //! Levels put on the pins from outside: a fall of STB offers a byte, and a fall of ACK hands one over. While STB is low, levels on the
 //! port itself go through to its input latch.
-ghost use Rattle.std.specs.Prelude.{◌≡◌};
-ghost use Rattle.chip.specs.Levels.{fallen, line_falls, edged, after_levels_on_c, lets_through, port_after_levels, after_levels};
+ghost use Rattle.std.specs.Prelude.{◌≡◌, ◌<◌};
+ghost use Rattle.chip.specs.State.{port_of, with_port};
+ghost use Rattle.chip.specs.Held.{core_put};
+ghost use Rattle.chip.specs.Levels.{fallen, line_falls, edges_on, after_levels_on_c, lets_through, port_after_levels, after_levels};
 
 use super::channel::{Fill, Side};
-use super::handshakes::line_pin;
-use super::{Core, PORT_A, PORT_B, PORT_C, Port};
+use super::handshakes::{line_pin, strobes};
+use super::holder::Holder;
+use super::reads::hand_over;
+use super::{PORT_A, PORT_B, PORT_C};
 use control::Group;
 
-// Whether the level of a pin falls as the byte before becomes the byte after.
-#[tactic(auto, unfolding(crate::specs::Levels::fallen))]
+// Whether the level of a pin falls as the byte before becomes the byte after. It is asked of the byte of all that fall, which the compiler works
+// out once for every pin.
+#[tactic(auto, using(crate::proofs::Fallen::fallen_by_mask))]
 fn falls(before: u8, after: u8, pin: u8) -> bool
+    requires { pin < 8 }
     ensures { result ≡ fallen before after pin }
 {
-    bits::bit(before, pin) && !bits::bit(after, pin)
+    let all_that_fall = bits::blend(after, 0, before);
+    bits::bit(all_that_fall, pin)
 }
 
-impl Port {
-    // Its STB or its ACK falls, or both or neither.
-    #[tactic(auto, unfolding(crate::specs::Levels::edged))]
-    fn edges(&mut self, strobed: bool, taken: bool)
-        ensures { self.new ≡ edged self.old strobed taken }
-    {
-        if strobed {
-            self.input.offer(self.outside);
-        }
-        if taken {
-            self.output.hand_over(Fill::Empty);
-        }
-    }
+// Whether the channel's STB or ACK falls; a channel that the mode word does not strobe takes no part.
+fn line_falls<Home, H: Holder<Home>>(holder: &H, levels: u8, group: Group, side: Side) -> bool
+    ensures { result ≡ line_falls (H.chip holder.now).core levels group side }
+{
+    falls(holder.lines(), levels, line_pin(group, side)) && strobes(holder.word(), group, side)
+}
 
-    // Levels come onto its own lines, whether or not they go through to its input latch.
-    #[tactic(auto, unfolding(crate::specs::Levels::port_after_levels))]
-    fn put(&mut self, through: bool, levels: u8)
-        ensures { self.new ≡ port_after_levels self.old through levels }
-    {
-        if through {
-            self.input.follow(levels);
-        }
-        self.outside = levels;
+// The lines of a group as the levels of port C become these: its STB falls or its ACK, or both or neither.
+#[tactic(auto, unfolding(crate::specs::Levels::edged))]
+fn edges<Home, H: Holder<Home>>(holder: &mut H, levels: u8, group: Group)
+    ensures held { H.chip holder.new ≡ core_put (H.chip holder.old) (with_port (H.chip holder.old).core group (edges_on (H.chip holder.old).core levels group)) }
+    ensures whole { H.whole holder.old → H.whole holder.new }
+{
+    if line_falls(holder, levels, group, Side::Input) {
+        let mut input = holder.channel(group, Side::Input);
+        input.offer(holder.outside(group));
+        holder.put_channel(group, Side::Input, input);
+    }
+    if line_falls(holder, levels, group, Side::Output) {
+        hand_over(holder, group, Side::Output, Fill::Empty);
     }
 }
 
-impl Core {
-    // Whether the channel's STB or ACK falls; a channel that the mode word does not strobe takes no part.
-    fn line_falls(&self, levels: u8, group: Group, side: Side) -> bool
-        ensures { result ≡ line_falls self.now levels group side }
-    {
-        self.strobes(group, side) && falls(self.c.outside, levels, line_pin(group, side))
-    }
+// The levels of port C: its falling edges act on both ports.
+#[tactic(auto, unfolding(crate::specs::Levels::after_levels_on_c))]
+fn put_on_lines<Home, H: Holder<Home>>(holder: &mut H, levels: u8)
+    ensures held { H.chip holder.new ≡ core_put (H.chip holder.old) (after_levels_on_c (H.chip holder.old).core levels) }
+    ensures whole { H.whole holder.old → H.whole holder.new }
+{
+    edges(holder, levels, Group::A);
+    edges(holder, levels, Group::B);
+    holder.put_lines(levels);
+}
 
-    // The levels of port C: its falling edges act on both ports. All four are found before any acts.
-    #[tactic(auto, unfolding(crate::specs::Levels::after_levels_on_c))]
-    fn put_on_lines(&mut self, levels: u8)
-        ensures { self.new ≡ after_levels_on_c self.old levels }
-    {
-        let strobed_a = self.line_falls(levels, Group::A, Side::Input);
-        let taken_a = self.line_falls(levels, Group::A, Side::Output);
-        let strobed_b = self.line_falls(levels, Group::B, Side::Input);
-        let taken_b = self.line_falls(levels, Group::B, Side::Output);
-        self.a.edges(strobed_a, taken_a);
-        self.b.edges(strobed_b, taken_b);
-        self.c.outside = levels;
-    }
+// Whether the group's input lets levels through to its latch: it is strobed, and its STB is low.
+fn lets_through<Home, H: Holder<Home>>(holder: &H, group: Group) -> bool
+    ensures { result ≡ lets_through (H.chip holder.now).core group }
+{
+    !bits::bit(holder.lines(), line_pin(group, Side::Input))
+        && strobes(holder.word(), group, Side::Input)
+}
 
-    // Whether the group's input lets levels through to its latch: it is strobed, and its STB is low.
-    fn lets_through(&self, group: Group) -> bool
-        ensures { result ≡ lets_through self.now group }
-    {
-        let stb = bits::bit(self.c.outside, line_pin(group, Side::Input));
-        self.strobes(group, Side::Input) && !stb
+// Levels come onto the port's own lines, whether or not they go through to its input latch.
+#[tactic(auto, unfolding(crate::specs::Levels::port_after_levels, crate::specs::Moves::after_follow))]
+fn put<Home, H: Holder<Home>>(holder: &mut H, group: Group, levels: u8)
+    ensures held { H.chip holder.new ≡ core_put (H.chip holder.old) (with_port (H.chip holder.old).core group (port_after_levels (port_of (H.chip holder.old).core group) (lets_through (H.chip holder.old).core group) levels)) }
+    ensures whole { H.whole holder.old → H.whole holder.new }
+{
+    if lets_through(holder, group) {
+        holder.put_latch(group, Side::Input, levels);
     }
+    holder.put_outside(group, levels);
+}
 
-    /// The outside levels of a port become these. On port C, where the mode word strobes a channel, an STB that falls offers the byte on the port's
-    /// lines, and an ACK that falls takes the byte that waits; on port A or B levels go through to the input latch while STB is low. On a number that
-    /// is no port nothing happens. Data sheet: Input Control Signal Definition (STB), Output Control Signal Definition (ACK).
-    #[tactic(auto, unfolding(crate::specs::Levels::after_levels))]
-    pub fn put_levels(&mut self, port: u8, levels: u8)
-        ensures { self.new ≡ after_levels self.old port levels }
-    {
-        match port {
-            PORT_A => {
-                let through = self.lets_through(Group::A);
-                self.a.put(through, levels);
-            }
-            PORT_B => {
-                let through = self.lets_through(Group::B);
-                self.b.put(through, levels);
-            }
-            PORT_C => self.put_on_lines(levels),
-            _ => {}
-        }
+/// The outside levels of a port become these. On port C, where the mode word strobes a channel, an STB that falls offers the byte on the port's
+/// lines, and an ACK that falls takes the byte that waits; on port A or B levels go through to the input latch while STB is low. On a number that
+/// is no port nothing happens. Data sheet: Input Control Signal Definition (STB), Output Control Signal Definition (ACK).
+#[tactic(auto, unfolding(crate::specs::Levels::after_levels))]
+pub fn put_levels<Home, H: Holder<Home>>(holder: &mut H, port: u8, levels: u8)
+    ensures held { H.chip holder.new ≡ core_put (H.chip holder.old) (after_levels (H.chip holder.old).core port levels) }
+    ensures whole { H.whole holder.old → H.whole holder.new }
+{
+    match port {
+        PORT_A => put(holder, Group::A, levels),
+        PORT_B => put(holder, Group::B, levels),
+        PORT_C => put_on_lines(holder, levels),
+        _ => {}
     }
 }

@@ -1,10 +1,14 @@
 //! What the processor reads of a port, and what the outside sees of it.
 ghost use Rattle.std.specs.Prelude.{◌≡◌};
+ghost use Rattle.chip.specs.State.{port_of};
 ghost use Rattle.chip.specs.Reads.{read_port, read_lines, read_control, read_of};
 ghost use Rattle.chip.specs.Pins.{drives_port, pins_of_port, pins_of_lines, pins_of};
 
+use super::channel::Side;
 use super::handshakes::{ACK_A, LINE_B, STB_A};
-use super::{CONTROL, Chip, Core, PORT_A, PORT_B, PORT_C, Port};
+use super::holder::Holder;
+use super::status::status;
+use super::{CONTROL, PORT_A, PORT_B, PORT_C};
 use bus::Pins;
 use control::mode::Mode;
 use control::{Group, mode, roles};
@@ -15,51 +19,49 @@ const MODE_BIT: u8 = 7;
 // Of the handshakes' pins on port C those that the chip drives: all but STB and ACK.
 const SIGNALS: u8 = !(1 << STB_A | 1 << ACK_A | 1 << LINE_B);
 
-impl Port {
-    #[tactic(auto, unfolding(crate::specs::Reads::read_port))]
-    fn read(&self, word: u8, group: Group) -> u8
-        ensures { result ≡ read_port word group self.now }
-    {
-        if mode::strobed_input(word, group) {
-            self.input.latch
-        } else if mode::output(word, group) {
-            self.output.latch
-        } else {
-            self.outside
-        }
+#[tactic(auto, unfolding(crate::specs::Reads::read_port))]
+pub(super) fn read_port<Home, H: Holder<Home>>(holder: &H, group: Group) -> u8
+    ensures { result ≡ read_port (H.chip holder.now).core.word group (port_of (H.chip holder.now).core group) }
+{
+    let word = holder.word();
+    if mode::strobed_input(word, group) {
+        holder.channel(group, Side::Input).latch
+    } else if mode::output(word, group) {
+        holder.channel(group, Side::Output).latch
+    } else {
+        holder.outside(group)
     }
+}
 
-    #[tactic(auto, unfolding(crate::specs::Pins::pins_of_port))]
-    fn pins(&self, driven: bool) -> Pins
-        ensures { result ≡ pins_of_port self.now driven }
-    {
-        if driven {
-            Pins {
-                levels: self.output.latch,
-                driven: 0xff,
-            }
-        } else {
-            Pins {
-                levels: self.outside,
-                driven: 0,
-            }
+#[tactic(auto, unfolding(crate::specs::Pins::pins_of_port))]
+fn pins_of_port<Home, H: Holder<Home>>(holder: &H, group: Group) -> Pins
+    ensures { result ≡ pins_of_port (port_of (H.chip holder.now).core group) (drives_port (H.chip holder.now).core group) }
+{
+    if drives(holder, group) {
+        Pins {
+            levels: holder.channel(group, Side::Output).latch,
+            driven: 0xff,
+        }
+    } else {
+        Pins {
+            levels: holder.outside(group),
+            driven: 0,
         }
     }
 }
 
-impl Core {
-    // Whether the chip drives port A or B.
-    #[tactic(auto, unfolding(crate::specs::Pins::drives_port))]
-    fn drives(&self, group: Group) -> bool
-        ensures { result ≡ drives_port self.now group }
-    {
-        match group {
-            Group::A => match Mode::of(self.word, Group::A) {
-                Mode::Two => !bits::bit(self.c.outside, ACK_A),
-                Mode::Zero | Mode::One => mode::output(self.word, Group::A),
-            },
-            Group::B => mode::output(self.word, Group::B),
-        }
+// Whether the chip drives port A or B.
+#[tactic(auto, unfolding(crate::specs::Pins::drives_port))]
+fn drives<Home, H: Holder<Home>>(holder: &H, group: Group) -> bool
+    ensures { result ≡ drives_port (H.chip holder.now).core group }
+{
+    let word = holder.word();
+    match group {
+        Group::A => match Mode::of(word, Group::A) {
+            Mode::Two => !bits::bit(holder.lines(), ACK_A),
+            Mode::Zero | Mode::One => mode::output(word, Group::A),
+        },
+        Group::B => mode::output(word, Group::B),
     }
 }
 
@@ -70,54 +72,56 @@ fn read_control(word: u8) -> u8
     bits::with_bit(word, MODE_BIT, true)
 }
 
-impl Chip {
-    // Port C, all pins at once: the status word on the pins of the handshakes, the latch on free outputs, the levels elsewhere.
-    fn read_lines(&self) -> u8
-        ensures { result ≡ read_lines self.now }
-    {
-        let core = &self.core;
-        let free = bits::blend(roles::outputs(core.word), core.c.latch, core.c.outside);
-        bits::blend(roles::handshake(core.word), self.status(), free)
-    }
+// Port C, all pins at once: the status word on the pins of the handshakes, the latch on free outputs, the levels elsewhere.
+#[inline(always)]
+#[tactic(auto, using(crate::proofs::LinesByMasks::lines_by_masks))]
+fn read_lines<Home, H: Holder<Home>>(holder: &H) -> u8
+    ensures { result ≡ read_lines (H.chip holder.now) }
+{
+    let word = holder.word();
+    let free = bits::blend(roles::outputs(word), holder.latch_c(), holder.lines());
+    bits::blend(roles::handshake(word), status(holder), free)
+}
 
-    // What a read at the address answers: one of the ports A, B and C, or control, and 00 where there is neither.
-    #[tactic(auto, unfolding(crate::specs::Reads::read_of))]
-    pub(super) fn read(&self, address: u8) -> u8
-        ensures { result ≡ read_of self.now address }
-    {
-        match address {
-            PORT_A => self.core.a.read(self.core.word, Group::A),
-            PORT_B => self.core.b.read(self.core.word, Group::B),
-            PORT_C => self.read_lines(),
-            CONTROL => read_control(self.core.word),
-            _ => 0,
-        }
+/// What a read at the address answers: one of the ports A, B and C, or control, and 00 where there is neither.
+#[inline(always)]
+#[tactic(auto, unfolding(crate::specs::Reads::read_of))]
+pub fn read<Home, H: Holder<Home>>(holder: &H, address: u8) -> u8
+    ensures { result ≡ read_of (H.chip holder.now) address }
+{
+    match address {
+        PORT_A => read_port(holder, Group::A),
+        PORT_B => read_port(holder, Group::B),
+        PORT_C => read_lines(holder),
+        CONTROL => read_control(holder.word()),
+        _ => 0,
     }
+}
 
-    // Port C: its free outputs and the signals of its handshakes are driven.
-    fn pins_of_lines(&self) -> Pins
-        ensures { result ≡ pins_of_lines self.now }
-    {
-        let core = &self.core;
-        let used = roles::handshake(core.word);
-        let driven = bits::blend(used, SIGNALS, roles::outputs(core.word));
-        let shown = bits::blend(used, self.status(), core.c.latch);
-        Pins {
-            levels: bits::blend(driven, shown, core.c.outside),
-            driven,
-        }
+// Port C: its free outputs and the signals of its handshakes are driven.
+#[tactic(auto, using(crate::proofs::LinesByMasks::pins_by_masks))]
+fn pins_of_lines<Home, H: Holder<Home>>(holder: &H) -> Pins
+    ensures { result ≡ pins_of_lines (H.chip holder.now) }
+{
+    let word = holder.word();
+    let used = roles::handshake(word);
+    let driven = bits::blend(used, SIGNALS, roles::outputs(word));
+    let shown = bits::blend(used, status(holder), holder.latch_c());
+    Pins {
+        levels: bits::blend(driven, shown, holder.lines()),
+        driven,
     }
+}
 
-    // The pins of a port. There are no ports but A, B and C: the levels of another are 00, and none is driven.
-    #[tactic(auto, unfolding(crate::specs::Pins::pins_of))]
-    pub(super) fn pins_of(&self, port: u8) -> Pins
-        ensures { result ≡ pins_of self.now port }
-    {
-        match port {
-            PORT_A => self.core.a.pins(self.core.drives(Group::A)),
-            PORT_B => self.core.b.pins(self.core.drives(Group::B)),
-            PORT_C => self.pins_of_lines(),
-            _ => Pins::default(),
-        }
+/// The pins of a port. There are no ports but A, B and C: the levels of another are 00, and none is driven.
+#[tactic(auto, unfolding(crate::specs::Pins::pins_of))]
+pub fn pins<Home, H: Holder<Home>>(holder: &H, port: u8) -> Pins
+    ensures { result ≡ pins_of (H.chip holder.now) port }
+{
+    match port {
+        PORT_A => pins_of_port(holder, Group::A),
+        PORT_B => pins_of_port(holder, Group::B),
+        PORT_C => pins_of_lines(holder),
+        _ => Pins::default(),
     }
 }

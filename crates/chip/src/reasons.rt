@@ -4,7 +4,9 @@ ghost use Rattle.chip.specs.Reasons.{reason_of, one_way, explained_in, explained
 
 use super::Chip;
 use super::channel::Side;
-use super::handshakes::{line_pin, running};
+use super::handshakes::line_pin;
+use super::holder::Holder;
+use super::status::flag;
 use control::mode::Mode;
 use control::{Group, mode};
 
@@ -73,49 +75,59 @@ impl Explained {
     }
 }
 
+// The first of the four reasons that holds.
+#[inline(always)]
+#[tactic(auto, unfolding(crate::specs::Reasons::reason_of))]
+fn first_reason<Home, H: Holder<Home>>(holder: &H, group: Group, side: Side) -> Reason
+    ensures { result ≡ reason_of (H.chip holder.now) group side }
+{
+    if !holder.enables().enables(group, side) {
+        Reason::EnableOff
+    } else if !flag(holder, group, side) {
+        Reason::FlagWrong
+    } else if !bits::bit(holder.lines(), line_pin(group, side)) {
+        Reason::LineLow
+    } else if holder.runs(group, side) {
+        Reason::OwnCycle
+    } else {
+        Reason::High
+    }
+}
+
+// In mode 1 a port goes one way.
+#[inline(always)]
+fn one_way<Home, H: Holder<Home>>(holder: &H, group: Group) -> Explained
+    ensures { result ≡ one_way (H.chip holder.now) group }
+{
+    if mode::output(holder.word(), group) {
+        Explained::OutputHalf(first_reason(holder, group, Side::Output))
+    } else {
+        Explained::InputHalf(first_reason(holder, group, Side::Input))
+    }
+}
+
+/// Explains the INTR of a group. Data sheet: Interrupt Control Functions, Input and Output Control Signal Definition (INTR).
+#[inline(always)]
+#[tactic(auto, unfolding(crate::specs::Reasons::explained_in))]
+pub fn explain<Home, H: Holder<Home>>(holder: &H, group: Group) -> Explained
+    ensures { result ≡ explained_in (H.chip holder.now) group }
+{
+    match Mode::of(holder.word(), group) {
+        Mode::Zero => Explained::ModeZero,
+        Mode::One => one_way(holder, group),
+        Mode::Two => Explained::BothHalves(
+            first_reason(holder, group, Side::Input),
+            first_reason(holder, group, Side::Output),
+        ),
+    }
+}
+
 impl Chip {
-    // The first of the four reasons that holds.
-    #[tactic(auto, unfolding(crate::specs::Reasons::reason_of))]
-    fn reason(&self, group: Group, side: Side) -> Reason
-        ensures { result ≡ reason_of self.now group side }
-    {
-        if !self.core.inte.enables(group, side) {
-            Reason::EnableOff
-        } else if !self.core.flag(group, side) {
-            Reason::FlagWrong
-        } else if !bits::bit(self.core.c.outside, line_pin(group, side)) {
-            Reason::LineLow
-        } else if running(self.phase, group, side) {
-            Reason::OwnCycle
-        } else {
-            Reason::High
-        }
-    }
-
-    // In mode 1 a port goes one way.
-    fn one_way(&self, group: Group) -> Explained
-        ensures { result ≡ one_way self.now group }
-    {
-        if mode::output(self.core.word, group) {
-            Explained::OutputHalf(self.reason(group, Side::Output))
-        } else {
-            Explained::InputHalf(self.reason(group, Side::Input))
-        }
-    }
-
     /// Explains the INTR of a group. Data sheet: Interrupt Control Functions, Input and Output Control Signal Definition (INTR).
-    #[tactic(auto, unfolding(crate::specs::Reasons::explained_in))]
     pub fn explain(&self, group: Group) -> Explained
         ensures { result ≡ explained_in self.now group }
     {
-        match Mode::of(self.core.word, group) {
-            Mode::Zero => Explained::ModeZero,
-            Mode::One => self.one_way(group),
-            Mode::Two => Explained::BothHalves(
-                self.reason(group, Side::Input),
-                self.reason(group, Side::Output),
-            ),
-        }
+        explain(self, group)
     }
 
     /// Explains the INTR of the group of that number, as scripts and C have it: 0 is A and 1 is B; `None` of any other.

@@ -1,25 +1,33 @@
 //! The end of a write, when the byte takes effect.
 ghost use Rattle.std.specs.Prelude.{◌≡◌, cond, eqb};
 ghost use Rattle.control.specs.Mode.{mode_number};
+ghost use Rattle.chip.specs.State.{port_of, with_port};
+ghost use Rattle.chip.specs.Held.{core_put};
 ghost use Rattle.chip.specs.Write.{stored_by, latch_written, after_write_ends};
 
-use super::{CONTROL, Core, PORT_A, PORT_B, PORT_C, Port};
+use super::channel::Side;
+use super::holder::Holder;
+use super::settings::command;
+use super::{CONTROL, PORT_A, PORT_B, PORT_C};
 use control::mode::Mode;
 use control::{Group, mode, roles};
 
-impl Port {
-    // A write to port A or B: nothing happens where the port is no output. The byte is offered where ACK takes the bytes, and otherwise only
-    // stored.
-    #[tactic(auto, unfolding(crate::specs::Write::stored_by))]
-    fn store(&mut self, word: u8, group: Group, byte: u8)
-        ensures { self.new ≡ stored_by self.old word group byte }
-    {
-        if mode::output(word, group) {
-            if mode::strobed_output(word, group) {
-                self.output.offer(byte);
-            } else {
-                self.output.latch = byte;
-            }
+// A write to port A or B: nothing happens where the port is no output. The byte is offered where ACK takes the bytes, and otherwise only
+// stored.
+#[inline(always)]
+#[tactic(auto, unfolding(crate::specs::Write::stored_by))]
+fn store<Home, H: Holder<Home>>(holder: &mut H, group: Group, byte: u8)
+    ensures held { H.chip holder.new ≡ core_put (H.chip holder.old) (with_port (H.chip holder.old).core group (stored_by (port_of (H.chip holder.old).core group) (H.chip holder.old).core.word group byte)) }
+    ensures whole { H.whole holder.old → H.whole holder.new }
+{
+    let word = holder.word();
+    if mode::output(word, group) {
+        if mode::strobed_output(word, group) {
+            let mut output = holder.channel(group, Side::Output);
+            output.offer(byte);
+            holder.put_channel(group, Side::Output, output);
+        } else {
+            holder.put_latch(group, Side::Output, byte);
         }
     }
 }
@@ -35,6 +43,8 @@ fn reached(mode: Mode) -> u8
 }
 
 // Port C's latch: of the free outputs those that the write reaches take the byte.
+#[inline(always)]
+#[tactic(auto, using(crate::proofs::ByMasks::latch_by_masks))]
 fn latch(word: u8, before: u8, byte: u8) -> u8
     ensures { result ≡ latch_written word before byte }
 {
@@ -42,20 +52,20 @@ fn latch(word: u8, before: u8, byte: u8) -> u8
     bits::blend(mask, byte, before)
 }
 
-impl Core {
-    /// A write of the byte to the address ends: a port that is an output stores it, and offers it where it is strobed; of port C the free
-    /// outputs that the write reaches take it; at the control address it is a command. Data sheet: Mode 0 (Basic Input/Output), Output Control
-    /// Signal Definition (OBF).
-    #[tactic(auto, unfolding(crate::specs::Write::after_write_ends))]
-    pub fn end_write(&mut self, address: u8, byte: u8)
-        ensures { self.new ≡ after_write_ends self.old address byte }
-    {
-        match address {
-            PORT_A => self.a.store(self.word, Group::A, byte),
-            PORT_B => self.b.store(self.word, Group::B, byte),
-            PORT_C => self.c.latch = latch(self.word, self.c.latch, byte),
-            CONTROL => self.command(byte),
-            _ => {}
-        }
+/// A write of the byte to the address ends: a port that is an output stores it, and offers it where it is strobed; of port C the free
+/// outputs that the write reaches take it; at the control address it is a command. Data sheet: Mode 0 (Basic Input/Output), Output Control
+/// Signal Definition (OBF).
+#[inline(always)]
+#[tactic(auto, unfolding(crate::specs::Write::after_write_ends))]
+pub fn end_write<Home, H: Holder<Home>>(holder: &mut H, address: u8, byte: u8)
+    ensures held { H.chip holder.new ≡ core_put (H.chip holder.old) (after_write_ends (H.chip holder.old).core address byte) }
+    ensures whole { H.whole holder.old → H.whole holder.new }
+{
+    match address {
+        PORT_A => store(holder, Group::A, byte),
+        PORT_B => store(holder, Group::B, byte),
+        PORT_C => holder.put_latch_c(latch(holder.word(), holder.latch_c(), byte)),
+        CONTROL => command(holder, byte),
+        _ => {}
     }
 }

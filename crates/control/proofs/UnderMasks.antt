@@ -1,6 +1,6 @@
 -- What is asked of a mode word under masks is what the definitions say of a group, and which pins of port C are whose: tests at every word.
 -- Rests on bits' Tested.
-use Rattle.std.proofs.Common.{◌≡◌, Bool, cond, ◌||◌, ℕ, ◌-◌, ◌/◌, ◌%◌, ◌^◌, ◌<◌, eqb}
+use Rattle.std.proofs.Common.{◌≡◌, Bool, cond, not, ◌||◌, ℕ, ◌-◌, ◌/◌, ◌%◌, ◌^◌, ◌<◌, eqb, ltb}
 use lib.Bits.{bit_and, bit_or}
 use Rattle.bits.specs.Bit.{bit_of, value_of}
 use Rattle.bits.proofs.Tested.{bits, numbers}
@@ -16,9 +16,9 @@ under mask value w = eqb (bit_and w mask) value
 abbrev two_or_under : ℕ → ℕ → ℕ → Bool
 two_or_under mask value w = under 0x40 0x40 w || under mask value w
 
-pub a_takes_by_mask : (w : ℕ) → w < 256 → two_or_under 0x30 0x30 w ≡ strobed_input w A
+pub a_takes_by_mask : (w : ℕ) → w < 256 → ltb 0x20 (bit_and w 0x70) ≡ strobed_input w A
 unfolding strobed_input mode_of input_of bit_of
-a_takes_by_mask = bits 256 (two_or_under 0x30 0x30) (λ w. strobed_input w A) tt
+a_takes_by_mask = bits 256 (λ w. ltb 0x20 (bit_and w 0x70)) (λ w. strobed_input w A) tt
 
 pub b_takes_by_mask : (w : ℕ) → w < 256 → under 0x06 0x06 w ≡ strobed_input w B
 unfolding strobed_input mode_of input_of bit_of
@@ -32,9 +32,9 @@ pub b_gives_by_mask : (w : ℕ) → w < 256 → under 0x06 0x04 w ≡ strobed_ou
 unfolding strobed_output mode_of input_of bit_of
 b_gives_by_mask = bits 256 (under 0x06 0x04) (λ w. strobed_output w B) tt
 
-pub a_stores_by_mask : (w : ℕ) → w < 256 → two_or_under 0x10 0 w ≡ output_of w A
+pub a_stores_by_mask : (w : ℕ) → w < 256 → not (under 0x50 0x10 w) ≡ output_of w A
 unfolding output_of mode_of input_of bit_of
-a_stores_by_mask = bits 256 (two_or_under 0x10 0) (λ w. output_of w A) tt
+a_stores_by_mask = bits 256 (λ w. not (under 0x50 0x10 w)) (λ w. output_of w A) tt
 
 pub b_stores_by_mask : (w : ℕ) → w < 256 → under 0x02 0 w ≡ output_of w B
 unfolding output_of mode_of input_of bit_of

@@ -1,5 +1,6 @@
-//! The modes and directions that a mode word sets up. Bit 7 counts as set, and is not looked at. Tests of masks are joined by `|` and not by
-//! `||`: the whole stays one expression of the word, which its proof computes at every word.
+//! The modes and directions that a mode word sets up. Bit 7 counts as set, and is not looked at. What is asked of a word is one expression of
+//! it, which its proof computes at every word: so tests of masks are joined by `|` and not by `||`. Of group A it is asked of bits 6 to 4: 010 is
+//! a mode 1 output, 011 a mode 1 input, and what has bit 6 set is mode 2.
 ghost use Rattle.std.specs.Prelude.{◌≡◌};
 ghost use Rattle.control.specs.Mode.{mode_of, mode_number, directions_of, strobed_input, strobed_output, output_of};
 
@@ -53,7 +54,7 @@ pub fn strobed_input(word: u8, group: Group) -> bool
     ensures { result ≡ strobed_input word group }
 {
     match group {
-        Group::A => (word & 0x40 == 0x40) | (word & 0x30 == 0x30),
+        Group::A => word & 0x70 > 0x20,
         Group::B => word & 0x06 == 0x06,
     }
 }
@@ -75,7 +76,7 @@ pub fn output(word: u8, group: Group) -> bool
     ensures { result ≡ output_of word group }
 {
     match group {
-        Group::A => (word & 0x40 == 0x40) | (word & 0x10 == 0),
+        Group::A => word & 0x50 != 0x10,
         Group::B => word & 0x02 == 0,
     }
 }

@@ -19,6 +19,7 @@ pub fn handshake(word: u8) -> u8
 }
 
 /// The pins that are outputs: those of an output half that no handshake uses.
+#[inline(always)]
 #[tactic(auto, using(crate::proofs::UnderMasks::outputs_by_mask))]
 pub fn outputs(word: u8) -> u8
     ensures { result ≡ output_pins word }

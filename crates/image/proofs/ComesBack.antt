@@ -90,7 +90,7 @@ channel_back ch planted struck same_planted same_struck = λ i. record {
 }
 
 -- Here they are told as two bytes each.
-seven_back : (ch : Channel) →
+pub seven_back : (ch : Channel) →
     record {
       fill = fill_as (fill_byte ch.fill);
       latch = ch.latch;

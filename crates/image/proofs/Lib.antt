@@ -1,6 +1,9 @@
 pub mod Copied
 pub mod Cycle
 pub mod Zeros
+pub mod ByByte
+pub mod Together
+pub mod Running
 pub mod Long
 pub mod ComesBack
 pub mod Fitting
@@ -13,3 +16,6 @@ pub mod OlderComesBack
 pub mod OlderSameBytes
 pub mod OlderOneImage
 pub mod Determined
+pub mod PartPut
+pub mod OwnCycle
+pub mod WholeCore

@@ -1,13 +1,12 @@
--- An image is as long as an image is: so the state that it tells is loaded from it, and over it a chip's image is saved.
+-- An image is as long as an image is, and over as many bytes a chip's image is saved.
 -- Rests on bits' Logic.
 use Rattle.std.proofs.Common.{◌≡◌, Bool, true, ◌&&◌, List, ℕ, eqb, length, eqb-true, eq-eqb}
 use Rattle.bits.proofs.Logic.{both}
 use Rattle.chip.specs.declared.Chip.{Chip}
 use Rattle.image.specs.Places as places
 use Rattle.image.specs.Layout.{image_of}
-use Rattle.image.specs.Loaded.{state_of}
 use Rattle.image.specs.Good.{bytes_fit, is_image}
-use Rattle.image.specs.Slices.{saved_in, loaded_from}
+use Rattle.image.specs.Slices.{saved_in}
 
 -- What asks for a length, and for more, is met by no other length.
 pub long_and_more : (l : List ℕ) (n : ℕ) (more : Bool) → (eqb (length l) n && more) ≡ true → length l ≡ n
@@ -20,8 +19,3 @@ is_long l good = long_and_more l places.length (bytes_fit l) good
 pub written_over : (l : List ℕ) (c : Chip) → length l ≡ places.length → saved_in l c ≡ image_of c
 unfolding saved_in
 written_over l c long = rw (eq-eqb (length l) places.length long)
-
--- What is loaded from as many bytes as an image has is the state that they tell.
-pub loaded : (l : List ℕ) → length l ≡ places.length → loaded_from l ≡ state_of l
-unfolding loaded_from
-loaded l long = rw (eq-eqb (length l) places.length long)

@@ -7,7 +7,7 @@ use Rattle.image.specs.Loaded.{byte_at, eight_at}
 use Rattle.image.specs.Good.{edition_fits, all_zero, unused_zero}
 
 -- Bytes as one number, the lowest first.
-abbrev value : List ℕ → ℕ
+abbrev pub value : List ℕ → ℕ
 value [] = 0
 value (b ∷ bs) = b + 256 * value bs
 
@@ -22,7 +22,7 @@ both_zero (suc b) v =
     ne_eqb (suc b + 256 * v) 0 (λ e. absurd (omega (arith, e)))
     ∙ sym (ap (λ (z : Bool). z && eqb v 0) (ne_eqb (suc b) 0 (λ e. absurd (omega (arith, e)))))
 
-value_zero : (bs : List ℕ) → eqb (value bs) 0 ≡ all_zero bs
+pub value_zero : (bs : List ℕ) → eqb (value bs) 0 ≡ all_zero bs
 value_zero [] = refl
 value_zero (b ∷ bs) = both_zero b (value bs) ∙ ap (λ (z : Bool). eqb b 0 && z) (value_zero bs)
 
@@ -38,15 +38,15 @@ below_two b (suc v) =
     ∙ sym (ap (λ (z : Bool). edition_fits b && z) (ne_eqb (suc v) 0 (λ e. absurd (omega (arith, e)))) ∙ and-false (edition_fits b))
 
 -- Seven bytes behind a place, and with that place eight, two and two.
-abbrev behind_it : List ℕ → ℕ → List ℕ
+abbrev pub behind_it : List ℕ → ℕ → List ℕ
 behind_it l i =
     byte_at l (i + 1) ∷ byte_at l (i + 2) ∷ byte_at l (i + 2 + 1)
     ∷ byte_at l (i + 4) ∷ byte_at l (i + 4 + 1) ∷ byte_at l (i + 6) ∷ byte_at l (i + 6 + 1) ∷ []
 
-abbrev by_eight : List ℕ → ℕ → List ℕ
+abbrev pub by_eight : List ℕ → ℕ → List ℕ
 by_eight l i = byte_at l i ∷ behind_it l i
 
-as_one : (l : List ℕ) (i : ℕ) → eight_at l i ≡ value (by_eight l i)
+pub as_one : (l : List ℕ) (i : ℕ) → eight_at l i ≡ value (by_eight l i)
 as_one l i = omega arith
 
 eight_zero : (l : List ℕ) (i : ℕ) → eqb (eight_at l i) 0 ≡ all_zero (by_eight l i)

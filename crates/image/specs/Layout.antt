@@ -3,6 +3,10 @@ use Rattle.std.specs.Prelude.{false, cond, List, [], ◌∷◌, ◌++◌, ℕ, �
 use Rattle.bits.specs.Bit.{byte_of}
 use Rattle.bus.specs.declared.Phase.{Phase}
 use Rattle.bus.specs.declared.Phase.TheVariants.{Idle, Reading, Writing}
+use Rattle.control.specs.declared.Group.{Group}
+use Rattle.control.specs.declared.Group.TheVariants.{A, B}
+use Rattle.chip.specs.declared.channel.Side.{Side}
+use Rattle.chip.specs.declared.channel.Side.TheVariants.{Input, Output}
 use Rattle.chip.specs.declared.channel.Fill.{Fill}
 use Rattle.chip.specs.declared.channel.Fill.TheVariants.{Empty, Waiting, Fetching}
 use Rattle.chip.specs.declared.channel.Tally.{Tally}
@@ -30,6 +34,13 @@ tally_bytes t = five_tallies t ++ wide_bytes t.planted ++ wide_bytes t.struck
 abbrev pub of_channels : (Tally → List ℕ) → Core → List ℕ
 of_channels bytes c =
     bytes c.a.input.tally ++ bytes c.a.output.tally ++ bytes c.b.input.tally ++ bytes c.b.output.tally
+
+-- The channels are numbered A in, A out, B in and B out.
+abbrev pub number_of : Group → Side → ℕ
+number_of A Input = 0
+number_of A Output = 1
+number_of B Input = 2
+number_of B Output = 3
 
 -- The condition of a channel.
 abbrev pub fill_byte : Fill → ℕ

@@ -2,6 +2,8 @@ pub mod Places
 pub mod Layout
 pub mod Loaded
 pub mod Good
+pub mod Once
+pub mod Masks
 pub mod Slices
 pub mod OlderPlaces
 pub mod OlderLayout

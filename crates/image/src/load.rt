@@ -1,18 +1,13 @@
-//! The state that an image tells. The length is asked for once, before any byte is read, and not at each byte. Each bound is by the width of what
-//! is read there: a type of a place would need one for every width.
+//! What the bytes of an image tell. Each bound is by the width of what is read there: a type of a place would need one for every width.
 ghost use Rattle.std.specs.Prelude.{◌≡◌, ◌+◌, ◌<◌};
 ghost use Rattle.image.specs.Places as places;
-ghost use Rattle.image.specs.Loaded.{wide_at, tally_at, fill_as, channel_at, enables_as, phase_as, edition_as, state_of};
-ghost use Rattle.image.specs.Slices.{loaded_from};
+ghost use Rattle.image.specs.Loaded.{wide_at, tally_at, fill_as, channel_at, enables_as, phase_as, edition_as};
 
-use super::places::{
-    BUS, CHANNEL_TALLIES, CONDITIONS, EDITION, ENABLES, IDLE, LATCH_C, LATCHES, LENGTH, LEVELS_A,
-    LEVELS_B, LEVELS_C, OLDER, TALLIES, WORD, WRITES, WRITTEN,
-};
+use super::places::{CHANNEL_TALLIES, CONDITIONS, IDLE, LATCHES, LENGTH, OLDER, TALLIES, WRITES};
 use bus::Phase;
 use chip::channel::{Channel, Fill, Tally};
 use chip::handshakes::{ACK_A, LINE_B, STB_A};
-use chip::{Chip, Core, Edition, Enables, Port, PortC};
+use chip::{Edition, Enables};
 
 // The number of the two bytes from a place on.
 fn wide(image: &[u8; LENGTH], at: usize) -> u16
@@ -48,7 +43,7 @@ fn fill(byte: u8) -> Fill
     }
 }
 
-fn channel(image: &[u8; LENGTH], k: usize) -> Channel
+pub(super) fn channel(image: &[u8; LENGTH], k: usize) -> Channel
     requires { k < 4 }
     ensures { result ≡ channel_at image.now k }
 {
@@ -56,17 +51,6 @@ fn channel(image: &[u8; LENGTH], k: usize) -> Channel
         fill: fill(image[CONDITIONS + k]),
         latch: image[LATCHES + k],
         tally: tally(image, TALLIES + CHANNEL_TALLIES * k),
-    }
-}
-
-fn port(image: &[u8; LENGTH], k: usize, outside: u8) -> Port
-    requires { k < 3 }
-    ensures { result ≡ record { input = channel_at image.now k; output = channel_at image.now (k + 1); outside = outside } }
-{
-    Port {
-        input: channel(image, k),
-        output: channel(image, k + 1),
-        outside,
     }
 }
 
@@ -81,13 +65,13 @@ pub(super) fn enables(byte: u8) -> Enables
     }
 }
 
-fn phase(bus: u8, written: u8) -> Phase
+pub(super) fn phase(bus: u8, written: u8) -> Phase
     ensures { result ≡ phase_as bus written }
 {
     if bus < WRITES {
-        Phase::Reading(bus % WRITES)
+        Phase::Reading(bus)
     } else if bus < IDLE {
-        Phase::Writing(bus % WRITES, written)
+        Phase::Writing(bus - WRITES, written)
     } else {
         Phase::Idle
     }
@@ -101,49 +85,5 @@ pub fn edition(byte: u8) -> Edition
         Edition::Older
     } else {
         Edition::Newer
-    }
-}
-
-#[inline(always)]
-#[tactic(auto, unfolding(crate::specs::Loaded::state_of))]
-fn whole(image: &[u8; LENGTH]) -> Chip
-    ensures { result ≡ state_of image.now }
-{
-    Chip {
-        phase: phase(image[BUS], image[WRITTEN]),
-        edition: edition(image[EDITION]),
-        core: Core {
-            word: image[WORD],
-            a: port(image, 0, image[LEVELS_A]),
-            b: port(image, 2, image[LEVELS_B]),
-            c: PortC {
-                latch: image[LATCH_C],
-                outside: image[LEVELS_C],
-            },
-            inte: enables(image[ENABLES]),
-        },
-    }
-}
-
-/// What runs on the bus, by itself. Bytes of another length than an image's tell of nothing: for them it is an idle bus.
-#[tactic(auto, unfolding(crate::specs::Slices::loaded_from, crate::specs::Loaded::state_of))]
-pub fn bus(image: &[u8]) -> Phase
-    ensures { result ≡ (loaded_from image.now).phase }
-{
-    match image.as_array::<LENGTH>() {
-        Some(image) => phase(image[BUS], image[WRITTEN]),
-        None => Phase::Idle,
-    }
-}
-
-/// The whole state. Bytes of another length than an image's tell none: for them it is the chip at power-up.
-#[inline(always)]
-#[tactic(auto, unfolding(crate::specs::Slices::loaded_from))]
-pub fn state(image: &[u8]) -> Chip
-    ensures { result ≡ loaded_from image.now }
-{
-    match image.as_array() {
-        Some(image) => whole(image),
-        None => Chip::default(),
     }
 }

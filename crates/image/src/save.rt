@@ -1,16 +1,16 @@
 //! A state written as its image.
-ghost use Rattle.std.specs.Prelude.{◌≡◌, ◌+◌, ◌≤◌, ◌<◌, length, replicate};
+ghost use Rattle.std.specs.Prelude.{◌≡◌, ◌+◌, ◌≤◌, ◌<◌, length};
 ghost use Rattle.std.proofs.lemmas.List.Edits.{sets};
 ghost use Rattle.image.specs.Places as places;
-ghost use Rattle.image.specs.Layout.{wide_bytes, tally_bytes, of_channels, enables_byte, bus_byte, written_byte, port_bytes, core_bytes, bus_bytes, edition_byte, image_of};
-ghost use Rattle.image.specs.Slices.{saved_in, core_saved_in, bus_saved_in};
+ghost use Rattle.image.specs.Layout.{wide_bytes, tally_bytes, enables_byte, bus_byte, written_byte, core_bytes, bus_bytes, edition_byte, image_of};
+ghost use Rattle.image.specs.Slices.{saved_in, channel_saved_in, bus_saved_in};
 
 use super::places::{
     BUS, CHANNEL_TALLIES, CONDITIONS, EDITION, ENABLES, IDLE, LATCH_C, LATCHES, LENGTH, LEVELS_A,
     LEVELS_B, LEVELS_C, NOWHERE, TALLIES, UNUSED, WORD, WRITES, WRITTEN,
 };
 use bus::Phase;
-use chip::channel::Tally;
+use chip::channel::{Channel, Tally};
 use chip::{Chip, Core, Edition, Enables};
 
 // The bytes from a place on become these.
@@ -43,13 +43,14 @@ fn put_tally(image: &mut [u8; LENGTH], at: usize, tally: &Tally)
     put_wide(image, at + 12, tally.struck);
 }
 
-fn put_tallies(image: &mut [u8; LENGTH], core: &Core)
-    ensures { image.new ≡ sets image.old places.tallies (of_channels tally_bytes core.now) }
+// One channel, by its number: its tallies, its latch and its condition.
+pub(super) fn channel(image: &mut [u8; LENGTH], k: usize, channel: &Channel)
+    requires { k < 4 }
+    ensures { image.new ≡ channel_saved_in image.old k channel.now }
 {
-    put_tally(image, TALLIES, &core.a.input.tally);
-    put_tally(image, TALLIES + CHANNEL_TALLIES, &core.a.output.tally);
-    put_tally(image, TALLIES + 2 * CHANNEL_TALLIES, &core.b.input.tally);
-    put_tally(image, TALLIES + 3 * CHANNEL_TALLIES, &core.b.output.tally);
+    put_tally(image, TALLIES + CHANNEL_TALLIES * k, &channel.tally);
+    image[LATCHES + k] = channel.latch;
+    image[CONDITIONS + k] = channel.fill as u8;
 }
 
 pub(super) fn enables(inte: Enables) -> u8
@@ -94,28 +95,18 @@ fn edition_byte(edition: Edition) -> u8
     edition as u8
 }
 
-fn put_ports(image: &mut [u8; LENGTH], core: &Core)
-    ensures { image.new ≡ sets image.old places.levels_a (port_bytes core.now) }
+#[tactic(auto, using(crate::proofs::WholeCore::by_parts))]
+fn put_core(image: &mut [u8; LENGTH], core: &Core)
+    ensures { image.new ≡ sets image.old places.tallies (core_bytes core.now) }
 {
+    channel(image, 0, &core.a.input);
+    channel(image, 1, &core.a.output);
+    channel(image, 2, &core.b.input);
+    channel(image, 3, &core.b.output);
     image[LEVELS_A] = core.a.outside;
     image[LEVELS_B] = core.b.outside;
     image[LEVELS_C] = core.c.outside;
     image[LATCH_C] = core.c.latch;
-    image[LATCHES] = core.a.input.latch;
-    image[LATCHES + 1] = core.a.output.latch;
-    image[LATCHES + 2] = core.b.input.latch;
-    image[LATCHES + 3] = core.b.output.latch;
-    image[CONDITIONS] = core.a.input.fill as u8;
-    image[CONDITIONS + 1] = core.a.output.fill as u8;
-    image[CONDITIONS + 2] = core.b.input.fill as u8;
-    image[CONDITIONS + 3] = core.b.output.fill as u8;
-}
-
-fn put_core(image: &mut [u8; LENGTH], core: &Core)
-    ensures { image.new ≡ sets image.old places.tallies (core_bytes core.now) }
-{
-    put_tallies(image, core);
-    put_ports(image, core);
     image[WORD] = core.word;
     image[ENABLES] = enables(core.inte);
 }
@@ -144,16 +135,6 @@ pub fn state(image: &mut [u8], chip: &Chip)
 {
     if let Some(image) = image.as_mut_array() {
         whole(image, chip);
-    }
-}
-
-/// All but the bus and the edition, for who has an image and leaves these alone.
-#[tactic(auto, unfolding(crate::specs::Slices::core_saved_in))]
-pub fn core(image: &mut [u8], core: &Core)
-    ensures { image.new ≡ core_saved_in image.old core.now }
-{
-    if let Some(image) = image.as_mut_array() {
-        put_core(image, core);
     }
 }
 

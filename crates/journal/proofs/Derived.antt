@@ -116,9 +116,3 @@ module _ (c d : Chip) where
       go : (b : Bool) → chips.ghosts.eq d c ≡ b → b ≡ same_state c d
       go true is = sym (then c d (sym (chip d c is)))
       go false is = sym (other_state c d (others is))
-
-  -- Chips whose lines differ do.
-  pub lines_differ : lines.ghosts.eq d.core.c c.core.c ≡ false → same_state c d ≡ false
-  lines_differ differ =
-      other_state c d
-      (λ same. contrary (lines.ghosts.eq d.core.c c.core.c) differ (subst (λ (e : Chip). lines.ghosts.eq e.core.c c.core.c ≡ true) same (port_c_self c.core.c)))

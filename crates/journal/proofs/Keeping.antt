@@ -1,6 +1,6 @@
 -- The pass over the words of a journal, turn by turn: what is kept of those gone through stands in front, with zero words behind, and ahead
 -- nothing has changed.
--- Rests on Ahead, Exact and bits' Logic.
+-- Rests on Ahead and bits' Logic.
 use Rattle.std.proofs.Common.{◌≡◌, ◌∙◌, refl, ap, sym, Bool, true, false, not, List, [], ◌∷◌, ◌++◌, append_assoc, append-nil, ℕ, suc, ◌+◌, ◌-◌, ◌<◌, ◌≤◌, arith, length, drop, set, get_or, replicate, length-append, length-drop, drop_of_length-le}
 use lib.ListN.{length-replicate, replicate-append-replicate}
 use lib.Seq.{set_at, get_or_at}
@@ -11,7 +11,6 @@ use Rattle.journal.specs.Words.{event_in, is_frame, all_frames}
 use Rattle.journal.specs.Same.{same_state}
 use Rattle.journal.specs.Trim.{after_word, kept_from, filled_up}
 use Rattle.journal.proofs.Ahead.{ahead}
-use Rattle.journal.proofs.Exact.{only_then_lem}
 
 -- Of the words ws₀, met by the chip c₀, those before the place `at` have been gone through, and `kept` of them are kept. They are `done`, and have
 -- led to the chip c. What they and those ahead are kept as is what is kept of all.
@@ -40,9 +39,9 @@ kept_here : (c : Chip) (w : ℕ) (ws : List ℕ) → same_state c (after_word c 
 unfolding kept_from
 kept_here c w ws differs = rw (differs)
 
-dropped_here : (c : Chip) (w : ℕ) (ws : List ℕ) → same_state c (after_word c w) ≡ true → kept_from c (w ∷ ws) ≡ kept_from c ws
+dropped_here : (c : Chip) (w : ℕ) (ws : List ℕ) → same_state c (after_word c w) ≡ true → kept_from c (w ∷ ws) ≡ kept_from (after_word c w) ws
 unfolding kept_from
-dropped_here c w ws same = rw (same) (ap (λ (d : Chip). kept_from d ws) (sym (only_then_lem c (after_word c w) same)))
+dropped_here c w ws same = rw (same)
 
 none_kept : (c : Chip) → kept_from c [] ≡ []
 unfolding kept_from
@@ -101,19 +100,15 @@ module _ (c₀ : Chip) (ws₀ ws : List ℕ) (c : Chip) (at kept : ℕ) (way : K
     all_here : way.done ++ kept_from c (word ∷ drop (at + 1) ws₀) ≡ kept_from c₀ ws₀
     all_here = ap (λ l. way.done ++ kept_from c l) (sym (ahead ws₀ at below)) ∙ way.all
 
-    module _ (next : Chip) (met : next ≡ after_word c (get_or ws at 0)) (changed : Bool) (told : changed ≡ not (same_state c (after_word c (get_or ws at 0)))) where
+    module _ (next : Chip) (met : next ≡ after_word c (get_or ws at 0)) (changed : Bool) (told : changed ≡ not (same_state c next)) where
       now_met : next ≡ after_word c word
       now_met = met ∙ ap (after_word c) here
 
       same_as : same_state c (after_word c word) ≡ not changed
-      same_as = ap (λ w. same_state c (after_word c w)) (sym here) ∙ sym (not-not _) ∙ ap not (sym told)
+      same_as = ap (same_state c) (sym now_met) ∙ sym (not-not _) ∙ ap not (sym told)
 
-      -- A word that changes nothing leaves the chip,
-      pub stays : changed ≡ false → next ≡ c
-      stays off = now_met ∙ sym (only_then_lem c (after_word c word) (same_as ∙ ap not off))
-
-      -- and is dropped.
-      pub dropped : changed ≡ false → Keeping c₀ ws₀ (set ws at 0) c (at + 1) kept
+      -- A word that changes nothing is dropped.
+      pub dropped : changed ≡ false → Keeping c₀ ws₀ (set ws at 0) next (at + 1) kept
       dropped off =
           let zeros : suc (at - kept) ≡ at + 1 - kept = omega (arith, way.behind) in
           record {
@@ -122,7 +117,10 @@ module _ (c₀ : Chip) (ws₀ ws : List ℕ) (c : Chip) (at kept : ℕ) (way : K
             behind = omega (arith, way.behind);
             inside = omega (arith, below);
             words = taken_out ∙ ap (λ n. (way.done ++ replicate n 0) ++ drop (at + 1) ws₀) zeros;
-            all = ap (λ l. way.done ++ l) (sym (dropped_here c word (drop (at + 1) ws₀) (same_as ∙ ap not off))) ∙ all_here;
+            all =
+                ap (λ d. way.done ++ kept_from d (drop (at + 1) ws₀)) now_met
+                ∙ ap (λ l. way.done ++ l) (sym (dropped_here c word (drop (at + 1) ws₀) (same_as ∙ ap not off)))
+                ∙ all_here;
             frames = both_frames.1;
           }
 

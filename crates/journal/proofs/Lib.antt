@@ -2,6 +2,7 @@ pub mod Packed
 pub mod Ahead
 pub mod Exact
 pub mod Derived
+pub mod Changing
 pub mod Keeping
 pub mod Trimming
 pub mod Determined

@@ -1,5 +1,5 @@
 -- When two chips are the same: a chip is told by the numbers of its fields, one after the other.
-use Rattle.std.specs.Prelude.{Bool, cond, List, [], ◌∷◌, ◌++◌, ℕ}
+use Rattle.std.specs.Prelude.{Bool, cond, List, [], ◌∷◌, ◌++◌, ℕ, eqb}
 use Rattle.bits.specs.Same.{same_bytes}
 use Rattle.bus.specs.declared.Phase.{Phase}
 use Rattle.bus.specs.declared.Phase.TheVariants.{Idle, Reading, Writing}
@@ -13,6 +13,8 @@ use Rattle.chip.specs.declared.Core.{Core}
 use Rattle.chip.specs.declared.Edition.{Edition}
 use Rattle.chip.specs.declared.Edition.TheVariants.{Older, Newer}
 use Rattle.chip.specs.declared.Chip.{Chip}
+use Rattle.chip.specs.Addresses.{port_a, port_b}
+use Rattle.journal.specs.declared.compact.Standing.{Standing}
 
 -- A cycle names its address, and a write its byte too.
 abbrev pub of_phase : Phase → List ℕ
@@ -53,3 +55,10 @@ of_chip c = of_edition c.edition ∷ of_core c.core ++ of_phase c.phase
 -- The test of two chips. That it answers exactly whether they are equal is a theorem.
 unfoldable pub same_state : Chip → Chip → Bool
 same_state c d = same_bytes (of_chip c) (of_chip d)
+
+-- The levels on a port's lines, and what stands in the latch of its input. Port C has no such latch.
+abbrev of_group : Port → Standing
+of_group p = record { levels = p.outside; latch = p.input.latch }
+
+abbrev pub standing_at : Chip → ℕ → Standing
+standing_at c x = cond (eqb x port_a) (of_group c.core.a) (cond (eqb x port_b) (of_group c.core.b) (record { levels = c.core.c.outside; latch = 0 }))

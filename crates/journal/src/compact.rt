@@ -1,27 +1,101 @@
 //! Compaction: of the words of a journal those whose events change the chip are moved to the front, with zero words behind them.
 ghost use Rattle.std.specs.Prelude.{◌≡◌, true, not, length};
+ghost use Rattle.bus.specs.Device.{levels_put_in};
+ghost use Rattle.bus.specs.Answers.{given_for};
+ghost use Rattle.chip.specs.Step.{device};
 ghost use Rattle.journal.specs.Words.{event_in, is_frame, all_frames};
-ghost use Rattle.journal.specs.Same.{same_state};
+ghost use Rattle.journal.specs.Same.{same_state, standing_at};
 ghost use Rattle.journal.specs.Trim.{after_word, kept_from, filled_up};
 
 use super::words::Logged;
-use bus::devices;
-use chip::Chip;
+use bus::devices::Device;
+use bus::events::Event;
+use bus::refusals::judge;
+use chip::{Chip, PORT_A, PORT_B};
 
-// Lets the event of a word happen to a copy of the chip, and says whether the copy is another chip then. A refused event changes nothing, so that
-// nothing is compared; and the lines of port C, which most levels are put on, are compared first. It is not inlined, so that both chips stay in
-// memory: as a part of its caller it has each of their fields in a place of its own, and moves all of them at every word.
-#[inline(never)]
-#[tactic(auto, using(crate::proofs::Packed::frame_small, crate::proofs::Derived::agree), unfolding(chip::specs::Step::step_of))]
-fn changes(chip: &Chip, copy: &mut Chip, word: u32) -> bool
-    requires frame { is_frame (event_in word) ≡ true }
-    requires same { copy.old ≡ chip.now }
-    ensures chip_after { copy.new ≡ after_word chip.now word }
-    ensures value { result ≡ not (same_state chip.now (after_word chip.now word)) }
+// The levels on a port's lines, and what stands in the latch of its input. Port C has no such latch.
+#[derive(Clone, Copy, Debug, PartialEq, Eq)]
+struct Standing {
+    levels: u8,
+    latch: u8,
+}
+
+// What tells whether levels that come onto a port change the chip. Those that stand there already make no edge on port C, but on port A or B they
+// may go through to the latch of its input.
+fn standing_at(chip: &Chip, port: u8) -> Standing
+    ensures { result ≡ standing_at chip.now port }
+{
+    match port {
+        PORT_A => Standing {
+            levels: chip.core.a.outside,
+            latch: chip.core.a.input.latch,
+        },
+        PORT_B => Standing {
+            levels: chip.core.b.outside,
+            latch: chip.core.b.input.latch,
+        },
+        _ => Standing {
+            levels: chip.core.c.outside,
+            latch: 0,
+        },
+    }
+}
+
+// Lets levels come onto a port, and says whether the chip is another one then.
+#[tactic(auto, using(crate::proofs::Changing::levels_told))]
+fn levels_change(chip: &mut Chip, port: u8, levels: u8) -> bool
+    ensures chip_after { chip.new ≡ levels_put_in device chip.old port levels }
+    ensures value { result ≡ not (same_state chip.old chip.new) }
+{
+    let before = standing_at(chip, port);
+    chip.put_levels(port, levels);
+    standing_at(chip, port) != before
+}
+
+// Lets an event happen to the chip, and says whether it is another one then. A refused event changes nothing, and a cycle that begins or ends
+// changes the bus at least, so that only a reset has the whole chip copied and compared.
+#[tactic(auto, using(crate::proofs::Changing::unchanged, crate::proofs::Derived::agree), unfolding(bus::specs::Device::step_in))]
+fn event_changes(chip: &mut Chip, event: Event) -> bool
+    ensures chip_after { chip.new ≡ (given_for device chip.old event).state }
+    ensures value { result ≡ not (same_state chip.old chip.new) }
+{
+    if judge(chip.limits(), chip.phase(), event).is_err() {
+        return false;
+    }
+    match event {
+        Event::Reset => {
+            let before = *chip;
+            chip.reset();
+            *chip != before
+        }
+        Event::BeginRead(address) => {
+            chip.begin_read(address);
+            true
+        }
+        Event::EndCycle => {
+            chip.end_cycle();
+            true
+        }
+        Event::BeginWrite(address, byte) => {
+            chip.begin_write(address, byte);
+            true
+        }
+        Event::OutsideLevels(port, levels) => levels_change(chip, port, levels),
+    }
+}
+
+// The same with the event of a word, which is a frame.
+#[tactic(auto, using(crate::proofs::Packed::frame_small, crate::proofs::Changing::unchanged), unfolding(chip::specs::Step::step_of, bus::specs::Device::step_in, bus::specs::Refusals::number_of, bus::specs::Kinds::is_kind))]
+fn changes(chip: &mut Chip, word: u32) -> bool
+    requires { is_frame (event_in word) ≡ true }
+    ensures chip_after { chip.new ≡ after_word chip.old word }
+    ensures value { result ≡ not (same_state chip.old chip.new) }
 {
     let logged = Logged::read(word);
-    devices::step_numbers(copy, logged.kind as u8, logged.first, logged.second).is_ok()
-        && (copy.core.c != chip.core.c || *copy != *chip)
+    match Event::numbered(logged.kind as u8, logged.first, logged.second) {
+        Some(event) => event_changes(chip, event),
+        None => false,
+    }
 }
 
 // Moves the words whose events change the chip to the front, leaves zero words behind them, and gives their count. Each word is taken out of its
@@ -31,15 +105,13 @@ pub(super) fn keep(words: &mut [u32], mut chip: Chip) -> usize
     ensures value { result ≡ length (kept_from chip words.old) }
     ensures words_after { words.new ≡ filled_up (kept_from chip words.old) (length words.old) }
 {
-    let mut copy = chip;
     let mut kept = 0;
     for at in 0..words.len() {
         let word = words[at];
         words[at] = 0;
-        if changes(&chip, &mut copy, word) {
+        if changes(&mut chip, word) {
             words[kept] = word;
             kept += 1;
-            chip = copy;
         }
     }
     kept

@@ -20,9 +20,10 @@ impl Logged {
     pub fn read(word: u32) -> Self
         ensures { result ≡ logged_in word }
     {
-        let [high, low, first, second] = word.to_be_bytes();
+        let [_, _, first, second] = word.to_be_bytes();
         Logged {
-            kind: u16::from_be_bytes([high, low]),
+            // Not from the two upper bytes, which the compiler would put together one by one.
+            kind: (word >> 16) as u16,
             first,
             second,
         }

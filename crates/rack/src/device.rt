@@ -7,7 +7,7 @@ ghost use Rattle.rack.specs.Views.{pins_at};
 use super::{CARD_EDITION, PLACES, Rack};
 use bus::devices::Device;
 use bus::{Limits, Phase, Pins};
-use chip::POWER_UP_WORD;
+use chip::{POWER_UP_WORD, outside, reads, settings, writes};
 use std::mem;
 
 // The place of a number, and its register there.
@@ -58,21 +58,23 @@ impl Device for Rack {
     fn reset(&mut self) {
         self.phase = Phase::Idle;
         for core in self.cores.iter_mut() {
-            core.renew(POWER_UP_WORD);
+            settings::renew(core, POWER_UP_WORD);
         }
     }
 
     fn begin_read(&mut self, number: u8) {
         self.phase = Phase::Reading(number);
-        self.cores[place_of(number)].begin_read(register_of(number));
+        reads::begin_read(&mut self.cores[place_of(number)], register_of(number));
     }
 
     fn end_cycle(&mut self) {
         match mem::replace(&mut self.phase, Phase::Idle) {
             Phase::Idle => {}
-            Phase::Reading(number) => self.cores[place_of(number)].end_read(register_of(number)),
+            Phase::Reading(number) => {
+                reads::end_read(&mut self.cores[place_of(number)], register_of(number))
+            }
             Phase::Writing(number, byte) => {
-                self.cores[place_of(number)].end_write(register_of(number), byte)
+                writes::end_write(&mut self.cores[place_of(number)], register_of(number), byte)
             }
         }
     }
@@ -84,6 +86,10 @@ impl Device for Rack {
 
     // Levels leave the bus as it is.
     fn put_levels(&mut self, number: u8, levels: u8) {
-        self.cores[place_of(number)].put_levels(register_of(number), levels);
+        outside::put_levels(
+            &mut self.cores[place_of(number)],
+            register_of(number),
+            levels,
+        );
     }
 }

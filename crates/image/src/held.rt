@@ -1,0 +1,127 @@
+//! The bytes of an image hold its chip: each part is read where it stands, and put back there.
+ghost use Rattle.std.specs.Prelude.{◌≡◌, ◌<◌};
+ghost use Rattle.image.specs.Loaded.{state_of};
+ghost use Rattle.image.specs.Good.{Told};
+ghost use Rattle.image.specs.Once.{told_once};
+ghost use Rattle.image.specs.Layout.{number_of};
+
+use super::places::{
+    BUS, ENABLES, LATCH_C, LATCHES, LENGTH, LEVELS_A, LEVELS_B, LEVELS_C, WORD, WRITES, WRITTEN,
+};
+use super::{load, save};
+use bus::Phase;
+use chip::channel::{Channel, Side};
+use chip::holder::Holder;
+use chip::{Enables, PORT_A, PORT_B};
+use control::Group;
+
+/// Names this crate as the one that says how an image holds a chip, and has no other use.
+pub struct Image;
+
+// The number of a channel, in the order in which an image has them.
+fn number(group: Group, side: Side) -> usize
+    ensures number { result ≡ number_of group side }
+    ensures below { result < 4 }
+{
+    match (group, side) {
+        (Group::A, Side::Input) => 0,
+        (Group::A, Side::Output) => 1,
+        (Group::B, Side::Input) => 2,
+        (Group::B, Side::Output) => 3,
+    }
+}
+
+impl Holder<Image> for [u8; LENGTH] {
+    ghost chip = { state_of };
+
+    ghost whole = { Told };
+
+    ghost in_one_way = { told_once };
+
+    #[tactic(auto, unfolding(crate::specs::Loaded::state_of))]
+    fn phase(&self) -> Phase {
+        load::phase(self[BUS], self[WRITTEN])
+    }
+
+    #[tactic(auto, using(crate::proofs::OwnCycle::a_reads, crate::proofs::OwnCycle::a_writes, crate::proofs::OwnCycle::b_reads, crate::proofs::OwnCycle::b_writes))]
+    fn runs(&self, group: Group, side: Side) -> bool {
+        self[BUS]
+            == match (group, side) {
+                (Group::A, Side::Input) => PORT_A,
+                (Group::A, Side::Output) => WRITES + PORT_A,
+                (Group::B, Side::Input) => PORT_B,
+                (Group::B, Side::Output) => WRITES + PORT_B,
+            }
+    }
+
+    #[tactic(auto, unfolding(crate::specs::Loaded::state_of))]
+    fn word(&self) -> u8 {
+        self[WORD]
+    }
+
+    #[tactic(auto, unfolding(crate::specs::Loaded::state_of))]
+    fn channel(&self, group: Group, side: Side) -> Channel {
+        load::channel(self, number(group, side))
+    }
+
+    #[tactic(auto, unfolding(crate::specs::Loaded::state_of))]
+    fn outside(&self, group: Group) -> u8 {
+        match group {
+            Group::A => self[LEVELS_A],
+            Group::B => self[LEVELS_B],
+        }
+    }
+
+    #[tactic(auto, unfolding(crate::specs::Loaded::state_of))]
+    fn latch_c(&self) -> u8 {
+        self[LATCH_C]
+    }
+
+    #[tactic(auto, unfolding(crate::specs::Loaded::state_of))]
+    fn lines(&self) -> u8 {
+        self[LEVELS_C]
+    }
+
+    #[tactic(auto, unfolding(crate::specs::Loaded::state_of))]
+    fn enables(&self) -> Enables {
+        load::enables(self[ENABLES])
+    }
+
+    #[tactic(auto, using(crate::proofs::PartPut::word_held, crate::proofs::PartPut::word_whole))]
+    fn put_word(&mut self, word: u8) {
+        self[WORD] = word;
+    }
+
+    #[tactic(auto, using(crate::proofs::PartPut::channel_held, crate::proofs::PartPut::channel_whole))]
+    fn put_channel(&mut self, group: Group, side: Side, channel: Channel) {
+        save::channel(self, number(group, side), &channel);
+    }
+
+    #[tactic(auto, using(crate::proofs::PartPut::latch_held, crate::proofs::PartPut::latch_whole))]
+    fn put_latch(&mut self, group: Group, side: Side, byte: u8) {
+        self[LATCHES + number(group, side)] = byte;
+    }
+
+    #[tactic(auto, using(crate::proofs::PartPut::a_held, crate::proofs::PartPut::a_whole, crate::proofs::PartPut::b_held, crate::proofs::PartPut::b_whole))]
+    fn put_outside(&mut self, group: Group, levels: u8) {
+        match group {
+            Group::A => self[LEVELS_A] = levels,
+            Group::B => self[LEVELS_B] = levels,
+        }
+    }
+
+    #[tactic(auto, using(crate::proofs::PartPut::latch_c_held, crate::proofs::PartPut::latch_c_whole))]
+    fn put_latch_c(&mut self, byte: u8) {
+        self[LATCH_C] = byte;
+    }
+
+    #[tactic(auto, using(crate::proofs::PartPut::lines_held, crate::proofs::PartPut::lines_whole))]
+    fn put_lines(&mut self, levels: u8) {
+        self[LEVELS_C] = levels;
+    }
+
+    #[tactic(auto, using(crate::proofs::PartPut::enables_held, crate::proofs::PartPut::enables_whole))]
+    fn put_enables(&mut self, enables: Enables) {
+        self[ENABLES] = save::enables(enables);
+    }
+}
