@@ -1,7 +1,7 @@
 /* Lets one kind of call happen many times in one model, to be counted from outside.
    usage: events                       prints what can be counted, a line each: its place, its calls in a round, its name
           events MODEL PLACE ROUNDS    MODEL: 0 proved, 1 plain, 2 quick, 3 a function that only returns */
-#include "models.h"
+#include "calls.h"
 
 int printf(const char *format, ...);
 int atoi(const char *text);
@@ -10,42 +10,7 @@ void *memcpy(void *to, const void *from, size_t length);
 
 enum { IMAGE = TOWANCHOR_IMAGE_SIZE, MOST_CALLS = 16, SIGCONT = 18 };
 
-enum function { STEP, PINS, TALLY, EXPLAIN };
-
 enum edition { OLDER = TOWANCHOR_8255A, NEWER = TOWANCHOR_82C55A };
-
-/* The operands of a call: a frame for a step, a port for the pins, a channel and a tally for a tally, a group for an explanation.
-   Those it lacks are 0. */
-struct call {
-    unsigned char operands[3];
-};
-
-/* One instruction, whatever the compiler: what a round costs with these is the driver's own, but for that one. */
-__attribute__((naked))
-static unsigned int empty_step(unsigned char *image, size_t length, unsigned char kind, unsigned char first, unsigned char second)
-{
-    __asm__("ret");
-}
-
-__attribute__((naked))
-static unsigned int empty_pins(const unsigned char *image, size_t length, unsigned char port)
-{
-    __asm__("ret");
-}
-
-__attribute__((naked))
-static unsigned int empty_tally(const unsigned char *image, size_t length, unsigned char channel, unsigned char tally)
-{
-    __asm__("ret");
-}
-
-__attribute__((naked))
-static unsigned int empty_explain(const unsigned char *image, size_t length, unsigned char group)
-{
-    __asm__("ret");
-}
-
-static const struct model empty = { "empty", empty_step, empty_pins, empty_tally, empty_explain };
 
 /* Histories are frames as in a script, with spaces between. Scale and printer: port A in mode 1 input, port B in mode 1 output,
    both enables set, STB and ACK high. */
@@ -127,16 +92,6 @@ static int parse(const char *text, struct call *calls)
         calls[count++] = call;
     }
     return count;
-}
-
-static unsigned int answer(const struct model *model, enum function function, unsigned char *image, const unsigned char *operands)
-{
-    switch (function) {
-    case STEP: return model->step(image, IMAGE, operands[0], operands[1], operands[2]);
-    case PINS: return model->pins(image, IMAGE, operands[0]);
-    case TALLY: return model->tally(image, IMAGE, operands[0], operands[1]);
-    default: return model->explain(image, IMAGE, operands[0]);
-    }
 }
 
 /* The loops that are counted: the same for each model, and each round from the same image. */

@@ -89,19 +89,9 @@ fn begin_read(image: &mut [u8; LENGTH], address: u8) -> u32
     match address {
         PORT_A => stepped(image, Event::BeginRead(PORT_A)),
         PORT_B => stepped(image, Event::BeginRead(PORT_B)),
-        PORT_C => begin_read_of_c(image),
+        PORT_C => stepped(image, Event::BeginRead(PORT_C)),
         _ => stepped(image, Event::BeginRead(address)),
     }
-}
-
-// Port C tells of so much that the compiler needs the stack for it, which the others then do without.
-#[inline(never)]
-fn begin_read_of_c(image: &mut [u8; LENGTH]) -> u32
-    requires { Checked image.old }
-    ensures value { result ≡ event_answer image.old (events.BeginRead 2) }
-    ensures image_after { image.new ≡ event_image image.old (events.BeginRead 2) }
-{
-    stepped(image, Event::BeginRead(PORT_C))
 }
 
 #[inline(never)]

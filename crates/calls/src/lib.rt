@@ -65,7 +65,7 @@ pub fn towanchor_step(image: &mut [u8], kind: u8, first: u8, second: u8) -> u32
 pub fn towanchor_pins(image: &[u8], port: u8) -> u32
     ensures { result ≡ pins_answer image.now port }
 {
-    answer(views::pins(image, port))
+    views::pins(image, port)
 }
 
 /// One of the seven tallies of one of the four channels. 8 where the bytes are no image, and then 2 where there is no such channel or tally.

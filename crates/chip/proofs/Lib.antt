@@ -18,5 +18,8 @@ pub mod Ends
 pub mod Outcome
 pub mod Editions
 pub mod OneSideOfB
+pub mod OwnCycle
+pub mod Requests
+pub mod StatusByRequests
 pub mod Fallen
 pub mod NoneWaits

@@ -9,10 +9,10 @@ use Rattle.control.proofs.ByBits.{b_takes, b_gives}
 use Rattle.chip.specs.declared.channel.Side.{Side}
 use Rattle.chip.specs.declared.channel.Side.TheVariants.{Input, Output}
 use Rattle.chip.specs.declared.Chip.{Chip}
-use Rattle.chip.specs.Handshakes.{line_pin, enable_of, running}
+use Rattle.chip.specs.Handshakes.{side_of_b, line_pin, enable_of, running}
 use Rattle.chip.specs.Status.{flag_at, request_of, intr_of}
 
-pub one_side_of_b : (c : Chip) → request_of c B (cond (strobed_input c.core.word B) Input Output) ≡ intr_of c B
+pub one_side_of_b : (c : Chip) → request_of c B (side_of_b c.core.word) ≡ intr_of c B
 unfolding request_of intr_of
 one_side_of_b c =
     chosen (strobed_input c.core.word B)

@@ -10,6 +10,7 @@ pub mod Read
 pub mod Write
 pub mod Levels
 pub mod Status
+pub mod Requests
 pub mod Reasons
 pub mod Reads
 pub mod Pins

@@ -51,7 +51,7 @@ pub trait Holder<Home> {
         ensures { result ≡ (chip self.now).core.c.latch };
 
     /// The levels put on the lines of port C from outside.
-    fn lines(&self) -> u8
+    fn outside_c(&self) -> u8
         ensures { result ≡ (chip self.now).core.c.outside };
 
     /// The interrupt enables.
@@ -84,7 +84,7 @@ pub trait Holder<Home> {
         ensures whole { whole self.old → whole self.new };
 
     /// Puts the levels of port C.
-    fn put_lines(&mut self, levels: u8)
+    fn put_outside_c(&mut self, levels: u8)
         ensures held { chip self.new ≡ core_put (chip self.old) (with_lines (chip self.old).core levels) }
         ensures whole { whole self.old → whole self.new };
 
@@ -125,7 +125,7 @@ impl Holder<Core> for Core {
         self.c.latch
     }
 
-    fn lines(&self) -> u8 {
+    fn outside_c(&self) -> u8 {
         self.c.outside
     }
 
@@ -166,7 +166,7 @@ impl Holder<Core> for Core {
         self.c.latch = byte;
     }
 
-    fn put_lines(&mut self, levels: u8) {
+    fn put_outside_c(&mut self, levels: u8) {
         self.c.outside = levels;
     }
 
@@ -202,8 +202,8 @@ impl Holder<Chip> for Chip {
         self.core.latch_c()
     }
 
-    fn lines(&self) -> u8 {
-        self.core.lines()
+    fn outside_c(&self) -> u8 {
+        self.core.outside_c()
     }
 
     fn enables(&self) -> Enables {
@@ -230,8 +230,8 @@ impl Holder<Chip> for Chip {
         self.core.put_latch_c(byte);
     }
 
-    fn put_lines(&mut self, levels: u8) {
-        self.core.put_lines(levels);
+    fn put_outside_c(&mut self, levels: u8) {
+        self.core.put_outside_c(levels);
     }
 
     fn put_enables(&mut self, enables: Enables) {

@@ -27,7 +27,7 @@ fn falls(before: u8, after: u8, pin: u8) -> bool
 fn line_falls<Home, H: Holder<Home>>(holder: &H, levels: u8, group: Group, side: Side) -> bool
     ensures { result ≡ line_falls (H.chip holder.now).core levels group side }
 {
-    falls(holder.lines(), levels, line_pin(group, side)) && strobes(holder.word(), group, side)
+    falls(holder.outside_c(), levels, line_pin(group, side)) && strobes(holder.word(), group, side)
 }
 
 // The lines of a group as the levels of port C become these: its STB falls or its ACK, or both or neither.
@@ -54,14 +54,14 @@ fn put_on_lines<Home, H: Holder<Home>>(holder: &mut H, levels: u8)
 {
     edges(holder, levels, Group::A);
     edges(holder, levels, Group::B);
-    holder.put_lines(levels);
+    holder.put_outside_c(levels);
 }
 
 // Whether the group's input lets levels through to its latch: it is strobed, and its STB is low.
 fn lets_through<Home, H: Holder<Home>>(holder: &H, group: Group) -> bool
     ensures { result ≡ lets_through (H.chip holder.now).core group }
 {
-    !bits::bit(holder.lines(), line_pin(group, Side::Input))
+    !bits::bit(holder.outside_c(), line_pin(group, Side::Input))
         && strobes(holder.word(), group, Side::Input)
 }
 

@@ -58,7 +58,7 @@ fn drives<Home, H: Holder<Home>>(holder: &H, group: Group) -> bool
     let word = holder.word();
     match group {
         Group::A => match Mode::of(word, Group::A) {
-            Mode::Two => !bits::bit(holder.lines(), ACK_A),
+            Mode::Two => !bits::bit(holder.outside_c(), ACK_A),
             Mode::Zero | Mode::One => mode::output(word, Group::A),
         },
         Group::B => mode::output(word, Group::B),
@@ -79,7 +79,7 @@ fn read_lines<Home, H: Holder<Home>>(holder: &H) -> u8
     ensures { result ≡ read_lines (H.chip holder.now) }
 {
     let word = holder.word();
-    let free = bits::blend(roles::outputs(word), holder.latch_c(), holder.lines());
+    let free = bits::blend(roles::outputs(word), holder.latch_c(), holder.outside_c());
     bits::blend(roles::handshake(word), status(holder), free)
 }
 
@@ -108,12 +108,13 @@ fn pins_of_lines<Home, H: Holder<Home>>(holder: &H) -> Pins
     let driven = bits::blend(used, SIGNALS, roles::outputs(word));
     let shown = bits::blend(used, status(holder), holder.latch_c());
     Pins {
-        levels: bits::blend(driven, shown, holder.lines()),
+        levels: bits::blend(driven, shown, holder.outside_c()),
         driven,
     }
 }
 
 /// The pins of a port. There are no ports but A, B and C: the levels of another are 00, and none is driven.
+#[inline(always)]
 #[tactic(auto, unfolding(crate::specs::Pins::pins_of))]
 pub fn pins<Home, H: Holder<Home>>(holder: &H, port: u8) -> Pins
     ensures { result ≡ pins_of (H.chip holder.now) port }

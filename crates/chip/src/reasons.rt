@@ -85,7 +85,7 @@ fn first_reason<Home, H: Holder<Home>>(holder: &H, group: Group, side: Side) -> 
         Reason::EnableOff
     } else if !flag(holder, group, side) {
         Reason::FlagWrong
-    } else if !bits::bit(holder.lines(), line_pin(group, side)) {
+    } else if !bits::bit(holder.outside_c(), line_pin(group, side)) {
         Reason::LineLow
     } else if holder.runs(group, side) {
         Reason::OwnCycle

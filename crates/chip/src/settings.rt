@@ -1,8 +1,8 @@
 //! What the control address sets: a mode word, which makes the chip anew, and one pin of port C, which may be a channel's flag.
-ghost use Rattle.std.specs.Prelude.{◌≡◌, ◌<◌, cond};
+ghost use Rattle.std.specs.Prelude.{◌≡◌, ◌<◌};
 ghost use Rattle.chip.specs.ModeWord.{after_mode_word};
 ghost use Rattle.chip.specs.ControlWord.{set_as, pin_set, flag_put, after_control_word};
-ghost use Rattle.chip.specs.declared.channel.Side.TheVariants.{Input, Output};
+ghost use Rattle.chip.specs.Handshakes.{side_of_b};
 ghost use Rattle.control.specs.Mode.{strobed_input};
 ghost use Rattle.control.specs.declared.Group.TheVariants.{B};
 ghost use Rattle.control.specs.Pins.{handshake_role};
@@ -38,7 +38,7 @@ fn force<Home, H: Holder<Home>>(holder: &mut H, group: Group, side: Side, on: bo
 
 // The side of group B that its one flag belongs to, where it has a handshake.
 pub(super) fn side_of_b(word: u8) -> Side
-    ensures { result ≡ cond (strobed_input word B) Input Output }
+    ensures { result ≡ side_of_b word }
 {
     if mode::strobed_input(word, Group::B) {
         Side::Input
@@ -83,7 +83,11 @@ fn set_line<Home, H: Holder<Home>>(holder: &mut H, pin: u8, on: bool)
         LINE_B => holder.put_enables(Enables { b: on, ..enables }),
         IBF_A => force(holder, Group::A, Side::Input, on),
         OBF_A => force(holder, Group::A, Side::Output, on),
-        FLAG_B => force(holder, Group::B, side_of_b(holder.word()), on),
+        // Each side by its name: of a side that is a value the compiler would work out where the channel stands.
+        FLAG_B => match side_of_b(holder.word()) {
+            Side::Input => force(holder, Group::B, Side::Input, on),
+            Side::Output => force(holder, Group::B, Side::Output, on),
+        },
         _ => {}
     }
 }

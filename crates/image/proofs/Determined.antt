@@ -45,8 +45,8 @@ held_outside_determined c x y = equation_determines
 pub held_latch_c_determined : Determines image_says.held.ArrayU8LENGTHHolderImage.latch_c.ended image.held.ArrayU8LENGTHHolderImage.latch_c.Reads.Learnt
 held_latch_c_determined c x y = equation_determines
 
-pub held_lines_determined : Determines image_says.held.ArrayU8LENGTHHolderImage.lines.ended image.held.ArrayU8LENGTHHolderImage.lines.Reads.Learnt
-held_lines_determined c x y = equation_determines
+pub held_outside_c_determined : Determines image_says.held.ArrayU8LENGTHHolderImage.outside_c.ended image.held.ArrayU8LENGTHHolderImage.outside_c.Reads.Learnt
+held_outside_c_determined c x y = equation_determines
 
 pub held_enables_determined : Determines image_says.held.ArrayU8LENGTHHolderImage.enables.ended image.held.ArrayU8LENGTHHolderImage.enables.Reads.Learnt
 held_enables_determined c x y = equation_determines
@@ -71,9 +71,9 @@ pub held_put_latch_c_determined
     : DeterminesWhere image_says.held.ArrayU8LENGTHHolderImage.put_latch_c.ended image.held.ArrayU8LENGTHHolderImage.put_latch_c.Reads.Learnt (λ c. Told c.1.0.now)
 held_put_latch_c_determined c told x y p q = whole_determines told_once told (refl, p) (refl, q)
 
-pub held_put_lines_determined
-    : DeterminesWhere image_says.held.ArrayU8LENGTHHolderImage.put_lines.ended image.held.ArrayU8LENGTHHolderImage.put_lines.Reads.Learnt (λ c. Told c.1.0.now)
-held_put_lines_determined c told x y p q = whole_determines told_once told (refl, p) (refl, q)
+pub held_put_outside_c_determined
+    : DeterminesWhere image_says.held.ArrayU8LENGTHHolderImage.put_outside_c.ended image.held.ArrayU8LENGTHHolderImage.put_outside_c.Reads.Learnt (λ c. Told c.1.0.now)
+held_put_outside_c_determined c told x y p q = whole_determines told_once told (refl, p) (refl, q)
 
 pub held_put_enables_determined
     : DeterminesWhere image_says.held.ArrayU8LENGTHHolderImage.put_enables.ended image.held.ArrayU8LENGTHHolderImage.put_enables.Reads.Learnt (λ c. Told c.1.0.now)

@@ -11,9 +11,9 @@ use Rattle.image.specs.Layout.{tally_bytes, fill_byte, bus_bytes, image_of}
 unfoldable pub saved_in : List ℕ → Chip → List ℕ
 saved_in l c = cond (eqb (length l) places.length) (image_of c) l
 
--- The same of the bus alone: what is behind stays, and what is before.
+-- Of the bus its two bytes: what is behind stays, and what is before.
 unfoldable pub bus_saved_in : List ℕ → Phase → List ℕ
-bus_saved_in l ph = cond (eqb (length l) places.length) (sets l places.bus (bus_bytes ph)) l
+bus_saved_in l ph = sets l places.bus (bus_bytes ph)
 
 -- Of one channel its tallies, its latch and its condition, by its number.
 abbrev pub channel_saved_in : List ℕ → ℕ → Channel → List ℕ

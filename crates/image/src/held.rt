@@ -78,7 +78,7 @@ impl Holder<Image> for [u8; LENGTH] {
     }
 
     #[tactic(auto, unfolding(crate::specs::Loaded::state_of))]
-    fn lines(&self) -> u8 {
+    fn outside_c(&self) -> u8 {
         self[LEVELS_C]
     }
 
@@ -116,7 +116,7 @@ impl Holder<Image> for [u8; LENGTH] {
     }
 
     #[tactic(auto, using(crate::proofs::PartPut::lines_held, crate::proofs::PartPut::lines_whole))]
-    fn put_lines(&mut self, levels: u8) {
+    fn put_outside_c(&mut self, levels: u8) {
         self[LEVELS_C] = levels;
     }
 

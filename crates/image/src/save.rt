@@ -111,8 +111,10 @@ fn put_core(image: &mut [u8; LENGTH], core: &Core)
     image[ENABLES] = enables(core.inte);
 }
 
-fn put_bus(image: &mut [u8; LENGTH], phase: Phase)
-    ensures { image.new ≡ sets image.old places.bus (bus_bytes phase) }
+/// What runs on the bus, for who leaves all else alone.
+#[tactic(auto, unfolding(crate::specs::Slices::bus_saved_in))]
+pub fn bus(image: &mut [u8; LENGTH], phase: Phase)
+    ensures { image.new ≡ bus_saved_in image.old phase }
 {
     image[BUS] = bus_byte(phase);
     image[WRITTEN] = written(phase);
@@ -123,7 +125,7 @@ fn whole(image: &mut [u8; LENGTH], chip: &Chip)
     ensures { image.new ≡ image_of chip.now }
 {
     put_core(image, &chip.core);
-    put_bus(image, chip.phase);
+    bus(image, chip.phase);
     image[EDITION] = edition_byte(chip.edition);
     put(image, UNUSED, &[0; LENGTH - UNUSED]);
 }
@@ -135,15 +137,5 @@ pub fn state(image: &mut [u8], chip: &Chip)
 {
     if let Some(image) = image.as_mut_array() {
         whole(image, chip);
-    }
-}
-
-/// The bus, for who leaves all else alone.
-#[tactic(auto, unfolding(crate::specs::Slices::bus_saved_in))]
-pub fn bus(image: &mut [u8], phase: Phase)
-    ensures { image.new ≡ bus_saved_in image.old phase }
-{
-    if let Some(image) = image.as_mut_array() {
-        put_bus(image, phase);
     }
 }

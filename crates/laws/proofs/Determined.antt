@@ -178,8 +178,8 @@ core_outside_determined c x y = equation_determines
 pub core_latch_c_determined : Determines chip_says.holder.CoreHolder.latch_c.ended chip.holder.CoreHolder.latch_c.Reads.Learnt
 core_latch_c_determined c x y = equation_determines
 
-pub core_lines_determined : Determines chip_says.holder.CoreHolder.lines.ended chip.holder.CoreHolder.lines.Reads.Learnt
-core_lines_determined c x y = equation_determines
+pub core_outside_c_determined : Determines chip_says.holder.CoreHolder.outside_c.ended chip.holder.CoreHolder.outside_c.Reads.Learnt
+core_outside_c_determined c x y = equation_determines
 
 pub core_enables_determined : Determines chip_says.holder.CoreHolder.enables.ended chip.holder.CoreHolder.enables.Reads.Learnt
 core_enables_determined c x y = equation_determines
@@ -199,8 +199,8 @@ core_put_outside_determined c x y p q = equations_determine (refl, ap core_of p.
 pub core_put_latch_c_determined : Determines chip_says.holder.CoreHolder.put_latch_c.ended chip.holder.CoreHolder.put_latch_c.Reads.Learnt
 core_put_latch_c_determined c x y p q = equations_determine (refl, ap core_of p.0) (refl, ap core_of q.0)
 
-pub core_put_lines_determined : Determines chip_says.holder.CoreHolder.put_lines.ended chip.holder.CoreHolder.put_lines.Reads.Learnt
-core_put_lines_determined c x y p q = equations_determine (refl, ap core_of p.0) (refl, ap core_of q.0)
+pub core_put_outside_c_determined : Determines chip_says.holder.CoreHolder.put_outside_c.ended chip.holder.CoreHolder.put_outside_c.Reads.Learnt
+core_put_outside_c_determined c x y p q = equations_determine (refl, ap core_of p.0) (refl, ap core_of q.0)
 
 pub core_put_enables_determined : Determines chip_says.holder.CoreHolder.put_enables.ended chip.holder.CoreHolder.put_enables.Reads.Learnt
 core_put_enables_determined c x y p q = equations_determine (refl, ap core_of p.0) (refl, ap core_of q.0)
@@ -223,8 +223,8 @@ chip_outside_determined c x y = equation_determines
 pub chip_latch_c_determined : Determines chip_says.holder.ChipHolder.latch_c.ended chip.holder.ChipHolder.latch_c.Reads.Learnt
 chip_latch_c_determined c x y = equation_determines
 
-pub chip_lines_determined : Determines chip_says.holder.ChipHolder.lines.ended chip.holder.ChipHolder.lines.Reads.Learnt
-chip_lines_determined c x y = equation_determines
+pub chip_outside_c_determined : Determines chip_says.holder.ChipHolder.outside_c.ended chip.holder.ChipHolder.outside_c.Reads.Learnt
+chip_outside_c_determined c x y = equation_determines
 
 pub chip_enables_determined : Determines chip_says.holder.ChipHolder.enables.ended chip.holder.ChipHolder.enables.Reads.Learnt
 chip_enables_determined c x y = equation_determines
@@ -244,8 +244,8 @@ chip_put_outside_determined c x y p q = equations_determine (refl, p.0) (refl, q
 pub chip_put_latch_c_determined : Determines chip_says.holder.ChipHolder.put_latch_c.ended chip.holder.ChipHolder.put_latch_c.Reads.Learnt
 chip_put_latch_c_determined c x y p q = equations_determine (refl, p.0) (refl, q.0)
 
-pub chip_put_lines_determined : Determines chip_says.holder.ChipHolder.put_lines.ended chip.holder.ChipHolder.put_lines.Reads.Learnt
-chip_put_lines_determined c x y p q = equations_determine (refl, p.0) (refl, q.0)
+pub chip_put_outside_c_determined : Determines chip_says.holder.ChipHolder.put_outside_c.ended chip.holder.ChipHolder.put_outside_c.Reads.Learnt
+chip_put_outside_c_determined c x y p q = equations_determine (refl, p.0) (refl, q.0)
 
 pub chip_put_enables_determined : Determines chip_says.holder.ChipHolder.put_enables.ended chip.holder.ChipHolder.put_enables.Reads.Learnt
 chip_put_enables_determined c x y p q = equations_determine (refl, p.0) (refl, q.0)

@@ -4,6 +4,7 @@ use lib.Seq.{sets, sets-eq}
 use Rattle.chip.specs.declared.Chip.{Chip}
 use Rattle.image.specs.Places as places
 use Rattle.image.specs.Layout.{core_bytes, bus_bytes, edition_byte, image_of}
+use Rattle.image.specs.Slices.{bus_saved_in}
 use Rattle.image.proofs.save.whole.Goals as goal
 
 filled : (l : List ℕ) (c : Chip) → length l ≡ places.length
@@ -16,6 +17,7 @@ filled l c h =
     ∙ rw (drop_of_length-le l {i = places.length} (omega (arith, h))) (append-nil (image_of c))
 
 pub returns : goal.returns
+unfolding bus_saved_in
 returns c =
-    rw (c.put.ensures, c.edition_byte.ensures, c.put_bus.ensures, c.put_core.ensures)
+    rw (c.put.ensures, c.edition_byte.ensures, c.bus.ensures, c.put_core.ensures)
     (filled c.args.image.now c.args.chip.now (search rules))
