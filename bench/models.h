@@ -2,16 +2,15 @@
 #ifndef MODELS_H
 #define MODELS_H
 
-#include "plain.h"
-#include "quick.h"
+#include "functions.h"
 #include "towanchor.h"
 
 struct model {
     const char *name;
-    unsigned int (*step)(unsigned char *image, size_t length, unsigned char kind, unsigned char first, unsigned char second);
-    unsigned int (*pins)(const unsigned char *image, size_t length, unsigned char port);
-    unsigned int (*tally)(const unsigned char *image, size_t length, unsigned char channel, unsigned char tally);
-    unsigned int (*explain)(const unsigned char *image, size_t length, unsigned char group);
+    step_function *step;
+    pins_function *pins;
+    tally_function *tally;
+    explain_function *explain;
 };
 
 enum { PROVED, PLAIN, QUICK, MODELS };

@@ -2,7 +2,7 @@
    chip that lies in memory as the image does. */
 #include "chip.h"
 #include "explain.h"
-#include "plain.h"
+#include "functions.h"
 
 int memcmp(const void *left, const void *right, size_t length);
 

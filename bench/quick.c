@@ -12,7 +12,7 @@
    Without them the model took 43.9 instructions by the kit's clang, and 43.1 by gcc, for an event of scale and printer. */
 #include "chip.h"
 #include "explain.h"
-#include "quick.h"
+#include "functions.h"
 
 void *memcpy(void *to, const void *from, size_t length);
 

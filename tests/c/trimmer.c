@@ -1,7 +1,7 @@
 /* The second trimmer: frames by a table of their shapes, power-up byte by byte, events by the plain model, states compared as images. */
 #include "trimmer.h"
 
-#include "../../bench/plain.h"
+#include "../../bench/functions.h"
 #include "layout.h"
 
 #include <string.h>

@@ -1,5 +1,5 @@
 -- The bytes in which a rule rewrote a chip are the image of what it made of it; and so they are with another phase of the bus.
--- Rests on image's Parts.
+-- Rests on image's BusSaved.
 use Rattle.std.proofs.Common.{◌≡◌, ◌∙◌, ap, sym, List, ℕ}
 use Rattle.bus.specs.declared.Phase.{Phase}
 use Rattle.chip.specs.declared.Chip.{Chip}
@@ -8,7 +8,7 @@ use Rattle.image.specs.Layout.{image_of}
 use Rattle.image.specs.Loaded.{state_of}
 use Rattle.image.specs.Good.{Told}
 use Rattle.image.specs.Slices.{bus_saved_in}
-use Rattle.image.proofs.Parts.{bus_saved}
+use Rattle.image.proofs.BusSaved.{bus_saved}
 
 module _ (l : List ℕ) (told : Told l) (c : Chip) (held : state_of l ≡ c) where
   pub told_by : l ≡ image_of c

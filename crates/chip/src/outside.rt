@@ -19,7 +19,7 @@ fn falls(before: u8, after: u8, pin: u8) -> bool
     requires { pin < 8 }
     ensures { result ≡ fallen before after pin }
 {
-    let all_that_fall = bits::blend(after, 0, before);
+    let all_that_fall = before & !after;
     bits::bit(all_that_fall, pin)
 }
 

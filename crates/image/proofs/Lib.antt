@@ -2,6 +2,8 @@ pub mod Copied
 pub mod Cycle
 pub mod Zeros
 pub mod ByByte
+pub mod Left
+pub mod SixBytes
 pub mod Together
 pub mod Running
 pub mod Long
@@ -9,7 +11,7 @@ pub mod ComesBack
 pub mod Fitting
 pub mod SameBytes
 pub mod OneImage
-pub mod Parts
+pub mod BusSaved
 pub mod MovedBytes
 pub mod OlderLong
 pub mod OlderComesBack

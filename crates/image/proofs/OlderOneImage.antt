@@ -1,5 +1,5 @@
 -- Older images are of the states of the older edition that have an image, and become those images.
--- Rests on Fitting, Parts, MovedBytes and OlderSameBytes.
+-- Rests on Fitting, BusSaved, MovedBytes and OlderSameBytes.
 use Rattle.std.proofs.Common.{◌≡◌, ◌∙◌, refl, ap, sym, true, ◌&&◌, List, ℕ, ltb}
 use mathlib.Core.Bool.{and-true}
 use Rattle.bus.specs.declared.Phase.{Phase}
@@ -11,7 +11,7 @@ use Rattle.image.specs.Layout.{written_byte, image_of}
 use Rattle.image.specs.Good.{names_its_place, has_image, Bytes}
 use Rattle.image.specs.Slices.{bus_saved_in}
 use Rattle.image.proofs.Fitting.{core_allowed, core_fits_lem, all_asked}
-use Rattle.image.proofs.Parts.{over_bus}
+use Rattle.image.proofs.BusSaved.{over_bus}
 use Rattle.image.specs.OlderLayout.{bus_byte, address_byte, older_of}
 use Rattle.image.specs.OlderLoaded.{older_state}
 use Rattle.image.specs.OlderGood.{cycle_fits, is_older}

@@ -1,13 +1,10 @@
 -- The eight bytes from the conditions on, judged together as one number.
--- Rests on Zeros and ByByte, and on bits' Tested and Logic.
-use Rattle.std.proofs.Common.{◌≡◌, ◌∙◌, refl, ap, sym, subst, Bool, true, false, cond, ◌&&◌, List, [], ◌∷◌, ◌++◌, ℕ, ◌+◌, ◌*◌, ◌/◌, ◌%◌, ◌^◌, ◌<◌, arith, eqb, ltb, ltb-true, ltb-false, le-ltb, ne_eqb}
-use mathlib.Core.Bool.{and-true, and-false}
-use borrow.Author.Tests.{eqb-false}
+-- Rests on Left, SixBytes, Zeros and ByByte, and on bits' Logic.
+use Rattle.std.proofs.Common.{◌≡◌, ◌∙◌, refl, ap, sym, subst, Bool, true, false, ◌&&◌, List, [], ◌∷◌, ◌++◌, ℕ, ◌+◌, ◌*◌, ◌/◌, ◌%◌, ◌^◌, ◌<◌, arith, eqb, ltb, ltb-true, ltb-false}
 use lib.Bits.{bit_and, bit_or, bit_xor, and_block, or_block, xor_block, xor_zero_r, xor_lt}
 use lib.Lanes.{zip2}
-use Rattle.bits.specs.Bit.{bit_of, value_of}
+use Rattle.bits.specs.Bit.{bit_of}
 use Rattle.bits.proofs.Logic.{contrary}
-use Rattle.bits.proofs.Tested.{bits, numbers}
 use Rattle.control.specs.declared.Group.{Group}
 use Rattle.control.specs.declared.Group.TheVariants.{A, B}
 use Rattle.chip.specs.declared.channel.Side.{Side}
@@ -17,77 +14,10 @@ use Rattle.image.specs.Places as places
 use Rattle.image.specs.Loaded.{byte_at, wide_at, eight_at}
 use Rattle.image.specs.Good.{enables_fit, fill_fits, core_fits, Bytes}
 use Rattle.image.specs.Masks.{masks_of}
+use Rattle.image.proofs.Left.{left, of_input, of_output, input_left, output_left, word_left, enables_left, all_left, full_left, none_full}
+use Rattle.image.proofs.SixBytes.{by_lowest, by_third, in_order, without_first, without_third}
 use Rattle.image.proofs.Zeros.{value, value_zero, by_eight, as_one}
 use Rattle.image.proofs.ByByte.{byte_by_byte, lowest_first, joined, masked, lowest, third, six, two}
-
--- What is left of a byte that is joined with another and masked tells whether the byte fits. The condition of an input is joined with the
--- next number, and any other byte with itself.
-abbrev left : ℕ → ℕ → ℕ → ℕ
-left b other mask = bit_and (bit_or b other) mask
-
-abbrev of_input : Bool → ℕ
-of_input on = cond on 252 254
-
-abbrev of_output : Bool → ℕ
-of_output on = cond on 254 255
-
-input_left : (on : Bool) (b : ℕ) → b < 255 → eqb (left b (b + 1) (of_input on)) 0 ≡ fill_fits on Input b
-input_left true = bits 255 (λ b. eqb (left b (b + 1) 252) 0) (λ b. ltb b 3) tt
-input_left false = bits 255 (λ b. eqb (left b (b + 1) 254) 0) (λ b. ltb b 1) tt
-
-output_left : (on : Bool) (b : ℕ) → b < 256 → eqb (left b b (of_output on)) 0 ≡ fill_fits on Output b
-output_left true = bits 256 (λ b. eqb (left b b 254) 0) (λ b. ltb b 2) tt
-output_left false = bits 256 (λ b. eqb (left b b 255) 0) (λ b. ltb b 1) tt
-
-word_left : (b : ℕ) → b < 256 → eqb (left (bit_xor b 128) (bit_xor b 128) 128) 0 ≡ bit_of b 7
-unfolding bit_of
-word_left = bits 256 (λ b. eqb (left (bit_xor b 128) (bit_xor b 128) 128) 0) (λ b. bit_of b 7) tt
-
-enables_left : (b : ℕ) → b < 256 → eqb (left b b 171) 0 ≡ enables_fit b
-unfolding bit_of value_of
-enables_left = bits 256 (λ b. eqb (left b b 171) 0) enables_fit tt
-
--- The two bytes of the bus are left as they are.
-all_left : (b : ℕ) → b < 256 → left b b 255 ≡ b
-all_left = numbers 256 (λ b. left b b 255) (λ b. b) tt
-
--- The number next to 255 is no byte, and adds to the byte above. So much is left of 255 whatever it is joined with, and it does not fit.
-full_left : (on : Bool) (other : ℕ) → other < 256 → eqb (left 255 other (of_input on)) 0 ≡ false
-full_left true = bits 256 (λ other. eqb (left 255 other 252) 0) (λ other. false) tt
-full_left false = bits 256 (λ other. eqb (left 255 other 254) 0) (λ other. false) tt
-
-none_full : (on : Bool) (b : ℕ) → b ≡ 255 → fill_fits on Input b ≡ false
-none_full true b is = le-ltb b 3 (omega (arith, is))
-none_full false b is = le-ltb b 1 (omega (arith, is))
-
--- Where one byte is not 0, the lowest six together are not.
-by_lowest : (n : ℕ) → eqb (n % 256) 0 ≡ false → eqb (n % 2 ^ 48) 0 ≡ false
-by_lowest n is = ne_eqb (n % 2 ^ 48) 0 (λ e. eqb-false (n % 256) 0 is (omega (arith, e)))
-
-by_third : (n : ℕ) → eqb (n / 2 ^ 16 % 256) 0 ≡ false → eqb (n % 2 ^ 48) 0 ≡ false
-by_third n is = ne_eqb (n % 2 ^ 48) 0 (λ e. eqb-false (n / 2 ^ 16 % 256) 0 is (omega (arith, e)))
-
--- What is asked of six bytes, in their order and in that of the definitions.
-in_order : (a b c d w e : Bool) → (a && (b && (c && (d && (w && (e && true)))))) ≡ (w && (a && b && c && d) && e)
-in_order false b c d false e = refl
-in_order false b c d true e = refl
-in_order true false c d false e = refl
-in_order true false c d true e = refl
-in_order true true false d false e = refl
-in_order true true false d true e = refl
-in_order true true true false false e = refl
-in_order true true true false true e = refl
-in_order true true true true false e = refl
-in_order true true true true true e = and-true e
-
-without_first : (w a b c d e : Bool) → a ≡ false → (w && (a && b && c && d) && e) ≡ false
-without_first w a b c d e is = ap (λ (z : Bool). w && (z && b && c && d) && e) is ∙ ap (λ (z : Bool). z && e) (and-false w)
-
-without_third : (w a b c d e : Bool) → c ≡ false → (w && (a && b && c && d) && e) ≡ false
-without_third w a b c d e is =
-    ap (λ (z : Bool). w && (a && b && z && d) && e) is
-    ∙ ap (λ (z : Bool). w && (z && d) && e) (and-false (a && b))
-    ∙ ap (λ (z : Bool). z && e) (and-false w)
 
 module _ (l : List ℕ) (small : (i : ℕ) → byte_at l i < 256) where
   abbrev a_in : ℕ
