@@ -53,27 +53,39 @@ since() ( # MOMENT
     printf '%s s\n' $((seconds % 60))
 )
 
-# Says on standard error how many crates are proved, and since when they are being proved: on a terminal in one line, which is written anew
-# each second until the next is told, and elsewhere, or where a script that passes on other words sets in_lines, in a line of its own.
+# Says on standard error how many crates are proved, and since when they are being proved, and says it again until the next is told: on a
+# terminal in one line, which is written anew each second; elsewhere, or if a script that passes on other words sets in_lines, in a line of its
+# own, which comes again at least every half minute. Only a test sets seconds_between, so that it need not wait for that.
 ticker=
 in_lines=
 is_one_line() { [ -t 2 ] && [ -z "$in_lines" ]; }
 
 tell() { # WHO MOMENT PROVED COUNT REST
     stop_telling
+    tell_once "$@"
+    tell_again "$@" >/dev/null &
+    ticker=$!
+}
+
+# It ends with the script, however that ends. The sleep that it leaves then ends within a second, and holds none of the script's files open.
+tell_again() {
+    if is_one_line; then between=1; else between=${seconds_between:-25}; fi
+    slept=0
+    while sleep 1 2>/dev/null && kill -0 $$ 2>/dev/null; do
+        slept=$((slept + 1))
+        [ $((slept % between)) -ne 0 ] || tell_once "$@"
+    done
+}
+
+tell_once() {
     if is_one_line; then
-        write_anew "$@"
-        # It ends with the script, however that ends.
-        while sleep 1 && kill -0 $$ 2>/dev/null; do write_anew "$@"; done >/dev/null &
-        ticker=$!
+        printf '\r%-72s' "$(count_told "$@")" >&2
     else
         printf '%s\n' "$(count_told "$@")" >&2
     fi
 }
 
 count_told() { printf '%s\n' "$1: $3 of $4 crates are proved after $(since "$2")$5"; }
-
-write_anew() { printf '\r%-72s' "$(count_told "$@")" >&2; }
 
 stop_telling() {
     [ -n "$ticker" ] || return 0
