@@ -36,10 +36,9 @@ pub(super) fn put(out: &mut [u8], bytes: &[u8])
     requires { length bytes.now < length out.old }
     ensures { out.new ≡ map raised bytes.now ++ lf ∷ drop (suc (length bytes.now)) out.old }
 {
-    let line = &mut out[..bytes.len()];
-    line.copy_from_slice(bytes);
-    for code in line.iter_mut() {
-        *code = raise(*code);
+    // `copy_from_slice` would be a call of C's memcpy, which a C program would then have to bring.
+    for (at, &code) in bytes.iter().enumerate() {
+        out[at] = raise(code);
     }
     out[bytes.len()] = LF;
 }
