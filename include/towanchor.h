@@ -133,10 +133,11 @@ extern "C" {
 #define TOWANCHOR_WORD_FIRST(word) (((word) >> 8) & 0xFFu)    /* the first operand */
 #define TOWANCHOR_WORD_SECOND(word) ((word) & 0xFFu)          /* the second operand */
 
-/* Scripts: an event can also be a line of text, as in the script files that README.md describes. A line is a frame in hexadecimal: the kind
- * and just the operands that it takes, two digits each, 0 to 9 and A to F, and then a line feed. TOWANCHOR_RESET and TOWANCHOR_END_CYCLE
- * take none, TOWANCHOR_BEGIN_READ takes one, TOWANCHOR_BEGIN_WRITE and TOWANCHOR_OUTSIDE_LEVELS take two: "0303B0" begins the write of B0 at
- * TOWANCHOR_CONTROL. A script that was typed or captured may have lines that are no frames; towanchor_mend makes a clean one of it. */
+/* Scripts: an event can also be a line of text, as in the script files that examples/README.md of Towanchor's repository describes. A line is a
+ * frame in hexadecimal: the kind and just the operands that it takes, two digits each, 0 to 9 and A to F, and then a line feed. TOWANCHOR_RESET
+ * and TOWANCHOR_END_CYCLE take none, TOWANCHOR_BEGIN_READ takes one, TOWANCHOR_BEGIN_WRITE and TOWANCHOR_OUTSIDE_LEVELS take two: "0303B0"
+ * begins the write of B0 at TOWANCHOR_CONTROL. A script that was typed or captured may have lines that are no frames; towanchor_mend makes a
+ * clean one of it. */
 #define TOWANCHOR_LONGEST_SCRIPT 4096 /* the most bytes that a script has */
 
 /* Signs: what became of a line, in the report of towanchor_mend. */
@@ -185,7 +186,12 @@ unsigned int towanchor_power_up_as(unsigned char *image, size_t length, unsigned
 unsigned int towanchor_convert(const unsigned char *older, size_t older_length, unsigned char *image, size_t length);
 
 /* Lets one event happen to the chip. Answers the number, and the byte (TOWANCHOR_BYTE) where the event is the beginning of a read
- * and is accepted; else that byte is 0. */
+ * and is accepted; else that byte is 0.
+ *
+ * Beware of numbers above 0xFF. C cuts an argument for an unsigned char to its lowest eight bits without a word, so that no function sees
+ * the rest: kind 0x102 ends a cycle, and address 0x100 is TOWANCHOR_A, where TOWANCHOR_NO_SUCH_KIND and TOWANCHOR_OUT_OF_RANGE are to be
+ * expected. A host whose kinds or addresses are wider compares them with 0xFF before the call. So it is with each argument of that type
+ * here: an edition, levels, a port, a channel, a tally, a group. -Wconversion has gcc and clang warn of such arguments. */
 unsigned int towanchor_step(unsigned char *image, size_t length, unsigned char kind, unsigned char first, unsigned char second);
 
 /* Shows a port's eight pins: their levels (TOWANCHOR_LEVELS) and which of them the chip drives (TOWANCHOR_DRIVEN); a pin that it
@@ -225,8 +231,14 @@ unsigned int towanchor_trim(unsigned int *words, size_t count, unsigned char edi
                             unsigned char levels_c);
 
 /* Mends a script that was typed or captured: writes a clean one, and a report of what became of each line. 'text' points to 'text_length'
- * bytes, which are not written to, 'clean' to 'clean_room' bytes and 'report' to 'report_room'; no two of the three share a byte. Room for
- * text_length + 1 bytes of clean text and for text_length signs is always enough.
+ * bytes, which are not written to, 'clean' to 'clean_room' bytes and 'report' to 'report_room'. Room for text_length + 1 bytes of clean text
+ * and for text_length signs is always enough.
+ *
+ * The host keeps the three apart: no two share a byte. Nothing checks that, and nothing is promised of a call in which two do. A script that is
+ * mended in its own place, with 'clean' at 'text', loses its lines before the report is made of them: they were counted first, the clean text was
+ * put over them, and the report is made of what then stands there. It has the signs of other lines, up to twice as many as were counted, and
+ * those that are too many are written behind 'report_room', over whatever stands there. A host that wants the clean text where the script was
+ * mends into another buffer, and copies it back.
  *
  * Each line feed ends a line, which may be blank. What follows the last one, if anything does, is a line too; an empty text has none. First
  * such a last line gets the line feed that it lacks. Then one carriage return before each line feed is dropped, and no more than one. Then

@@ -108,9 +108,20 @@ static void refused_by(unsigned char edition)
     event(TOWANCHOR_RESET, 9, 9, TOWANCHOR_ACCEPTED, "a reset, operands ignored");
 }
 
+/* What towanchor.h warns of: C cuts a number above 0xFF before a function sees it, so that the event is another one, and no refusal comes. */
+static void cut(void)
+{
+    unsigned int address = 0x100 + TOWANCHOR_A, kind = 0x100 + TOWANCHOR_END_CYCLE;
+
+    check(towanchor_power_up(image, SIZE) == TOWANCHOR_ACCEPTED, "power-up", 0);
+    check(TOWANCHOR_NUMBER(towanchor_step(image, SIZE, TOWANCHOR_BEGIN_READ, address, 0)) == TOWANCHOR_ACCEPTED, "address 0x100 is cut", address);
+    check(TOWANCHOR_NUMBER(towanchor_step(image, SIZE, kind, 0, 0)) == TOWANCHOR_ACCEPTED, "kind 0x102 is cut", kind);
+}
+
 int main(void)
 {
     refused_by(TOWANCHOR_8255A);
     refused_by(TOWANCHOR_82C55A);
+    cut();
     return checked();
 }
