@@ -189,9 +189,9 @@ unsigned int towanchor_convert(const unsigned char *older, size_t older_length, 
  * and is accepted; else that byte is 0.
  *
  * Beware of numbers above 0xFF. C cuts an argument for an unsigned char to its lowest eight bits without a word, so that no function sees
- * the rest: kind 0x102 ends a cycle, and address 0x100 is TOWANCHOR_A, where TOWANCHOR_NO_SUCH_KIND and TOWANCHOR_OUT_OF_RANGE are to be
- * expected. A host whose kinds or addresses are wider compares them with 0xFF before the call. So it is with each argument of that type
- * here: an edition, levels, a port, a channel, a tally, a group. -Wconversion has gcc and clang warn of such arguments. */
+ * the rest: kind 0x102 ends a cycle, address 0x100 is TOWANCHOR_A, and neither is refused. A host whose kinds or addresses are wider compares
+ * them with 0xFF before the call. So it is with every argument of that type here: an edition, levels, a port, a channel, a tally, a group.
+ * -Wconversion has gcc and clang warn of such arguments. */
 unsigned int towanchor_step(unsigned char *image, size_t length, unsigned char kind, unsigned char first, unsigned char second);
 
 /* Shows a port's eight pins: their levels (TOWANCHOR_LEVELS) and which of them the chip drives (TOWANCHOR_DRIVEN); a pin that it
