@@ -47,7 +47,7 @@ module _ (c : Chip) (a : Account) (k : Agrees c a) where
       ∙ sym (ap (λ r. cond (accepts r.edition r.phase (kind_of e)) (byte_for a (kind_of e)) 0) k.surroundings)
 
 -- Over a history. The 8355 has an induction of its own: `run` and `over` are other functions there, and no fold that both share.
-agrees_over : (es : List Event) (c : Chip) (a : Account) → Agrees c a → Agrees (run c es) (over a es)
+pub agrees_over : (es : List Event) (c : Chip) (a : Account) → Agrees c a → Agrees (run c es) (over a es)
 agrees_over [] c a k = k
 agrees_over (e ∷ es) c a k = agrees_over es (stepped c e).chip (account_next a e) (agrees_next c a e k)
 

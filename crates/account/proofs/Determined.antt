@@ -8,6 +8,9 @@ use Rattle.account.proofs as account
 pub chip_shows_what_the_account_says_determined : Determines account_says.chip_shows_what_the_account_says.ended account.chip_shows_what_the_account_says.Reads.Learnt
 chip_shows_what_the_account_says_determined c x y p q = refl
 
+pub account_has_what_the_chip_holds_determined : Determines account_says.account_has_what_the_chip_holds.ended account.account_has_what_the_chip_holds.Reads.Learnt
+account_has_what_the_chip_holds_determined c x y p q = refl
+
 pub mode_words_are_read_back_determined : Determines account_says.mode_words_are_read_back.ended account.mode_words_are_read_back.Reads.Learnt
 mode_words_are_read_back_determined c x y p q = refl
 

@@ -18,7 +18,7 @@ use Rattle.account.proofs.Ports.{outside_here}
 use Rattle.account.proofs.Agrees.{Agrees, line_bit}
 
 -- The pins of the lines.
-pin_below : (g : Group) (s : Side) → strobe_pin g s < 8
+pub pin_below : (g : Group) (s : Side) → strobe_pin g s < 8
 pin_below A Input = lit< tt
 pin_below A Output = lit< tt
 pin_below B Input = lit< tt

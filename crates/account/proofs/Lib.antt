@@ -20,6 +20,8 @@ pub mod Reasons
 pub mod Numbers
 pub mod Accounted
 pub mod Account
+pub mod Holds
+pub mod SameTallies
 pub mod Unreached
 pub mod Lines
 pub mod Script

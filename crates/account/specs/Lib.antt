@@ -4,6 +4,7 @@ pub mod Account
 pub mod Views
 pub mod Reasons
 pub mod Promise
+pub mod Holds
 pub mod Unreached
 pub mod ReadBack
 pub mod Script

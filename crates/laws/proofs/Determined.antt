@@ -325,6 +325,9 @@ reads_of_control_tell_the_mode_word_determined c x y p q = refl
 pub errors_of_other_models_are_forbidden_determined : Determines laws_says.errors_of_other_models_are_forbidden.ended laws.errors_of_other_models_are_forbidden.Reads.Learnt
 errors_of_other_models_are_forbidden_determined c x y p q = refl
 
+pub exceptions_are_these_determined : Determines laws_says.exceptions_are_these.ended laws.exceptions_are_these.Reads.Learnt
+exceptions_are_these_determined c x y p q = refl
+
 pub marked_cases_hold_determined : Determines laws_says.marked_cases_hold.ended laws.marked_cases_hold.Reads.Learnt
 marked_cases_hold_determined c x y p q = refl
 

@@ -4,6 +4,7 @@ pub mod ChannelPins
 pub mod ByEvent
 pub mod OneEnd
 pub mod Interrupts
+pub mod PinsByWords
 pub mod InterruptPins
 pub mod Quiet
 pub mod Altered
@@ -27,6 +28,7 @@ pub mod OneWay
 pub mod ModeTwo
 pub mod OnePin
 pub mod PortC
+pub mod LatchOfC
 pub mod Chart
 pub mod OtherModels
 pub mod Marked
@@ -34,6 +36,7 @@ pub mod ShowsAlike
 pub mod Editions
 pub mod ControlReads
 pub mod ControlExamples
+pub mod Exceptions
 pub mod Determined
 pub mod Unreached
 pub mod Unstrobed

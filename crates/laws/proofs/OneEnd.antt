@@ -25,7 +25,7 @@ use Rattle.laws.specs.Anew.{Freed}
 use Rattle.laws.proofs.Cycles.{facts, no_kind_refused}
 use Rattle.laws.proofs.FillAfter.{puts_here}
 
--- The end of whatever runs is accepted, as on any device. The idle bus itself refuses with 5: idle_ends_nothing, in chip's Ends.
+-- The end of whatever runs is accepted, as on any device.
 pub cycle_ends_lem : (c : Chip) (x d : ℕ) → ¬ (c.phase ≡ Idle) → Freed (step_of c 2 x d)
 unfolding step_of
 cycle_ends_lem c x d runs = record {

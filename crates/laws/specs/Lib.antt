@@ -1,6 +1,5 @@
 pub mod Seen
 pub mod PlainBits
-pub mod ChannelPins
 pub mod Anew
 pub mod Kept
 pub mod PowerUp
@@ -13,10 +12,12 @@ pub mod Loads
 pub mod Flags
 pub mod Forcing
 pub mod Halves
+pub mod ChannelPins
 pub mod Quiet
 pub mod Altered
 pub mod Ends
 pub mod OtherModels
+pub mod Exceptions
 pub mod Marked
 pub mod Editions
 pub mod ControlExamples

@@ -2,13 +2,14 @@
 //! the chip's contracts name.
 #![tactic(auto)]
 
-ghost use Rattle.std.specs.Prelude.{◌≡◌, Bool, true, false, cond, ◌++◌, ℕ, ◌<◌, ltb, length};
+ghost use Rattle.std.specs.Prelude.{◌≡◌, ◌↔◌, Bool, true, false, cond, ◌++◌, ℕ, ◌<◌, ltb, length, map};
 ghost use Rattle.bits.specs.Bit.{bit_of};
 ghost use Rattle.bus.specs.Kinds.{no_kind};
 ghost use Rattle.bus.specs.Histories.{levels, write};
 ghost use Rattle.bus.specs.Refusals.{limits_of, number_of};
 ghost use Rattle.bus.specs.Facts.{Facts};
-ghost use Rattle.bus.specs.declared.Phase.TheVariants.{Reading, Writing};
+ghost use Rattle.bus.specs.declared.Phase.{Phase};
+ghost use Rattle.bus.specs.declared.Phase.TheVariants.{Idle, Reading, Writing};
 ghost use Rattle.control.specs.declared.Group.{Group};
 ghost use Rattle.control.specs.declared.Group.TheVariants.{A, B};
 ghost use Rattle.control.specs.Mode.{mode_of, input_of, directions_of};
@@ -23,8 +24,8 @@ ghost use Rattle.chip.specs.State.{power_up_as, channel_of};
 ghost use Rattle.chip.specs.Handshakes.{own_address, strobed, line_pin, flag_pin, enable_of, running};
 ghost use Rattle.chip.specs.Status.{intr_of};
 ghost use Rattle.chip.specs.Reasons.{reason_of, explained_in, explained_of, is_high, says_high, numbers_of};
-ghost use Rattle.chip.specs.Reads.{read_as, read_of};
-ghost use Rattle.chip.specs.Pins.{level_as, pins_of};
+ghost use Rattle.chip.specs.Reads.{read_of};
+ghost use Rattle.chip.specs.Pins.{pins_of};
 ghost use Rattle.chip.specs.Step.{limits, device, accepted, refused, step_of};
 ghost use Rattle.laws.specs.Seen.{pin, told, driven, puts};
 ghost use Rattle.laws.specs.Ends.{CycleEnds, EndsNowhere};
@@ -32,9 +33,9 @@ ghost use Rattle.laws.specs.PowerUp.{AsNamed, Starts};
 ghost use Rattle.laws.specs.Anew.{Anew, Obeyed, AllInputs};
 ghost use Rattle.laws.specs.PlainBits.{mode_by, handshake, into, output_only, input_only, handshake_on, role_by};
 ghost use Rattle.laws.specs.Chart.{AsCharted};
-ghost use Rattle.laws.specs.ChannelPins.{PinsUsed, PinsShown};
+ghost use Rattle.laws.specs.ChannelPins.{PinsUsed, PinsShown, FreePin};
 ghost use Rattle.laws.specs.Ports.{Gives, Takes, PortWritten, GivesAndTakes};
-ghost use Rattle.laws.specs.PortC.{LinesWritten, driven_by, LineShown};
+ghost use Rattle.laws.specs.PortC.{LinesWritten, LinesHeld, driven_by, LineShown};
 ghost use Rattle.laws.specs.OnePin.{PinPut};
 ghost use Rattle.laws.specs.Forcing.{Forced};
 ghost use Rattle.laws.specs.Enables.{moves_enables};
@@ -42,10 +43,11 @@ ghost use Rattle.laws.specs.Loads.{LatchLoads, LatchStays};
 ghost use Rattle.laws.specs.Kept.{Keeps, lets_fall, reaches_all};
 ghost use Rattle.laws.specs.Flags.{ibf, IbfMoves, ObfMoves};
 ghost use Rattle.laws.specs.Halves.{half, IntrInMode1, IntrInMode2, HalfAfter, IntrAfter};
-ghost use Rattle.laws.specs.Quiet.{TrueOfGroup, intr_seen};
+ghost use Rattle.laws.specs.Quiet.{TrueOfGroup, intr_seen, earlier, later};
 ghost use Rattle.laws.specs.Altered.{WouldBeHigh};
 ghost use Rattle.laws.specs.Editions.{addresses_read, as_edition, given_as, reads_control, ShowsAlike, ControlRead, ControlReadEnds};
 ghost use Rattle.laws.specs.OtherModels.{UpperStays};
+ghost use Rattle.laws.specs.Exceptions.{own_port, CyclesMeant, EventsMeant, LevelsMeant, FlagMovesMeant, WordsMeant, answers, earlier_ones, later_ones};
 ghost use Rattle.laws.specs.Marked.{after, cases, modelled, stated, results_of};
 ghost use Rattle.laws.specs.ControlExamples.{examples, model_gives, list_gives};
 
@@ -60,10 +62,12 @@ pub fn events_have_their_numbers()
     ensures not_a_kind { (c : Chip) (k x d : ℕ) → no_kind k ≡ true → step_of c k x d ≡ refused c 1 }
 {}
 
-/// One event ends every cycle. It is accepted while any cycle runs, and frees the bus. A read that ends leaves the outputs, and a write that
-/// ends leaves the inputs, but for a mode word and for bit set/reset of an input's flag. 04 is no kind, and ends nothing.
+/// One event ends every cycle. It is accepted while any cycle runs, and frees the bus; on an idle bus it is refused with 5, and changes nothing. A
+/// read that ends leaves the outputs, and a write that ends leaves the inputs, but for a mode word and for bit set/reset of an input's flag. 04 is no
+/// kind, and ends nothing.
 pub fn one_event_ends_every_cycle()
     ensures ends { (c : Chip) (x d : ℕ) → CycleEnds c x d }
+    ensures idle { (c : Chip) (x d : ℕ) → c.phase ≡ Idle → step_of c 2 x d ≡ refused c 5 }
     ensures no_other { (c : Chip) (x d : ℕ) → step_of c 4 x d ≡ refused c 1 }
 {}
 
@@ -105,13 +109,14 @@ pub fn the_mode_0_chart_says_what_is_driven()
     ensures { (c : Chip) → handshake c.core.word A ≡ false → handshake c.core.word B ≡ false → AsCharted c (directions_of c.core.word) }
 {}
 
-/// A channel with a handshake has its STB or ACK, its IBF or OBF and its group's INTR at the pins that the sheet names. These show its flag, its
-/// line and its interrupt, and a read tells its enable. Any pin of port C shows, and any bit of a read of it tells, what its role says.
+/// A channel with a handshake has its STB or ACK, its IBF or OBF and its group's INTR at the pins that the sheet names. IBF is up if and only if
+/// the channel is not empty, and OBF is down if and only if it waits. The line stands as the level outside, and a read tells the channel's enable
+/// there. INTR is up while either half is, by the pins and the enables. A read tells the flag and INTR as the pins show them. A free pin shows, and
+/// a read of it tells, the level outside if it is an input, and its bit of the latch if it is an output.
 pub fn channels_have_their_pins()
     ensures used { (w : ℕ) (g : Group) → PinsUsed w g }
     ensures shown { (c : Chip) (g : Group) (s : Side) → strobed c.core.word g s ≡ true → PinsShown c g s }
-    ensures pins { (c : Chip) (n : ℕ) → n < 8 → pin c n ≡ level_as c n (role_of c.core.word n) }
-    ensures reads { (c : Chip) (n : ℕ) → n < 8 → told c n ≡ read_as c n (role_of c.core.word n) }
+    ensures free { (c : Chip) (n : ℕ) → n < 8 → FreePin c n }
 {}
 
 /// Ports A and B in modes 0 and 1. An output drives its lines with its latch, whatever port C shows, and reads as it. An input drives nothing,
@@ -130,11 +135,13 @@ pub fn port_a_goes_both_ways_in_mode_2()
     ensures { (c : Chip) → bit_of c.core.word 6 ≡ true → GivesAndTakes c }
 {}
 
-/// A write to port C puts the free outputs, those of the upper half only where group A has no handshake, and changes nothing else. The chip
-/// drives every pin but free inputs, STB and ACK; of what it drives a read tells what the pins show, and what it does not drive shows the level
-/// outside.
+/// A write to port C puts the free outputs, those of the upper half only where group A has no handshake, and changes nothing else. Its latch stays
+/// through every event but a reset and the end of a cycle: no levels change it, on any port. If no write to port C or to control runs, a reset alone
+/// changes it. The chip drives every pin but free inputs, STB and ACK; of what it drives a read tells what the pins show, and what it does not drive
+/// shows the level outside.
 pub fn port_c_goes_by_plain_bits()
     ensures written { (c : Chip) (b x d : ℕ) → c.phase ≡ Writing 2 b → LinesWritten c.core b (step_of c 2 x d).chip.core }
+    ensures held { (c : Chip) (k x d : ℕ) → ¬ (k ≡ 0) → LinesHeld c k x d }
     ensures drives { (c : Chip) (n : ℕ) → n < 8 → driven c n ≡ driven_by c.core.word n }
     ensures shown { (c : Chip) (n : ℕ) → n < 8 → LineShown c n }
 {}
@@ -239,6 +246,20 @@ pub fn errors_of_other_models_are_forbidden()
     ensures intr_at_other_reads { (c : Chip) (g : Group) (x d : ℕ) → own_address x g ≡ false → intr_of (step_of c 1 x d).chip g ≡ intr_of c g }
     ensures upper_bits { (c : Chip) (b x d : ℕ) → c.phase ≡ Writing 2 b → handshake c.core.word A ≡ true → UpperStays c (step_of c 2 x d).chip }
     ensures same_word { (c : Chip) (x d : ℕ) → c.phase ≡ Writing 3 c.core.word → bit_of c.core.word 7 ≡ true → Anew c.core c.core.word (step_of c 2 x d).chip.core }
+{}
+
+/// The exceptions that these promises make, and the conditions that they ask, are exactly these, in plain numbers and plain bits: which cycle runs;
+/// which events move an enable, reach every channel or read control, and which kinds there are not; which levels lower a line or load a latch; which
+/// events may move IBF and OBF; which mode words make a port an input, an output, or a handshake; and which reasons come before another and behind it.
+pub fn exceptions_are_these()
+    ensures cycles { (ph : Phase) → CyclesMeant ph }
+    ensures events { (ph : Phase) (k : ℕ) → EventsMeant ph k }
+    ensures levels { (c : Chip) (g : Group) (x d : ℕ) → LevelsMeant c g x d }
+    ensures flags { (c : Chip) (g : Group) (k x d : ℕ) → FlagMovesMeant c g k x d }
+    ensures words { (w : ℕ) → WordsMeant w }
+    ensures addresses { (a : ℕ) (g : Group) → (own_address a g ≡ true) ↔ (a ≡ own_port g) }
+    ensures earlier { map earlier answers ≡ earlier_ones }
+    ensures later { map later answers ≡ later_ones }
 {}
 
 /// The marked cases P1 to P13 hold of either edition. They are fifteen rows, since P9 and P13 have two each, with twenty-nine results in all.

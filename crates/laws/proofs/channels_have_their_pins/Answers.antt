@@ -1,13 +1,11 @@
--- The pins of the channels.
--- Rests on ChannelPins.
-use Rattle.std.proofs.Common.{◌≡◌, true, ℕ}
+-- The pins of the channels, and those that are free.
+-- Rests on ChannelPins and PinsByWords.
+use Rattle.std.proofs.Common.{ℕ}
 use Rattle.control.specs.declared.Group.{Group}
-use Rattle.chip.specs.declared.channel.Side.{Side}
 use Rattle.chip.specs.declared.channel.Side.TheVariants.{Input, Output}
-use Rattle.chip.specs.declared.Chip.{Chip}
-use Rattle.chip.specs.Handshakes.{strobed}
-use Rattle.laws.specs.ChannelPins.{PinsUsed, PinsShown}
-use Rattle.laws.proofs.ChannelPins.{line_role_lem, flag_role_lem, intr_role, pin_by_role, told_by_role, flag_pin_lem, line_pin_lem, intr_pin_lem, told_enable}
+use Rattle.laws.specs.ChannelPins.{PinsUsed}
+use Rattle.laws.proofs.ChannelPins.{line_role_lem, flag_role_lem, intr_role}
+use Rattle.laws.proofs.PinsByWords.{pins_shown, free_pin}
 use Rattle.laws.proofs.channels_have_their_pins.Goals as goal
 
 pins_used : (w : ℕ) (g : Group) → PinsUsed w g
@@ -19,13 +17,5 @@ pins_used w g = record {
   intr = intr_role w g;
 }
 
-pins_shown : (c : Chip) (g : Group) (s : Side) → strobed c.core.word g s ≡ true → PinsShown c g s
-pins_shown c g s on = record {
-  flag = flag_pin_lem c g s on;
-  line = line_pin_lem c g s on;
-  interrupt = intr_pin_lem c g s on;
-  enable = told_enable c g s on;
-}
-
 pub returns : goal.returns
-returns c = record { used = pins_used; shown = pins_shown; pins = pin_by_role; reads = told_by_role }
+returns c = record { used = pins_used; shown = pins_shown; free = free_pin }

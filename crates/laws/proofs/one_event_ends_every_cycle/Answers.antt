@@ -1,7 +1,8 @@
 -- The end of a cycle.
--- Rests on OneEnd.
+-- Rests on OneEnd, and on chip's Ends.
 use Rattle.std.proofs.Common.{ℕ}
 use Rattle.chip.specs.declared.Chip.{Chip}
+use Rattle.chip.proofs.Ends.{idle_ends_nothing}
 use Rattle.laws.specs.Ends.{CycleEnds}
 use Rattle.laws.proofs.OneEnd.{cycle_ends_lem, read_end_spares_outputs, write_end_spares_inputs, four_is_no_kind}
 use Rattle.laws.proofs.one_event_ends_every_cycle.Goals as goal
@@ -14,4 +15,4 @@ ends c x d = record {
 }
 
 pub returns : goal.returns
-returns c = record { ends = ends; no_other = four_is_no_kind }
+returns c = record { ends = ends; idle = idle_ends_nothing; no_other = four_is_no_kind }

@@ -1,5 +1,5 @@
 -- Port C, written and shown.
--- Rests on ChannelPins and PortC, and on chip's Ends.
+-- Rests on ChannelPins, PortC and LatchOfC, and on chip's Ends.
 use Rattle.std.proofs.Common.{◌≡◌, ◌∙◌, refl, sym, ℕ, ◌<◌}
 use Rattle.bus.specs.declared.Phase.TheVariants.{Writing}
 use Rattle.chip.specs.declared.Chip.{Chip}
@@ -9,6 +9,7 @@ use Rattle.chip.proofs.Ends.{write_ends}
 use Rattle.laws.specs.PortC.{LinesWritten, LineShown}
 use Rattle.laws.proofs.ChannelPins.{pin_by_role, told_by_role}
 use Rattle.laws.proofs.PortC.{bits_written, driven_by_role, line_driven}
+use Rattle.laws.proofs.LatchOfC.{latch_held}
 use Rattle.laws.proofs.port_c_goes_by_plain_bits.Goals as goal
 
 write_to_lines : (c : Chip) (b x d : ℕ) → c.phase ≡ Writing 2 b → LinesWritten c.core b (step_of c 2 x d).chip.core
@@ -29,4 +30,4 @@ line_shown c n below = record {
 }
 
 pub returns : goal.returns
-returns c = record { written = write_to_lines; drives = line_driven; shown = line_shown }
+returns c = record { written = write_to_lines; held = latch_held; drives = line_driven; shown = line_shown }
