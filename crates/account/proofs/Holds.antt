@@ -20,7 +20,7 @@ use Rattle.account.specs.Summary.{plain_in, plain_out, strobed_in, strobed_out, 
 use Rattle.account.specs.Acts.{written, act}
 use Rattle.account.specs.Account.{Account, output_after, input_after, opened, account_next}
 use Rattle.account.specs.Promise.{over, asks_here, account_of}
-use Rattle.account.specs.Holds.{HoldsTrue, WriteRuns, PortTakes}
+use Rattle.account.specs.Holds.{HoldsTrue, HoldsFromPowerUp, WriteRuns, PortTakes}
 use Rattle.account.proofs.Truth.{truth}
 use Rattle.account.proofs.Agrees.{Agrees, agrees_of}
 use Rattle.account.proofs.Opened.{agrees_opened}
@@ -52,7 +52,7 @@ holds_true c a es start =
       asks = asks_same (run c es) (over a es) k;
     }
 
-pub holds_from_power_up : (ed : Edition) (l : Levels) (es : List Event) → HoldsTrue (power_up_as ed l) (opened ed l) es
+pub holds_from_power_up : (ed : Edition) (l : Levels) (es : List Event) → HoldsFromPowerUp ed l es
 holds_from_power_up ed l es = holds_true (power_up_as ed l) (opened ed l) es (agrees_opened ed l)
 
 pub holds_from_chip : (c : Chip) (es : List Event) → HoldsTrue c (account_of c) es
@@ -83,7 +83,7 @@ module _ (a : Account) (b x d : ℕ) where
       kept A = rw (keeps_by_bits a.surroundings.word A) (chosen (input_only a.surroundings.word A) (a.output A))
       kept B = rw (keeps_by_bits a.surroundings.word B) (chosen (input_only a.surroundings.word B) (a.output B))
 
-  pub port_takes : (g : Group) → WriteRuns a g b → PortTakes a g b (account_next a (event 2 x d))
+  pub port_takes : (g : Group) → WriteRuns a g b → PortTakes a g b x d
   port_takes g phase = record {
     to_input = λ input. output_is g phase ∙ rw (input);
     to_output = λ output. output_is g phase ∙ rw (output);

@@ -1,6 +1,6 @@
 -- Two chips that agree with one account count alike: from the same tallies on they have the same, over every history.
 -- Rests on Words, Moves and Agrees, and on fates' Shapes, Moved and Projection.
-use Rattle.std.proofs.Common.{◌≡◌, ◌∙◌, refl, ap, ap₂, sym, Bool, true, false, cond, not, List, [], ◌∷◌, ℕ, lit<}
+use Rattle.std.proofs.Common.{◌≡◌, ◌∙◌, refl, ap, ap₂, sym, Bool, cond, not, List, [], ◌∷◌, ℕ, lit<}
 use Rattle.bus.specs.Event.{Event}
 use Rattle.control.specs.declared.Group.{Group}
 use Rattle.control.specs.declared.Group.TheVariants.{A, B}
@@ -15,7 +15,6 @@ use Rattle.chip.specs.State.{channel_of, tally_of}
 use Rattle.chip.specs.Step.{stepped}
 use Rattle.laws.specs.Forcing.{is_fetching}
 use Rattle.fates.specs.Kinds.{Kind, reset, cycle_ended, unknown, read_begun, write_begun, new_levels, kind_of, accepts}
-use Rattle.fates.specs.Surroundings.{Surroundings}
 use Rattle.fates.specs.Effects.{Effect, cleared_away, strobes, when, own_effect, clears, effect}
 use Rattle.fates.specs.Promise.{run, surroundings_of}
 use Rattle.fates.proofs.Shapes.{Shape, passes, offers, plants, decides, shape_of}

@@ -3,7 +3,7 @@
 #![tactic(auto)]
 
 ghost use Rattle.std.specs.Prelude.{◌≡◌, List, [], ◌∷◌, ◌++◌, ℕ, length, take};
-ghost use Rattle.bus.specs.Event.{Event, event};
+ghost use Rattle.bus.specs.Event.{Event};
 ghost use Rattle.control.specs.declared.Group.{Group};
 ghost use Rattle.chip.specs.declared.channel.Side.{Side};
 ghost use Rattle.chip.specs.declared.channel.Fill.TheVariants.{Empty, Fetching};
@@ -20,9 +20,9 @@ ghost use Rattle.script.specs.Run.{room_for, accepted_run, ran_of, width_of};
 ghost use Rattle.fates.specs.Surroundings.{at_power_up};
 ghost use Rattle.fates.specs.Bytes.{bytes_of};
 ghost use Rattle.fates.specs.Promise.{surroundings_of, all_bytes};
-ghost use Rattle.account.specs.Account.{Account, opened, account_next};
+ghost use Rattle.account.specs.Account.{Account, opened};
 ghost use Rattle.account.specs.Promise.{with_bit7, surroundings_here, account_of, Accounted, LooksUp};
-ghost use Rattle.account.specs.Holds.{HoldsTrue, WriteRuns, PortTakes};
+ghost use Rattle.account.specs.Holds.{HoldsTrue, HoldsFromPowerUp, WriteRuns, PortTakes};
 ghost use Rattle.account.specs.ReadBack.{ReadsBack};
 ghost use Rattle.account.specs.Script.{AnsweredBy, RunNumbered};
 ghost use Rattle.account.specs.Texts.{texts};
@@ -39,13 +39,13 @@ pub fn chip_shows_what_the_account_says()
     ensures script { (ed : Edition) (text : List ℕ) → AnsweredBy ed text }
 {}
 
-/// The account goes on having what the chip holds: over every history, from every power-up and from any chip, its surroundings, its bit at each
-/// pin, both latches of ports A and B, its flags and its halves of INTR are the chip's. By the account alone, the end of a write to an input of mode
-/// 0 or 1 leaves both latches of the port; to any other port it puts the byte in the output latch.
+/// The account has what the chip holds, over every history, from every power-up and from any chip: the surroundings, a bit for each pin, both latches
+/// of ports A and B, the flags and the halves of INTR. By the account alone, the end of a write to an input of mode 0 or 1 leaves both latches of that
+/// port. The end of a write to any other port puts the byte in its output latch, and leaves its input latch.
 pub fn account_has_what_the_chip_holds()
-    ensures power_up { (ed : Edition) (l : Levels) (es : List Event) → HoldsTrue (power_up_as ed l) (opened ed l) es }
+    ensures power_up { (ed : Edition) (l : Levels) (es : List Event) → HoldsFromPowerUp ed l es }
     ensures any_chip { (c : Chip) (es : List Event) → HoldsTrue c (account_of c) es }
-    ensures writes { (a : Account) (g : Group) (b x d : ℕ) → WriteRuns a g b → PortTakes a g b (account_next a (event 2 x d)) }
+    ensures writes { (a : Account) (g : Group) (b x d : ℕ) → WriteRuns a g b → PortTakes a g b x d }
 {}
 
 /// A read of control, where it is accepted, answers the last mode word that the events brought, over every history from every power-up and from

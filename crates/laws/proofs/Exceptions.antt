@@ -16,7 +16,6 @@ use Rattle.chip.specs.declared.Chip.{Chip}
 use Rattle.chip.specs.Handshakes.{own_address, strobed, line_pin, flag_pin, running}
 use Rattle.chip.specs.Levels.{fallen}
 use Rattle.laws.specs.Seen.{pin, lowers, makes_anew, commands, puts}
-use Rattle.laws.specs.PlainBits.{handshake_on}
 use Rattle.laws.specs.Loads.{comes_under_low}
 use Rattle.laws.specs.Kept.{lets_fall}
 use Rattle.laws.specs.Halves.{spares}

@@ -2,7 +2,6 @@
 -- Rests on ByEvent, bits' Logic and chip's OnPort.
 use Rattle.std.proofs.Common.{◌≡◌, refl, ap, ℕ, eqb}
 use Rattle.bits.proofs.Logic.{either_way}
-use Rattle.bus.specs.declared.Phase.TheVariants.{Writing}
 use Rattle.control.specs.declared.Group.{Group}
 use Rattle.control.specs.Mode.{strobed_input}
 use Rattle.chip.specs.declared.Port.{Port}

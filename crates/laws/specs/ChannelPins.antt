@@ -30,7 +30,9 @@ FlagShown c g Output = (pin c (flag_pin g Output) ≡ false) ↔ ((channel_of c.
 
 -- Either half of a group's INTR, by the enables and the pins; there is a half on each side that has a handshake.
 abbrev pub either_half : Chip → Group → Bool
-either_half c g = (handshake_on c.core.word g Input && half c g Input) || (handshake_on c.core.word g Output && half c g Output)
+either_half c g =
+    (handshake_on c.core.word g Input && half c g Input)
+    || (handshake_on c.core.word g Output && half c g Output)
 
 -- The pins of a strobed channel show its flag, its line as it stands outside, and its group's INTR. A read tells the flag and INTR as the pins show
 -- them, and at the pin of the line the channel's enable.

@@ -110,9 +110,9 @@ pub fn the_mode_0_chart_says_what_is_driven()
 {}
 
 /// A channel with a handshake has its STB or ACK, its IBF or OBF and its group's INTR at the pins that the sheet names. IBF is up if and only if
-/// the channel is not empty, and OBF is down if and only if it waits. The line stands as the level outside, and a read tells the channel's enable
-/// there. INTR is up while either half is, by the pins and the enables. A read tells the flag and INTR as the pins show them. A free pin shows, and
-/// a read of it tells, the level outside if it is an input, and its bit of the latch if it is an output.
+/// the channel is not empty, and OBF is down if and only if it waits. STB and ACK show the level outside, and a read tells the channel's enable there.
+/// INTR is up while either half is, by the pins and the enables. A read tells the flag and INTR as the pins show them. A free pin shows, and a read of
+/// it tells, the level outside if it is an input, and its bit of the latch if it is an output.
 pub fn channels_have_their_pins()
     ensures used { (w : ℕ) (g : Group) → PinsUsed w g }
     ensures shown { (c : Chip) (g : Group) (s : Side) → strobed c.core.word g s ≡ true → PinsShown c g s }
@@ -248,9 +248,9 @@ pub fn errors_of_other_models_are_forbidden()
     ensures same_word { (c : Chip) (x d : ℕ) → c.phase ≡ Writing 3 c.core.word → bit_of c.core.word 7 ≡ true → Anew c.core c.core.word (step_of c 2 x d).chip.core }
 {}
 
-/// The exceptions that these promises make, and the conditions that they ask, are exactly these, in plain numbers and plain bits: which cycle runs;
-/// which events move an enable, reach every channel or read control, and which kinds there are not; which levels lower a line or load a latch; which
-/// events may move IBF and OBF; which mode words make a port an input, an output, or a handshake; and which reasons come before another and behind it.
+/// Each exception that the other promises here make, and each condition that they ask, is exactly this, in plain numbers and plain bits. They speak of
+/// the cycle that runs, of the kind of an event, of levels, of what may move a flag, of a mode word, and of a group's address. The reasons for a quiet
+/// INTR that come before each answer, and behind it, are those of two lists.
 pub fn exceptions_are_these()
     ensures cycles { (ph : Phase) → CyclesMeant ph }
     ensures events { (ph : Phase) (k : ℕ) → EventsMeant ph k }

@@ -1,14 +1,13 @@
 -- The account has what the chip holds.
 -- Rests on Holds.
 use Rattle.std.proofs.Common.{ℕ}
-use Rattle.bus.specs.Event.{event}
 use Rattle.control.specs.declared.Group.{Group}
-use Rattle.account.specs.Account.{Account, account_next}
+use Rattle.account.specs.Account.{Account}
 use Rattle.account.specs.Holds.{WriteRuns, PortTakes}
 use Rattle.account.proofs.Holds.{holds_from_power_up, holds_from_chip, port_takes}
 use Rattle.account.proofs.account_has_what_the_chip_holds.Goals as goal
 
-writes : (a : Account) (g : Group) (b x d : ℕ) → WriteRuns a g b → PortTakes a g b (account_next a (event 2 x d))
+writes : (a : Account) (g : Group) (b x d : ℕ) → WriteRuns a g b → PortTakes a g b x d
 writes a g b x d = port_takes a b x d g
 
 pub returns : goal.returns
