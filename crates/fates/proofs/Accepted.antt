@@ -1,6 +1,6 @@
 -- An event is accepted in the history's words exactly where its number is 0, and then the chip is what the step makes of it.
 -- Rests on bits' Logic, the bus's ByKind and Phases, and chip's Outcome.
-use Rattle.std.proofs.Common.{◌≡◌, ◌∙◌, refl, ap, sym, Bool, true, false, not, cond, ◌&&◌, ◌||◌, ℕ, arith, eqb, ltb, ltb-true, lt-ltb, eqb-true}
+use Rattle.std.proofs.Common.{◌≡◌, ◌∙◌, refl, ap, sym, Bool, true, false, not, cond, ◌&&◌, ◌||◌, ℕ, arith, eqb, ltb, ltb-true, lt-ltb, eqb-true, eq-eqb, ◌↔◌}
 use borrow.Author.Tests.{eqb-false}
 use Rattle.bits.proofs.Logic.{contrary}
 use Rattle.bus.specs.Kinds.{is_kind, no_kind}
@@ -15,7 +15,7 @@ use Rattle.chip.specs.declared.Edition.{Edition}
 use Rattle.chip.specs.declared.Edition.TheVariants.{Older, Newer}
 use Rattle.chip.specs.declared.Chip.{Chip}
 use Rattle.chip.specs.Step.{Stepped, readable, limits, device, accepted, refused, stepped}
-use Rattle.chip.proofs.Outcome.{step_accepts, step_refuses}
+use Rattle.chip.proofs.Outcome.{step_accepts, step_refuses, step_number}
 use Rattle.fates.specs.Kinds.{unknown, kind_of, free, readable_at, accepts}
 
 -- The bus is free where no cycle runs.
@@ -68,6 +68,13 @@ no_kind_accepted ed ph k x d none ok = contrary _ (ap (accepts ed ph) (no_name k
 -- The number of an accepted event is 0.
 pub accepted_number : (ed : Edition) (ph : Phase) (k x d : ℕ) → accepts ed ph (kind_of (event k x d)) ≡ true → number_of (limits ed) ph k x ≡ 0
 accepted_number ed ph k x d ok = eqb-true _ _ (sym (accepts_number ed ph k x d) ∙ ok)
+
+-- An event has the number 0 exactly where it is accepted.
+pub zero_accepted : (c : Chip) (e : Event) → ((stepped c e).number ≡ 0) ↔ (accepts c.edition c.phase (kind_of e) ≡ true)
+zero_accepted c e =
+    let number = step_number c e.kind e.first e.second in
+    let same = accepts_number c.edition c.phase e.kind e.first e.second in
+    (λ zeroed. same ∙ eq-eqb _ 0 (sym number ∙ zeroed), λ ok. number ∙ eqb-true _ 0 (sym same ∙ ok))
 
 -- What holds of the result of an accepted event, and of a refusal where the event is refused, holds of any event's.
 pub by_result : (P : Stepped → Bool → Type 0) (c : Chip) (e : Event)

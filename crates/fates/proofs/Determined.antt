@@ -41,6 +41,15 @@ discipline_can_be_kept_and_broken_determined c x y p q = refl
 pub discipline_asks_no_more_determined : Determines fates_says.discipline_asks_no_more.ended fates.discipline_asks_no_more.Reads.Learnt
 discipline_asks_no_more_determined c x y p q = refl
 
+pub flags_are_forced_by_these_writes_determined : Determines fates_says.flags_are_forced_by_these_writes.ended fates.flags_are_forced_by_these_writes.Reads.Learnt
+flags_are_forced_by_these_writes_determined c x y p q = refl
+
+pub discipline_is_these_two_rules_determined : Determines fates_says.discipline_is_these_two_rules.ended fates.discipline_is_these_two_rules.Reads.Learnt
+discipline_is_these_two_rules_determined c x y p q = refl
+
+pub conditions_are_these_determined : Determines fates_says.conditions_are_these.ended fates.conditions_are_these.Reads.Learnt
+conditions_are_these_determined c x y p q = refl
+
 pub examples_have_these_bytes_determined : Determines fates_says.examples_have_these_bytes.ended fates.examples_have_these_bytes.Reads.Learnt
 examples_have_these_bytes_determined c x y p q = refl
 

@@ -28,4 +28,8 @@ pub mod ManyOffers
 pub mod Spared
 pub mod Asked
 pub mod Harm
+pub mod Wherever
+pub mod Forces
+pub mod Minds
+pub mod Conditions
 pub mod Determined

@@ -1,5 +1,5 @@
 -- Histories that show the fates, with what becomes of each byte; events are counted from 1.
-use Rattle.std.specs.Prelude.{List, [], ◌∷◌, ◌++◌, ℕ, zero, suc}
+use Rattle.std.specs.Prelude.{List, [], ◌∷◌, ◌++◌, ℕ, zero, suc, ◌+◌, length}
 use Rattle.bus.specs.Event.{Event, event}
 use Rattle.bus.specs.Histories.{write, levels, read_from, cycle_end}
 use Rattle.control.specs.declared.Group.{Group}
@@ -38,6 +38,11 @@ found_in ed (x ∷ xs) = bytes_in ed x ∷ found_in ed xs
 abbrev pub said_of : List Example → List (List Byte)
 said_of [] = []
 said_of (x ∷ xs) = x.said ∷ said_of xs
+
+-- How many bytes they say.
+abbrev pub bytes_said : List Example → ℕ
+bytes_said [] = 0
+bytes_said (x ∷ xs) = length x.said + bytes_said xs
 
 -- The byte v, offered at place n and decided at place m.
 infixl 70 ◌at◌is◌at◌

@@ -14,3 +14,4 @@ pub mod Spared
 pub mod Asked
 pub mod Kept
 pub mod Harm
+pub mod Conditions

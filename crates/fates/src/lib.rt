@@ -2,7 +2,7 @@
 //! the theorem.
 #![tactic(auto)]
 
-ghost use Rattle.std.specs.Prelude.{◌≡◌, ◌↔◌, ◌%◌, false, List, ℕ, ◌++◌};
+ghost use Rattle.std.specs.Prelude.{◌≡◌, ◌↔◌, ◌%◌, ◌<◌, true, false, List, ℕ, ◌++◌, All, length};
 ghost use Rattle.bits.specs.Bit.{bit_of};
 ghost use Rattle.bus.specs.Event.{Event, event};
 ghost use Rattle.bus.specs.Histories.{write, levels};
@@ -11,26 +11,30 @@ ghost use Rattle.control.specs.declared.Group.{Group};
 ghost use Rattle.control.specs.declared.Group.TheVariants.{A};
 ghost use Rattle.chip.specs.declared.channel.Side.{Side};
 ghost use Rattle.chip.specs.declared.channel.Side.TheVariants.{Input, Output};
+ghost use Rattle.chip.specs.declared.channel.Fill.{Fill};
 ghost use Rattle.chip.specs.declared.channel.Fill.TheVariants.{Empty, Waiting, Fetching};
+ghost use Rattle.chip.specs.declared.channel.Tally.{Tally};
 ghost use Rattle.chip.specs.declared.Edition.{Edition};
 ghost use Rattle.chip.specs.declared.Chip.{Chip};
 ghost use Rattle.chip.specs.declared.Levels.{Levels};
-ghost use Rattle.chip.specs.State.{levels_by, all_high, power_up_as, power_up_with, channel_of, tally_of};
+ghost use Rattle.chip.specs.State.{levels_by, all_high, power_up_as, power_up_with, port_of, channel_of, tally_of};
 ghost use Rattle.chip.specs.Pins.{pins_of};
+ghost use Rattle.laws.specs.PlainBits.{handshake_on};
 ghost use Rattle.fates.specs.Surroundings.{at_power_up};
 ghost use Rattle.fates.specs.Effects.{strobe_pin};
 ghost use Rattle.fates.specs.Numbers.{own_port};
 ghost use Rattle.fates.specs.Bytes.{Byte, bytes_of};
 ghost use Rattle.fates.specs.Raised.{NeverRaised};
-ghost use Rattle.fates.specs.Promise.{Each, run, tallies, surroundings_of, new_bytes, all_bytes, Shows, HeldInTheLatch, WaitsByHandshake, FatesFromPowerUp, FatesFrom, Balanced, BalancedAfter, NoneOffered, NoneHandedOver, SixteenBits};
-ghost use Rattle.fates.specs.Follows.{Follows};
+ghost use Rattle.fates.specs.Promise.{Each, run, tallies, surroundings_of, new_bytes, all_bytes, Shows, HeldInTheLatch, WaitsByHandshake, FatesFromPowerUp, FatesFrom, Balanced, BalancedAfter, InOrder, NoneOffered, NoneHandedOver, SixteenBits};
+ghost use Rattle.fates.specs.Follows.{latch_told, Follows};
 ghost use Rattle.fates.specs.Discipline.{HasFound, Disciplined, NeverForced, NoneForced, NoneLost};
 ghost use Rattle.fates.specs.ScriptRun.{AnsweredAsHistory, TextFates, TextLosesNone, TextForcesNone, Leaves};
-ghost use Rattle.fates.specs.Examples.{examples, found_in, said_of, lost_bale, two_digits, in_and_written, too_late, strobed_times, bale_tally, before_ack};
+ghost use Rattle.fates.specs.Examples.{examples, found_in, said_of, bytes_said, lost_bale, two_digits, in_and_written, too_late, strobed_times, bale_tally, before_ack};
 ghost use Rattle.fates.specs.Spared.{Spared};
 ghost use Rattle.fates.specs.Asked.{AsksNoMore};
 ghost use Rattle.fates.specs.Kept.{KeepsTo};
 ghost use Rattle.fates.specs.Harm.{StbFalls, Overwrites, SwallowsTheNext, Swallows};
+ghost use Rattle.fates.specs.Conditions.{Wherever, NoneForces, EachMindsIbf, ReadHasFound, FallsOn, LatchIsTold, RaisesNot, seven, ComesOut, Placed};
 
 /// Every byte that was offered or planted has one fate, over every history from every power-up: it was handed over, overwritten, swallowed,
 /// cleared or struck, or it still waits. The chip's tallies count them, modulo 65,536, and its answers, its pins and its latch show them. From any
@@ -120,9 +124,52 @@ pub fn discipline_asks_no_more()
     ensures { AsksNoMore }
 {}
 
-/// Twenty-one examples have the bytes and fates that stand beside them, on a chip of either edition: computed from the events.
+/// A flag is forced by the end of a write to control, of a word that has bit 7 clear and names the flag's pin in bits 3 to 1, while the mode word
+/// gives the channel a handshake. A history never forces the flag exactly where no event of it is that. Bit 0 may have either level, and it counts
+/// too where there is no room for a byte, or none to strike.
+pub fn flags_are_forced_by_these_writes()
+    ensures power_up { (g : Group) (s : Side) (ed : Edition) (l : Levels) (es : List Event)
+        → NeverForced g s (at_power_up ed l) es ↔ NoneForces g s (power_up_as ed l) es }
+    ensures any_chip { (g : Group) (s : Side) (c : Chip) (es : List Event)
+        → NeverForced g s (surroundings_of c) es ↔ NoneForces g s c es }
+{}
+
+/// Device and program keep to the discipline exactly where every event keeps to two rules about a port that takes bytes by STB. Levels on port C
+/// lower STB only while IBF is low. A read of the port begins, on an idle bus, only while IBF is high. The condition at the start speaks of a read
+/// of such a port, and what the discipline forbids of such a fall of STB.
+pub fn discipline_is_these_two_rules()
+    ensures power_up { (g : Group) (ed : Edition) (l : Levels) (es : List Event)
+        → Disciplined g (at_power_up ed l) (power_up_as ed l) es
+        ↔ EachMindsIbf g (power_up_as ed l) es }
+    ensures any_chip { (g : Group) (c : Chip) (es : List Event)
+        → Disciplined g (surroundings_of c) c es ↔ EachMindsIbf g c es }
+    ensures at_the_start { (g : Group) (c : Chip) → HasFound g c ↔ ReadHasFound g c }
+    ensures falls { (g : Group) (c : Chip) (f : Fill) (x : ℕ) → StbFalls g c f x ↔ FallsOn g c f x }
+{}
+
+/// The other conditions, in numbers. A pin of port C is never raised exactly where all levels that come onto that port have it low. That a byte
+/// waits by a handshake asks nothing of an input, and of an output in which one waits that the mode word gives it a handshake. A history tells the
+/// latch of an input, that of an output with a handshake, and every latch after a reset or a mode word. Tallies have sixteen bits where all seven
+/// are below 65,536, and balance where both sums differ by whole rounds of that. Bytes are in order exactly where the first is offered no earlier
+/// than the bound, each is decided after it is offered, and none after the next is offered.
+pub fn conditions_are_these()
+    ensures never_raised { (n : ℕ) (es : List Event)
+        → NeverRaised n es ↔ Wherever (λ before e. RaisesNot n e) es }
+    ensures waits_in { (g : Group) (c : Chip) → WaitsByHandshake g Input c }
+    ensures waits_out { (g : Group) (c : Chip) → WaitsByHandshake g Output c
+        ↔ ((port_of c.core g).output.fill ≡ Waiting → handshake_on c.core.word g Output ≡ true) }
+    ensures latch { (g : Group) (s : Side) (c : Chip) (e : Event)
+        → (latch_told g s c e ≡ true) ↔ LatchIsTold g s c e }
+    ensures sixteen_bits { (t : Tally) → SixteenBits t ↔ All (λ n. n < 65536) (seven t) }
+    ensures balanced { (t : Tally) (f : Fill) → Balanced t f ↔ ComesOut t f }
+    ensures in_order { (n : ℕ) (bs : List Byte) → InOrder n bs ↔ Placed n bs }
+{}
+
+/// Twenty-one examples have the bytes and fates that stand beside them, thirty in all, on a chip of either edition: computed from the events.
 pub fn examples_have_these_bytes()
-    ensures { (ed : Edition) → found_in ed examples ≡ said_of examples }
+    ensures said { (ed : Edition) → found_in ed examples ≡ said_of examples }
+    ensures rows { length examples ≡ 21 }
+    ensures bytes { bytes_said examples ≡ 30 }
 {}
 
 /// What the chip counts and shows in some of the examples, computed from its definitions: the tallies of the lost bale; and in mode 2 the pins

@@ -17,6 +17,9 @@ groups_divide_the_whole_chip_determined c x y p q = refl
 pub lines_are_divided_at_pin_3_determined : Determines groups_says.lines_are_divided_at_pin_3.ended groups.lines_are_divided_at_pin_3.Reads.Learnt
 lines_are_divided_at_pin_3_determined c x y p q = refl
 
+pub histories_of_one_group_are_these_determined : Determines groups_says.histories_of_one_group_are_these.ended groups.histories_of_one_group_are_these.Reads.Learnt
+histories_of_one_group_are_these_determined c x y p q = refl
+
 pub each_group_lives_as_if_alone_determined : Determines groups_says.each_group_lives_as_if_alone.ended groups.each_group_lives_as_if_alone.Reads.Learnt
 each_group_lives_as_if_alone_determined c x y p q = refl
 

@@ -24,4 +24,5 @@ pub mod OwnLines
 pub mod Lines
 pub mod Runs
 pub mod InTheWay
+pub mod OneGroup
 pub mod Determined

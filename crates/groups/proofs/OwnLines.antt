@@ -21,18 +21,21 @@ its : (b : Bool) → (((b || false) && true) ≡ true) ↔ (b ≡ true)
 its true = (λ is. refl, λ is. refl)
 its false = (λ is. is, λ is. is)
 
+pub lines_b : (d l : ℕ) → (eqb (elsewhere B d) (elsewhere B l) ≡ true) ↔ SameFrom3 d l
+lines_b d l = (
+  λ only n three small. elsewhere_bits B d l only n small (le-ltb n 3 three),
+  λ same. same_elsewhere B d l (λ n small none. same n (ltb-false n _ none) small),
+)
+
+pub lines_a : (d l : ℕ) → (eqb (elsewhere A d) (elsewhere A l) ≡ true) ↔ SameTo3 d l
+lines_a d l = (
+  λ only n few. elsewhere_bits A d l only n (omega (arith, few)) (le-ltb 3 n few),
+  λ same. same_elsewhere A d l (λ n small none. same n (ltb-false _ n none)),
+)
+
 module _ (c : Chip) (d : ℕ) where
-  abbrev l : ℕ
-  l = c.core.c.outside
+  pub own_lines_b : (only_of B (surroundings_of c) (levels 2 d) ≡ true) ↔ SameFrom3 d c.core.c.outside
+  own_lines_b = (λ only. (lines_b d c.core.c.outside).0 ((its _).0 only), λ same. (its _).1 ((lines_b d c.core.c.outside).1 same))
 
-  pub own_lines_b : (only_of B (surroundings_of c) (levels 2 d) ≡ true) ↔ SameFrom3 d l
-  own_lines_b = (
-    λ only n three small. elsewhere_bits B d l ((its _).0 only) n small (le-ltb n 3 three),
-    λ same. (its _).1 (same_elsewhere B d l (λ n small none. same n (ltb-false n _ none) small)),
-  )
-
-  pub own_lines_a : (only_of A (surroundings_of c) (levels 2 d) ≡ true) ↔ SameTo3 d l
-  own_lines_a = (
-    λ only n few. elsewhere_bits A d l ((its _).0 only) n (omega (arith, few)) (le-ltb 3 n few),
-    λ same. (its _).1 (same_elsewhere A d l (λ n small none. same n (ltb-false _ n none))),
-  )
+  pub own_lines_a : (only_of A (surroundings_of c) (levels 2 d) ≡ true) ↔ SameTo3 d c.core.c.outside
+  own_lines_a = (λ only. (lines_a d c.core.c.outside).0 ((its _).0 only), λ same. (its _).1 ((lines_a d c.core.c.outside).1 same))

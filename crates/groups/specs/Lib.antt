@@ -9,3 +9,4 @@ pub mod SideBySide
 pub mod Kept
 pub mod Lines
 pub mod InTheWay
+pub mod OneGroup

@@ -1,7 +1,7 @@
 //! That the two groups of the 8255A leave each other alone. A function here does nothing: its contract is the theorem.
 #![tactic(auto)]
 
-ghost use Rattle.std.specs.Prelude.{◌≡◌, ◌↔◌, ◌<◌, true, List, ℕ};
+ghost use Rattle.std.specs.Prelude.{◌≡◌, ◌↔◌, ◌<◌, true, List, ℕ, length};
 ghost use Rattle.bus.specs.Event.{Event};
 ghost use Rattle.bus.specs.Histories.{levels};
 ghost use Rattle.bus.specs.declared.Phase.TheVariants.{Idle};
@@ -16,7 +16,7 @@ ghost use Rattle.fates.specs.Kinds.{kind_of};
 ghost use Rattle.fates.specs.Surroundings.{at_power_up};
 ghost use Rattle.fates.specs.Promise.{run, surroundings_of};
 ghost use Rattle.groups.specs.Belongings.{belongings_of};
-ghost use Rattle.groups.specs.Doings.{other, only_of};
+ghost use Rattle.groups.specs.Doings.{other, is_of, only_of};
 ghost use Rattle.groups.specs.Alone.{without, in_the_way, out_of_the_way};
 ghost use Rattle.groups.specs.Apart.{Left, LeftAlone, SameTo, SameBytes};
 ghost use Rattle.groups.specs.Divided.{PinDivided, LinesOfBytes, SameInAll};
@@ -26,6 +26,7 @@ ghost use Rattle.groups.specs.SideBySide.{SideBySide, ReadInTheWay, StatusRead};
 ghost use Rattle.groups.specs.Kept.{KeptByA, KeptByB, SameFrom3, SameTo3};
 ghost use Rattle.groups.specs.Lines.{LinesInNumbers};
 ghost use Rattle.groups.specs.InTheWay.{Blocked, OutOfTheWay};
+ghost use Rattle.groups.specs.OneGroup.{DoneOn, EachHarmless, StruckOut};
 
 /// A history of which each accepted event is the other group's, or of a read of port C or of control, leaves a group as it was, from any chip,
 /// whatever runs on its bus. From any chip with an idle bus so does each of the things that are done on the other group, one by one: levels on
@@ -65,6 +66,19 @@ pub fn lines_are_divided_at_pin_3()
     ensures computed { LinesInNumbers }
 {}
 
+/// A group's events are levels on its port, levels on port C that differ from those outside at its pins at most, and the beginnings and the ends of
+/// its cycles. Those are reads and writes of its port, and bit set/reset of its pins: 7 to 4 for group A, and 2 to 0 for group B. A history is of
+/// one group alone exactly where each event that the chip accepts is the group's, or of a read of port C or of control. Without a group's events a
+/// history has all others, in their order, and none of these.
+pub fn histories_of_one_group_are_these()
+    ensures event { (g : Group) (c : Chip) (e : Event)
+        → (is_of g (surroundings_of c) (kind_of e) ≡ true) ↔ DoneOn c e g }
+    ensures history { (g : Group) (c : Chip) (es : List Event)
+        → (only_of g (surroundings_of c) es ≡ true) ↔ EachHarmless g c es }
+    ensures left { (g : Group) (c : Chip) (es : List Event)
+        → StruckOut g c es (without g (surroundings_of c) es) }
+{}
+
 /// Where the cycles of the other group are out of the way, a group lives as if it were alone: with and without the other's events a history
 /// leaves the same of it, and brings its channels the same bytes with the same values and fates. So it is from any chip, where a byte that waits
 /// at the start is among them, and from the power-up of either edition under any levels.
@@ -85,7 +99,9 @@ pub fn in_the_way_is_refused_with_4()
 /// examples are computed, with the levels of the group's pins before and after; and that none of the five counts as either group's.
 pub fn some_events_belong_to_no_group()
     ensures changes { EachChanges examples }
+    ensures eight { length examples ≡ 8 }
     ensures no_groups { (g : Group) → NoneIsOf g excluded }
+    ensures five { length excluded ≡ 5 }
 {}
 
 /// All that belongs to the group of a scale and to that of a printer at one moment, computed in numbers.

@@ -1,7 +1,8 @@
--- What changes a group and counts as no group's.
+-- What belongs to no group, what it changes, and how many examples there are.
 -- Rests on Excluded.
+use Rattle.std.proofs.Common.{refl}
 use Rattle.groups.proofs.Excluded.{each_changes, none_is_of}
 use Rattle.groups.proofs.some_events_belong_to_no_group.Goals as goal
 
 pub returns : goal.returns
-returns c = record { changes = each_changes; no_groups = none_is_of }
+returns c = record { changes = each_changes; eight = refl; no_groups = none_is_of; five = refl }
