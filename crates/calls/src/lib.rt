@@ -24,21 +24,41 @@ pub fn towanchor_power_up(image: &mut [u8]) -> u32
 }
 
 /// The chip at power-up, under levels that the host names for ports A, B and C. 8 where there are more or fewer bytes than an image has.
-pub fn towanchor_power_up_with_levels(image: &mut [u8], a: u8, b: u8, c: u8) -> u32
+pub fn towanchor_power_up_with_levels(
+    image: &mut [u8],
+    levels_a: u8,
+    levels_b: u8,
+    levels_c: u8,
+) -> u32
     ensures value { result ≡ power_up_answer image.old }
-    ensures image_after { image.new ≡ power_up_image_with image.old a b c }
+    ensures image_after { image.new ≡ power_up_image_with image.old levels_a levels_b levels_c }
 {
-    let levels = Levels { a, b, c };
+    let levels = Levels {
+        a: levels_a,
+        b: levels_b,
+        c: levels_c,
+    };
     answer(written::start(image, &Chip::new(Edition::Older, levels)))
 }
 
 /// The same of a chip of the edition that the host names, by its number in an image. 8 where there are more or fewer bytes than an image
 /// has, or no such edition.
-pub fn towanchor_power_up_as(image: &mut [u8], edition: u8, a: u8, b: u8, c: u8) -> u32
+pub fn towanchor_power_up_as(
+    image: &mut [u8],
+    edition: u8,
+    levels_a: u8,
+    levels_b: u8,
+    levels_c: u8,
+) -> u32
     ensures value { result ≡ power_up_as_answer image.old edition }
-    ensures image_after { image.new ≡ power_up_as_image image.old edition a b c }
+    ensures image_after { image.new ≡ power_up_as_image image.old edition levels_a levels_b levels_c }
 {
-    answer(written::start_as(image, edition, Levels { a, b, c }))
+    let levels = Levels {
+        a: levels_a,
+        b: levels_b,
+        c: levels_c,
+    };
+    answer(written::start_as(image, edition, levels))
 }
 
 /// An older image made the image of the same state. 8 where the bytes are no older image, or where there is not the room of an image.
@@ -69,10 +89,10 @@ pub fn towanchor_pins(image: &[u8], port: u8) -> u32
 }
 
 /// One of the seven tallies of one of the four channels. 8 where the bytes are no image, and then 2 where there is no such channel or tally.
-pub fn towanchor_tally(image: &[u8], channel: u8, number: u8) -> u32
-    ensures { result ≡ tally_answer image.now channel number }
+pub fn towanchor_tally(image: &[u8], channel: u8, tally: u8) -> u32
+    ensures { result ≡ tally_answer image.now channel tally }
 {
-    answer(views::tally(image, channel, number))
+    answer(views::tally(image, channel, tally))
 }
 
 /// What each half of a group's INTR is doing, and where it is low the first reason. 8 where the bytes are no image, and then 2 where there is no

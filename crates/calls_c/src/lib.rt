@@ -16,21 +16,32 @@ pub extern "C" fn towanchor_power_up(image: &mut [u8]) -> u32
 
 /// The chip at power-up, under levels that the host names for ports A, B and C. 8 where there are more or fewer bytes than an image has.
 #[unsafe(no_mangle)]
-pub extern "C" fn towanchor_power_up_with_levels(image: &mut [u8], a: u8, b: u8, c: u8) -> u32
+pub extern "C" fn towanchor_power_up_with_levels(
+    image: &mut [u8],
+    levels_a: u8,
+    levels_b: u8,
+    levels_c: u8,
+) -> u32
     ensures value { result ≡ power_up_answer image.old }
-    ensures image_after { image.new ≡ power_up_image_with image.old a b c }
+    ensures image_after { image.new ≡ power_up_image_with image.old levels_a levels_b levels_c }
 {
-    calls::towanchor_power_up_with_levels(image, a, b, c)
+    calls::towanchor_power_up_with_levels(image, levels_a, levels_b, levels_c)
 }
 
 /// The same of a chip of the edition that the host names, by its number in an image. 8 where there are more or fewer bytes than an image
 /// has, or no such edition.
 #[unsafe(no_mangle)]
-pub extern "C" fn towanchor_power_up_as(image: &mut [u8], edition: u8, a: u8, b: u8, c: u8) -> u32
+pub extern "C" fn towanchor_power_up_as(
+    image: &mut [u8],
+    edition: u8,
+    levels_a: u8,
+    levels_b: u8,
+    levels_c: u8,
+) -> u32
     ensures value { result ≡ power_up_as_answer image.old edition }
-    ensures image_after { image.new ≡ power_up_as_image image.old edition a b c }
+    ensures image_after { image.new ≡ power_up_as_image image.old edition levels_a levels_b levels_c }
 {
-    calls::towanchor_power_up_as(image, edition, a, b, c)
+    calls::towanchor_power_up_as(image, edition, levels_a, levels_b, levels_c)
 }
 
 /// An older image made the image of the same state. 8 where the bytes are no older image, or where there is not the room of an image.
@@ -61,10 +72,10 @@ pub extern "C" fn towanchor_pins(image: &[u8], port: u8) -> u32
 
 /// One of the seven tallies of one of the four channels. 8 where the bytes are no image, and then 2 where there is no such channel or tally.
 #[unsafe(no_mangle)]
-pub extern "C" fn towanchor_tally(image: &[u8], channel: u8, number: u8) -> u32
-    ensures { result ≡ tally_answer image.now channel number }
+pub extern "C" fn towanchor_tally(image: &[u8], channel: u8, tally: u8) -> u32
+    ensures { result ≡ tally_answer image.now channel tally }
 {
-    calls::towanchor_tally(image, channel, number)
+    calls::towanchor_tally(image, channel, tally)
 }
 
 /// What each half of a group's INTR is doing, and where it is low the first reason. 8 where the bytes are no image, and then 2 where there is no

@@ -14,6 +14,9 @@ good_determined c x y = equation_determines
 pub edition_determined : Determines image_says.load.edition.ended image.load.edition.Reads.Learnt
 edition_determined c x y = equation_determines
 
+pub load_determined : Determines image_says.load.state.ended image.load.state.Reads.Learnt
+load_determined c x y = equation_determines
+
 pub save_determined : Determines image_says.save.state.ended image.save.state.Reads.Learnt
 save_determined c x y p q = equations_determine (refl, p) (refl, q)
 

@@ -1,13 +1,18 @@
 //! What the bytes of an image tell. Each bound is by the width of what is read there: a type of a place would need one for every width.
 ghost use Rattle.std.specs.Prelude.{◌≡◌, ◌+◌, ◌<◌};
 ghost use Rattle.image.specs.Places as places;
-ghost use Rattle.image.specs.Loaded.{wide_at, tally_at, fill_as, channel_at, enables_as, phase_as, edition_as};
+ghost use Rattle.image.specs.Loaded.{wide_at, tally_at, fill_as, channel_at, enables_as, phase_as, edition_as, state_of};
+ghost use Rattle.image.specs.Slices.{loaded_from};
 
-use super::places::{CHANNEL_TALLIES, CONDITIONS, IDLE, LATCHES, LENGTH, OLDER, TALLIES, WRITES};
+use super::check;
+use super::places::{
+    BUS, CHANNEL_TALLIES, CONDITIONS, EDITION, ENABLES, IDLE, LATCH_C, LATCHES, LENGTH, LEVELS_A,
+    LEVELS_B, LEVELS_C, OLDER, TALLIES, WORD, WRITES, WRITTEN,
+};
 use bus::Phase;
 use chip::channel::{Channel, Fill, Tally};
 use chip::handshakes::{ACK_A, LINE_B, STB_A};
-use chip::{Edition, Enables};
+use chip::{Chip, Core, Edition, Enables, Port, PortC};
 
 // The number of the two bytes from a place on.
 fn wide(image: &[u8; LENGTH], at: usize) -> u16
@@ -86,4 +91,43 @@ pub fn edition(byte: u8) -> Edition
     } else {
         Edition::Newer
     }
+}
+
+#[tactic(auto, unfolding(crate::specs::Loaded::state_of))]
+fn whole(image: &[u8; LENGTH]) -> Chip
+    ensures { result ≡ state_of image.now }
+{
+    Chip {
+        phase: phase(image[BUS], image[WRITTEN]),
+        edition: edition(image[EDITION]),
+        core: Core {
+            word: image[WORD],
+            a: Port {
+                input: channel(image, 0),
+                output: channel(image, 1),
+                outside: image[LEVELS_A],
+            },
+            b: Port {
+                input: channel(image, 2),
+                output: channel(image, 3),
+                outside: image[LEVELS_B],
+            },
+            c: PortC {
+                latch: image[LATCH_C],
+                outside: image[LEVELS_C],
+            },
+            inte: enables(image[ENABLES]),
+        },
+    }
+}
+
+/// The chip that the bytes hold; `None` where they are no image. What `save::state` writes of a chip is such an image, if it has one.
+#[tactic(auto, using(crate::proofs::Long::is_long), unfolding(crate::specs::Slices::loaded_from))]
+pub fn state(image: &[u8]) -> Option<Chip>
+    ensures { result ≡ loaded_from image.now }
+{
+    if !check::good(image) {
+        return None;
+    }
+    Some(whole(image.as_array()?))
 }

@@ -64,11 +64,22 @@ fn trim_numbered(words: &mut [u32], edition: u8, levels: Levels) -> Result<usize
 
 /// The same in numbers, as C has it: the count above the number 0, or the number of the refusal.
 // Not by one function with calls: there a u16 is given, and here a count whose bound the trim alone knows.
-pub fn towanchor_trim(words: &mut [u32], edition: u8, a: u8, b: u8, c: u8) -> u32
-    ensures value { result ≡ trim_answer words.old edition a b c }
-    ensures words_after { words.new ≡ trimmed_words words.old edition a b c }
+pub fn towanchor_trim(
+    words: &mut [u32],
+    edition: u8,
+    levels_a: u8,
+    levels_b: u8,
+    levels_c: u8,
+) -> u32
+    ensures value { result ≡ trim_answer words.old edition levels_a levels_b levels_c }
+    ensures words_after { words.new ≡ trimmed_words words.old edition levels_a levels_b levels_c }
 {
-    match trim_numbered(words, edition, Levels { a, b, c }) {
+    let levels = Levels {
+        a: levels_a,
+        b: levels_b,
+        c: levels_c,
+    };
+    match trim_numbered(words, edition, levels) {
         Ok(kept) => 256 * kept as u32,
         Err(refusal) => u32::from(refusal.number()),
     }

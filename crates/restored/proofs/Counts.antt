@@ -1,6 +1,6 @@
 -- What the tally call answers are the counts of the history's bytes, on top of the tallies at the start.
--- Rests on Holds.
-use Rattle.std.proofs.Common.{◌≡◌, ◌∙◌, refl, Bool, true, false, cond, ◌||◌, List, ℕ, zero, suc, ◌+◌, ◌*◌, ◌/◌, ◌%◌, ◌≤◌, arith, ltb, get_or, ltb-false}
+-- Rests on Holds and Header.
+use Rattle.std.proofs.Common.{◌≡◌, ◌∙◌, refl, ap, sym, Bool, true, false, cond, ◌||◌, List, ℕ, zero, suc, ◌+◌, ◌*◌, ◌/◌, ◌%◌, ◌≤◌, arith, ltb, get_or, ltb-false}
 use Rattle.bus.specs.Event.{Event}
 use Rattle.control.specs.declared.Group.{Group}
 use Rattle.chip.specs.declared.channel.Side.{Side}
@@ -11,7 +11,9 @@ use Rattle.fates.specs.Bytes.{Byte}
 use Rattle.fates.specs.Promise.{run, Fates}
 use Rattle.calls.specs.Calls.{or_none, last_channel, last_tally, group_numbered, side_numbered, counter_numbered, tally_answer}
 use Rattle.restored.specs.Host.{host_run, Holds}
+use Rattle.restored.specs.Header.{by_channel, entry}
 use Rattle.restored.specs.Answers.{counts, tally_by}
+use Rattle.restored.proofs.Header.{channel_numbered}
 use Rattle.restored.proofs.Holds.{holds_run, tally_held}
 
 -- The first gives the tallies of the channels by their numbers.
@@ -55,10 +57,13 @@ module _ (l : List ℕ) (c : Chip) (es : List Event) (h : Holds l c) (start : �
       go : (no_channel no_tally_lem : Bool) → ltb last_channel k ≡ no_channel → ltb last_tally n ≡ no_tally_lem
           → or_none (no_channel || no_tally_lem) (256 * counter_numbered (tally_of (run c es) (group_numbered k) (side_numbered k)) n)
           ≡ or_none (no_channel || no_tally_lem)
-          (256 * ((start k n + get_or (counts (new (group_numbered k) (side_numbered k)) (all (group_numbered k) (side_numbered k))) n 0) % 65536))
+          (256 * ((start k n + entry (by_channel (λ g s. counts (new g s) (all g s))) k n) % 65536))
       go true no_tally_lem channel tally = refl
       go false true channel tally = refl
       go false false channel tally =
           let g = group_numbered k in
           let s = side_numbered k in
+          let start_here = counter_numbered (tallies g s) n in
           rw (starts k n channel tally, counted g s c es (tallies g s) (new g s) (all g s) (f g s) n (ltb-false last_tally n tally))
+          (ap (λ (here : List ℕ). 256 * ((start_here + get_or here n 0) % 65536))
+          (sym (channel_numbered (λ g s. counts (new g s) (all g s)) k (ltb-false last_channel k channel))))

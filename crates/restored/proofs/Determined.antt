@@ -26,6 +26,12 @@ reached_chips_come_back_determined c x y p q = refl
 pub images_tell_chips_place_by_place_determined : Determines restored_says.images_tell_chips_place_by_place.ended restored.images_tell_chips_place_by_place.Reads.Learnt
 images_tell_chips_place_by_place_determined c x y p q = refl
 
+pub saved_chips_are_loaded_determined : Determines restored_says.saved_chips_are_loaded.ended restored.saved_chips_are_loaded.Reads.Learnt
+saved_chips_are_loaded_determined c x y p q = refl
+
+pub chips_have_one_image_determined : Determines restored_says.chips_have_one_image.ended restored.chips_have_one_image.Reads.Learnt
+chips_have_one_image_determined c x y p q = refl
+
 pub images_hold_cycles_that_begin_determined : Determines restored_says.images_hold_cycles_that_begin.ended restored.images_hold_cycles_that_begin.Reads.Learnt
 images_hold_cycles_that_begin_determined c x y p q = refl
 
@@ -40,6 +46,9 @@ images_of_disciplined_runs_lose_none_determined c x y p q = refl
 
 pub answers_are_told_by_the_events_determined : Determines restored_says.answers_are_told_by_the_events.ended restored.answers_are_told_by_the_events.Reads.Learnt
 answers_are_told_by_the_events_determined c x y p q = refl
+
+pub answers_have_the_headers_numbers_determined : Determines restored_says.answers_have_the_headers_numbers.ended restored.answers_have_the_headers_numbers.Reads.Learnt
+answers_have_the_headers_numbers_determined c x y p q = refl
 
 pub power_ups_leave_these_bytes_determined : Determines restored_says.power_ups_leave_these_bytes.ended restored.power_ups_leave_these_bytes.Reads.Learnt
 power_ups_leave_these_bytes_determined c x y p q = refl

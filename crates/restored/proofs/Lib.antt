@@ -5,6 +5,7 @@ pub mod Holds
 pub mod Saved
 pub mod GoesOn
 pub mod Converted
+pub mod Header
 pub mod Shown
 pub mod SameDiscipline
 pub mod Counts
@@ -15,6 +16,7 @@ pub mod Having
 pub mod InRange
 pub mod Parts
 pub mod Table
+pub mod Restoring
 pub mod OlderBytes
 pub mod SavedOlder
 pub mod Determined

@@ -1,6 +1,7 @@
 -- Bytes are an older image exactly where they tell, place by place, a chip that has an image.
--- Rests on Having and Parts, on image's SameBytes, OlderSameBytes, OlderComesBack and OlderOneImage, and on calls' Converted.
-use Rattle.std.proofs.Common.{◌≡◌, ◌∙◌, refl, ap, sym, subst, true, List, [], ◌∷◌, ◌++◌, ℕ, ◌+◌, get_or, eq-eqb, ◌↔◌}
+-- Rests on Having, Holds and Parts, on image's SameBytes, ComesBack, OneImage, OlderSameBytes, OlderComesBack and OlderOneImage, and on calls'
+-- Converted.
+use Rattle.std.proofs.Common.{◌≡◌, ◌∙◌, refl, ap, sym, subst, true, List, [], ◌∷◌, ◌++◌, ℕ, ◌+◌, ◌≤◌, length, get_or, eq-eqb, le-ltb, ◌↔◌}
 use Rattle.bus.specs.declared.Phase.{Phase}
 use Rattle.bus.specs.declared.Phase.TheVariants.{Idle, Reading, Writing}
 use Rattle.control.specs.declared.Group.TheVariants.{A, B}
@@ -10,6 +11,8 @@ use Rattle.chip.specs.declared.Chip.{Chip}
 use Rattle.image.specs.Layout.{five_tallies, image_of}
 use Rattle.image.specs.Good.{Bytes}
 use Rattle.image.proofs.SameBytes.{spelled}
+use Rattle.image.proofs.ComesBack as now
+use Rattle.image.proofs.OneImage.{has_image_lem}
 use Rattle.image.specs.OlderLayout.{bus_byte, address_byte, older_of}
 use Rattle.image.specs.OlderLoaded.{older_state}
 use Rattle.image.specs.OlderGood.{is_older}
@@ -17,12 +20,14 @@ use Rattle.image.specs.Before.{NoneForced, FromBefore}
 use Rattle.image.proofs.OlderSameBytes.{same_bytes_lem}
 use Rattle.image.proofs.OlderComesBack.{comes_back, from_before}
 use Rattle.image.proofs.OlderOneImage.{older_where, tells_such}
-use Rattle.calls.specs.Calls.{convert_answer}
+use Rattle.calls.specs.Calls.{last_channel, group_numbered, side_numbered, counter_numbered, tally_answer, convert_answer, convert_image}
 use Rattle.calls.proofs.Converted.{converts, convert_same, brought_over}
+use Rattle.restored.specs.Host.{Holds}
 use Rattle.restored.specs.Having.{HasImage}
 use Rattle.restored.specs.Table.{byte}
 use Rattle.restored.specs.OlderBytes.{TellsFive, running_number, place_number, OlderTells, Converted}
 use Rattle.restored.proofs.Having.{has_so, has_by}
+use Rattle.restored.proofs.Holds.{tally_held}
 use Rattle.restored.proofs.Parts.{fill_told, enables_told, written_told, two_bytes, low_byte, high_byte, behind}
 
 -- Part by part, the numbers of the layout are those of the table.
@@ -93,9 +98,35 @@ layout_tells c (older, none) =
       unused = refl;
     }
 
+-- In the image of a chip in which nothing was planted or struck both tallies read 0 in every channel.
+module _ (c : Chip) (has : HasImage c) (before : FromBefore c) (k : ℕ) (channel : k ≤ last_channel) where
+  held : Holds (image_of c) c
+  held = let is = has_by c has in record { image = has_image_lem c is; state = now.comes_back c is; has = is }
+
+  none_planted : tally_answer (image_of c) k 5 ≡ 0
+  unfolding counter_numbered
+  none_planted = rw (tally_held (image_of c) c held k 5, le-ltb last_channel k channel, (before.1 (group_numbered k) (side_numbered k)).0)
+
+  none_struck : tally_answer (image_of c) k 6 ≡ 0
+  unfolding counter_numbered
+  none_struck = rw (tally_held (image_of c) c held k 6, le-ltb last_channel k channel, (before.1 (group_numbered k) (side_numbered k)).1)
+
+-- So in what is converted into it.
+module _ (o : List ℕ) (c : Chip) (has : HasImage c) (before : FromBefore c) (same : older_state o ≡ c)
+    (answer : (room : List ℕ) → length room ≡ 96 → convert_answer o room ≡ 0)
+    (written : (room : List ℕ) → length room ≡ 96 → convert_image o room ≡ image_of c) where
+  all_converted : Converted o c
+  all_converted = record {
+    state = same;
+    answer = answer;
+    written = written;
+    planted = λ room k long few. ap (λ (m : List ℕ). tally_answer m k 5) (written room long) ∙ none_planted c has before k few;
+    struck = λ room k long few. ap (λ (m : List ℕ). tally_answer m k 6) (written room long) ∙ none_struck c has before k few;
+  }
+
 -- Bytes that tell a chip are its older layout.
 module _ (o : List ℕ) (bytes : Bytes o) (c : Chip) (t : OlderTells o c) where
-  told_layout : older_of c ≡ o
+  pub told_layout : older_of c ≡ o
   unfolding older_of
   told_layout =
       let a = c.core.a.input in
@@ -133,11 +164,9 @@ module _ (o : List ℕ) (bytes : Bytes o) (c : Chip) (t : OlderTells o c) where
     pub converted : Converted o c
     converted =
         let same : older_state o ≡ c = ap older_state (sym told_layout) ∙ comes_back c before in
-        record {
-          state = same;
-          answer = λ room long. converts o room bytes is_older_lem long;
-          written = λ room long. convert_same o room bytes is_older_lem long ∙ ap image_of same;
-        }
+        all_converted o c has before same
+        (λ room long. converts o room bytes is_older_lem long)
+        (λ room long. convert_same o room bytes is_older_lem long ∙ ap image_of same)
 
 -- Exactly such bytes are an older image.
 pub older_image_where : (o : List ℕ) → Bytes o → (is_older o ≡ true) ↔ ((c : Chip) × HasImage c × OlderTells o c)
@@ -148,13 +177,14 @@ older_image_where o bytes = (tells, λ (c, has, t). is_older_lem o bytes c t has
         let c = older_state o in
         (c, has_so c (tells_such o bytes good), subst (λ l. OlderTells l c) (same_bytes_lem o bytes good) (layout_tells c (from_before o)))
 
+pub told_once : (o p : List ℕ) (c : Chip) → Bytes o → Bytes p → OlderTells o c → OlderTells p c → o ≡ p
+told_once o p c bo bp t u = sym (told_layout o bo c t) ∙ told_layout p bp c u
+
 -- So the older layout of a chip becomes its image.
 pub layout_converted : (c : Chip) → HasImage c → FromBefore c → Converted (older_of c) c
 unfolding convert_answer
 layout_converted c has before =
     let is : is_older (older_of c) ≡ true = older_where c before.0 ∙ has_by c has in
-    record {
-      state = comes_back c before;
-      answer = λ room long. rw (is, eq-eqb _ 96 long);
-      written = λ room long. brought_over c room (has_by c has) before long;
-    }
+    all_converted (older_of c) c has before (comes_back c before)
+    (λ room long. rw (is, eq-eqb _ 96 long))
+    (λ room long. brought_over c room (has_by c has) before long)

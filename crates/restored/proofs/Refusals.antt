@@ -1,6 +1,6 @@
 -- What the calls that ask for an image answer, of bytes that are none and of an image.
--- Rests on bits' Logic, chip's Outcome and calls' HostStep.
-use Rattle.std.proofs.Common.{◌≡◌, Bool, true, false, cond, ◌||◌, List, ℕ, ◌%◌, ◌≤◌, arith, ltb, Option, Some, None}
+-- Rests on bits' Logic, chip's Outcome, and calls' HostStep and Converted.
+use Rattle.std.proofs.Common.{◌≡◌, Bool, true, false, cond, ◌||◌, List, ℕ, ◌%◌, ◌≤◌, arith, ltb, length, ne_eqb, Option, Some, None}
 use Rattle.bits.proofs.Logic.{by_test}
 use Rattle.bus.specs.declared.Phase.{Phase}
 use Rattle.bus.specs.declared.Limits.{Limits}
@@ -11,9 +11,11 @@ use Rattle.chip.specs.Step.{limits}
 use Rattle.chip.proofs.Outcome.{step_number}
 use Rattle.image.specs.Loaded.{state_of}
 use Rattle.image.specs.Good.{is_image}
+use Rattle.image.specs.OlderGood.{is_older}
 use Rattle.calls.specs.Calls.{last_port, last_channel, last_tally, step_answer, pins_answer, tally_answer, reasons_given, explain_answer}
 use Rattle.calls.proofs.HostStep.{bad_answer, bad_stays}
-use Rattle.restored.specs.Refusals.{RefusedBytes, AcceptedBytes}
+use Rattle.calls.proofs.Converted.{no_image}
+use Rattle.restored.specs.Refusals.{RefusedBytes, NoImage, AcceptedBytes}
 
 -- The table of refusals has no number above 5.
 one_of_five : (a b c d e : Bool) → cond a 1 (cond b 2 (cond c 3 (cond d 4 (cond e 5 0)))) ≤ 5
@@ -48,6 +50,14 @@ module _ (l : List ℕ) where
     tally = λ k n. rw (bad);
     explain = λ g. rw (bad);
   }
+
+  -- More or fewer bytes than 96 are none, and so an older image is.
+  pub other_length : ¬ (length l ≡ 96) → NoImage l
+  unfolding is_image
+  other_length other = let bad : is_image l ≡ false = rw (ne_eqb (length l) 96 other) in (bad, refused_bytes bad)
+
+  pub older_image : is_older l ≡ true → NoImage l
+  older_image good = let bad = no_image l good in (bad, refused_bytes bad)
 
   -- And an image.
   pub accepted_bytes : is_image l ≡ true → AcceptedBytes l

@@ -1,6 +1,6 @@
 -- What the calls answer along a host's whole run, in the host's own words: the bytes that it keeps, the answers, and what the events alone
 -- tell, which is the account and the bytes of each channel.
-use Rattle.std.specs.Prelude.{◌≡◌, Bool, cond, ◌||◌, List, [], ◌∷◌, ◌++◌, ℕ, zero, suc, ◌+◌, ◌*◌, ◌/◌, ◌%◌, ltb, get_or}
+use Rattle.std.specs.Prelude.{◌≡◌, Bool, cond, ◌||◌, List, [], ◌∷◌, ◌++◌, ℕ, zero, suc, ◌+◌, ◌*◌, ◌/◌, ◌%◌, ltb}
 use Rattle.bits.specs.Bit.{bit_of}
 use Rattle.bus.specs.Event.{Event}
 use Rattle.control.specs.declared.Group.{Group}
@@ -21,7 +21,8 @@ use Rattle.account.specs.Views.{levels_shown, mask_shown, byte_answered}
 use Rattle.account.specs.Reasons.{explained}
 use Rattle.account.specs.Promise.{over, account_of}
 use Rattle.image.specs.Loaded.{state_of}
-use Rattle.calls.specs.Calls.{packed, step_answer, pins_answer, group_numbered, side_numbered, tally_answer, reasons_given, explain_answer}
+use Rattle.calls.specs.Calls.{step_answer, pins_answer, tally_answer, explain_answer}
+use Rattle.restored.specs.Header.{answer_of, by_channel, entry}
 use Rattle.restored.specs.Host.{passed, host_run, power_up_in}
 
 -- What a call of the step answers, where an event is passed to it,
@@ -30,15 +31,15 @@ answer_to l e = step_answer l e.kind e.first e.second
 
 -- and what it answers by the account: the number, and the byte above it.
 abbrev pub answer_by : Account → Event → ℕ
-answer_by a e = packed (number_by a.surroundings.edition a.surroundings.phase (kind_of e)) (byte_answered a e) 0
+answer_by a e = answer_of (number_by a.surroundings.edition a.surroundings.phase (kind_of e)) (byte_answered a e) 0
 
 -- What the pins call answers of port p by the account: the levels, and the mask of those driven above them; 2 above port 2.
 abbrev pub pins_by : Account → ℕ → ℕ
-pins_by a p = cond (ltb 2 p) 2 (packed 0 (levels_shown a p) (mask_shown a p))
+pins_by a p = cond (ltb 2 p) 2 (answer_of 0 (levels_shown a p) (mask_shown a p))
 
 -- What the explanation call answers of group n by the account: the number, and above it what is said of the input's half and of the output's.
 abbrev pub explained_by : Account → ℕ → ℕ
-explained_by a n = reasons_given (explained a n)
+explained_by a n = answer_of (explained a n).number (explained a n).input (explained a n).output
 
 -- What the tallies of a channel count, by their numbers: of the bytes that came since the start those that were offered; of these bytes and the
 -- one that waited there those that were handed over, overwritten, swallowed and cleared; of those that came since the ones that were planted;
@@ -51,15 +52,13 @@ counts new all =
 -- What the tally call answers of tally n of channel k by these counts, which go on from the tallies at the start; 2 above channel 3 and tally 6.
 abbrev pub tally_by : (ℕ → ℕ → ℕ) → (Group → Side → List Byte) → (Group → Side → List Byte) → ℕ → ℕ → ℕ
 tally_by start new all k n =
-    let g = group_numbered k in
-    let s = side_numbered k in
-    cond (ltb 3 k || ltb 6 n) 2 (256 * ((start k n + get_or (counts (new g s) (all g s)) n 0) % 65536))
+    cond (ltb 3 k || ltb 6 n) 2 (256 * ((start k n + entry (by_channel (λ g s. counts (new g s) (all g s))) k n) % 65536))
 
 -- The call to which an event is passed shows the byte v: to the program, by the number 0 with that byte; to the device, by the number 0,
 -- and the pins call right after it answers that byte with all eight lines of the port driven.
 abbrev pub AnswerShows : Group → Side → List ℕ → Event → ℕ → Type 0
-AnswerShows g Input l e v = answer_to l e ≡ packed 0 v 0
-AnswerShows g Output l e v = (answer_to l e % 256 ≡ 0) × (pins_answer (passed l e) (port_number g) ≡ packed 0 v 0xff)
+AnswerShows g Input l e v = answer_to l e ≡ answer_of 0 v 0
+AnswerShows g Output l e v = (answer_to l e % 256 ≡ 0) × (pins_answer (passed l e) (port_number g) ≡ answer_of 0 v 0xff)
 
 -- The call at place n of a run shows v; the first is at place 1.
 abbrev pub AnsweredAt : Group → Side → List ℕ → List Event → ℕ → ℕ → Type 0

@@ -16,7 +16,8 @@ use Rattle.fates.specs.Discipline.{Disciplined, NoneLost, NeverForced, NoneForce
 use Rattle.image.specs.Layout.{edition_byte, image_of}
 use Rattle.image.specs.Loaded.{state_of}
 use Rattle.image.specs.Good.{has_image, is_image}
-use Rattle.calls.specs.Calls.{packed, power_up_answer, power_up_image, power_up_image_with, power_up_as_answer, power_up_as_image, step_image}
+use Rattle.calls.specs.Calls.{power_up_answer, power_up_image, power_up_image_with, power_up_as_answer, power_up_as_image, step_image}
+use Rattle.restored.specs.Header.{answer_of}
 
 -- What the step of the chip that the bytes tell comes to: the image of the chip after the event,
 abbrev pub image_after : List ℕ → ℕ → ℕ → ℕ → List ℕ
@@ -24,7 +25,7 @@ image_after l k x d = image_of (step_of (state_of l) k x d).chip
 
 -- and the number of the event, with the byte that it answers above it.
 abbrev pub number_and_byte : List ℕ → ℕ → ℕ → ℕ → ℕ
-number_and_byte l k x d = packed (step_of (state_of l) k x d).number (step_of (state_of l) k x d).byte 0
+number_and_byte l k x d = answer_of (step_of (state_of l) k x d).number (step_of (state_of l) k x d).byte 0
 
 -- The bytes that a call of the step leaves, where an event is passed to it,
 abbrev pub passed : List ℕ → Event → List ℕ

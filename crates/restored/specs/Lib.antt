@@ -1,8 +1,10 @@
+pub mod Header
 pub mod Host
 pub mod Answers
 pub mod Refusals
 pub mod Having
 pub mod Table
+pub mod Restoring
 pub mod SwitchedOn
 pub mod OlderBytes
 pub mod SavedOlder

@@ -1,5 +1,5 @@
 -- The table of an older image, place by place: what its 64 bytes tell of a chip, and what becomes of them ("Forcing the flags").
-use Rattle.std.specs.Prelude.{◌≡◌, List, ℕ, ◌+◌, length, drop, replicate}
+use Rattle.std.specs.Prelude.{◌≡◌, List, ℕ, ◌+◌, ◌≤◌, length, drop, replicate}
 use Rattle.bus.specs.declared.Phase.{Phase}
 use Rattle.bus.specs.declared.Phase.TheVariants.{Idle, Reading, Writing}
 use Rattle.chip.specs.declared.channel.Tally.{Tally}
@@ -8,7 +8,7 @@ use Rattle.chip.specs.declared.Edition.TheVariants.{Older}
 use Rattle.chip.specs.declared.Chip.{Chip}
 use Rattle.image.specs.Layout.{image_of}
 use Rattle.image.specs.OlderLoaded.{older_state}
-use Rattle.calls.specs.Calls.{convert_answer, convert_image}
+use Rattle.calls.specs.Calls.{tally_answer, convert_answer, convert_image}
 use Rattle.restored.specs.Table.{byte, count_at, condition_number, enables_number, written_number}
 
 -- Five tallies of a channel, from a place on. The other two have no place, and are 0.
@@ -58,8 +58,11 @@ pub record OlderTells (o : List ℕ) (c : Chip) : Type 0 where
   -- What is not used, 57 to 63, is 0.
   pub unused : drop 57 o ≡ replicate 7 0
 
--- What becomes of bytes that tell a chip which has an image: they are read as that chip, and the conversion writes its image over any 96 bytes.
+-- What becomes of bytes that tell a chip which has an image: they are read as that chip, and the conversion writes its image over any 96 bytes, of
+-- which the tally call answers 0 for tallies 5 and 6, planted and struck, of every channel.
 pub record Converted (o : List ℕ) (c : Chip) : Type 0 where
   pub state : older_state o ≡ c
   pub answer : (room : List ℕ) → length room ≡ 96 → convert_answer o room ≡ 0
   pub written : (room : List ℕ) → length room ≡ 96 → convert_image o room ≡ image_of c
+  pub planted : (room : List ℕ) (k : ℕ) → length room ≡ 96 → k ≤ 3 → tally_answer (convert_image o room) k 5 ≡ 0
+  pub struck : (room : List ℕ) (k : ℕ) → length room ≡ 96 → k ≤ 3 → tally_answer (convert_image o room) k 6 ≡ 0

@@ -1,5 +1,6 @@
 -- Which calls are refused with 8, in plain numbers, and what a refusal leaves ("A host in C", "The 82C55A").
 use Rattle.std.specs.Prelude.{◌≡◌, true, false, List, ℕ, ◌%◌, ◌<◌, ◌≤◌, length}
+use Rattle.image.specs.Good.{is_image}
 use Rattle.image.specs.OlderGood.{is_older}
 use Rattle.calls.specs.Calls.{power_up_answer, power_up_image, power_up_image_with, power_up_as_answer, power_up_as_image, convert_answer, convert_image, step_answer, step_image, pins_answer, tally_answer, explain_answer}
 
@@ -11,6 +12,10 @@ pub record RefusedBytes (l : List ℕ) : Type 0 where
   pub pins : (p : ℕ) → pins_answer l p ≡ 8
   pub tally : (k n : ℕ) → tally_answer l k n ≡ 8
   pub explain : (g : ℕ) → explain_answer l g ≡ 8
+
+-- They are no image, and refused so.
+abbrev pub NoImage : List ℕ → Type 0
+NoImage l = (is_image l ≡ false) × RefusedBytes l
 
 -- An image: the refusal of each of these calls, which is its answer modulo 256, is at most 5.
 pub record AcceptedBytes (l : List ℕ) : Type 0 where

@@ -1,7 +1,7 @@
 //! Theorems about a chip that a host keeps as an image, saves and restores. A function here does nothing: its contract is the theorem.
 #![tactic(auto)]
 
-ghost use Rattle.std.specs.Prelude.{◌≡◌, ◌↔◌, true, false, List, ℕ, length};
+ghost use Rattle.std.specs.Prelude.{◌≡◌, ◌↔◌, true, false, List, ℕ, Some, None, length};
 ghost use Rattle.bus.specs.Event.{Event};
 ghost use Rattle.control.specs.declared.Group.{Group};
 ghost use Rattle.chip.specs.declared.Edition.{Edition};
@@ -15,15 +15,18 @@ ghost use Rattle.fates.specs.Discipline.{Disciplined};
 ghost use Rattle.image.specs.Layout.{image_of};
 ghost use Rattle.image.specs.Loaded.{state_of};
 ghost use Rattle.image.specs.Good.{has_image, is_image, Bytes};
+ghost use Rattle.image.specs.Slices.{saved_in, loaded_from};
 ghost use Rattle.image.specs.OlderLayout.{older_of};
 ghost use Rattle.image.specs.OlderGood.{is_older};
 ghost use Rattle.image.specs.Before.{FromBefore};
 ghost use Rattle.calls.specs.Calls.{convert_image, step_answer, step_image};
+ghost use Rattle.restored.specs.Header.{ByHeader};
 ghost use Rattle.restored.specs.Host.{image_after, number_and_byte, Holds, ByDefault, GoesOn, CycleBegins, ComesBack, PoweredUp, StillNoneLost};
 ghost use Rattle.restored.specs.Answers.{HostDisciplined, HostKept, ImageKept};
-ghost use Rattle.restored.specs.Refusals.{RefusedBytes, AcceptedBytes, PowersUp, Converts};
+ghost use Rattle.restored.specs.Refusals.{RefusedBytes, NoImage, AcceptedBytes, PowersUp, Converts};
 ghost use Rattle.restored.specs.Having.{HasImage, InRange, ComesFromBytes};
 ghost use Rattle.restored.specs.Table.{Tells};
+ghost use Rattle.restored.specs.Restoring.{IsImageOf, SavedOfNone, TellsNone, LoadsAsTold};
 ghost use Rattle.restored.specs.OlderBytes.{OlderTells, Converted};
 ghost use Rattle.restored.specs.SavedOlder.{five_saved, Becomes};
 ghost use Rattle.restored.specs.SwitchedOn.{SwitchesOn};
@@ -36,9 +39,12 @@ pub fn images_step_as_their_chips()
 {}
 
 /// Of bytes that are no image the step, the pin view, the tallies and the explanation answer 8, whatever the operands, and the step leaves each
-/// byte as it was. Of an image none of them answers 8: the refusal, which is the answer modulo 256, is at most 5.
+/// byte as it was. So it is with more or fewer bytes than 96, which are no image, and with every older image. Of an image none of them answers 8:
+/// the refusal, which is the answer modulo 256, is at most 5.
 pub fn other_bytes_are_refused()
     ensures refused { (l : List ℕ) → is_image l ≡ false → RefusedBytes l }
+    ensures other_length { (l : List ℕ) → ¬ (length l ≡ 96) → NoImage l }
+    ensures older { (o : List ℕ) → is_older o ≡ true → NoImage o }
     ensures accepted { (l : List ℕ) → is_image l ≡ true → AcceptedBytes l }
 {}
 
@@ -75,6 +81,27 @@ pub fn images_tell_chips_place_by_place()
     ensures image { (l : List ℕ) → Bytes l → (is_image l ≡ true) ↔ ((c : Chip) × HasImage c × Tells l c) }
     ensures restored { (l : List ℕ) (c : Chip) → Bytes l → HasImage c → Tells l c → state_of l ≡ c }
     ensures saved { (c : Chip) → HasImage c → Tells (image_of c) c }
+{}
+
+/// A chip is loaded from bytes exactly where they tell it by the table, and it has an image. From bytes that tell no such chip, and from more or
+/// fewer than 96, none is loaded. What is saved of a chip that has an image over any 96 bytes gives back exactly this chip.
+pub fn saved_chips_are_loaded()
+    ensures loaded { (l : List ℕ) (c : Chip) → Bytes l → LoadsAsTold l c }
+    ensures none { (l : List ℕ) → Bytes l → TellsNone l → loaded_from l ≡ None }
+    ensures other_length { (l : List ℕ) → ¬ (length l ≡ 96) → loaded_from l ≡ None }
+    ensures back { (l : List ℕ) (c : Chip) → length l ≡ 96 → HasImage c → loaded_from (saved_in l c) ≡ Some c }
+{}
+
+/// A chip has one image at most: two images from which the same chip is restored are the same bytes, and so are two lists of bytes that tell the
+/// same chip by the table. What is saved of the chip that is restored from an image are the bytes of that image. A chip that has no image is
+/// restored from none. What is saved of a chip is an image exactly where the chip has one, and bytes that are the image of no chip are no image.
+pub fn chips_have_one_image()
+    ensures one { (l m : List ℕ) (c : Chip) → Bytes l → Bytes m → IsImageOf l c → IsImageOf m c → l ≡ m }
+    ensures told { (l m : List ℕ) (c : Chip) → Bytes l → Bytes m → HasImage c → Tells l c → Tells m c → l ≡ m }
+    ensures again { (l : List ℕ) → Bytes l → is_image l ≡ true → image_of (state_of l) ≡ l }
+    ensures none { (l : List ℕ) (c : Chip) → Bytes l → ¬ HasImage c → ¬ IsImageOf l c }
+    ensures saved { (c : Chip) → (is_image (image_of c) ≡ true) ↔ HasImage c }
+    ensures others { (l : List ℕ) → Bytes l → SavedOfNone l → is_image l ≡ false }
 {}
 
 /// The cycle that an image holds is one that its chip begins: were the bus idle, the chip would accept the event that begins it. So a read of
@@ -116,6 +143,12 @@ pub fn answers_are_told_by_the_events()
     ensures discipline { (g : Group) (a : Surroundings) (l : List ℕ) (c : Chip) (es : List Event) → Holds l c → HostDisciplined g a l es ↔ Disciplined g a c es }
 {}
 
+/// What the calls answer of bytes that tell a chip by the table is what the chip does and shows, in the numbers of the header: the bytes of an
+/// answer, the channels and the tallies.
+pub fn answers_have_the_headers_numbers()
+    ensures { (l : List ℕ) (c : Chip) → Bytes l → HasImage c → Tells l c → ByHeader l c }
+{}
+
 /// What a power-up leaves in 96 bytes, number by number: tallies of 0, the levels that are named, latches of 0, channels that are empty, the
 /// mode word 9B, no enable, an idle bus, the edition that is named, and 0 in the bytes that are not used. Where no edition is named it is the
 /// older, and where no levels are, every line is low.
@@ -124,10 +157,11 @@ pub fn power_ups_leave_these_bytes()
 {}
 
 /// Bytes are an older image exactly where they tell, place by place, a chip of the older edition that has an image: 64 bytes, of which those
-/// that are not used are 0. They are read as that chip, and the conversion writes its image. So the 64 bytes in which earlier versions saved a
-/// chip become, by one call, the 96 bytes of the same chip.
+/// that are not used are 0. No others tell the same chip. They are read as that chip, and the conversion writes its image, in which both new
+/// tallies read 0. So the 64 bytes in which earlier versions saved a chip become, by one call, the 96 bytes of the same chip.
 pub fn older_images_tell_chips_place_by_place()
     ensures older_image { (o : List ℕ) → Bytes o → (is_older o ≡ true) ↔ ((c : Chip) × HasImage c × OlderTells o c) }
+    ensures one { (o p : List ℕ) (c : Chip) → Bytes o → Bytes p → OlderTells o c → OlderTells p c → o ≡ p }
     ensures converted { (o : List ℕ) (c : Chip) → Bytes o → HasImage c → OlderTells o c → Converted o c }
     ensures saved { (c : Chip) → FromBefore c → OlderTells (older_of c) c }
     ensures brought_over { (c : Chip) → HasImage c → FromBefore c → Converted (older_of c) c }

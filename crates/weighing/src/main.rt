@@ -1,5 +1,5 @@
 //! What an emulator in Rattle does with the chip, in small: a scale strobes a digit into port A, the program on the computer reads it and
-//! writes it to port B for the printer, and the emulator asks why the printer's interrupt is quiet.
+//! writes it to port B for the printer, and the emulator asks why the printer's interrupt is quiet. Then it saves the chip, and restores it.
 #![tactic(auto)]
 
 ghost use Rattle.std.specs.Prelude.{◌≡◌, [], ◌∷◌, OnOk, OnErr};
@@ -15,6 +15,8 @@ use bus::refusals::Refusal;
 use chip::channel::Side;
 use chip::{CONTROL, Chip, Edition, Levels, PORT_A, PORT_B, PORT_C};
 use control::Group;
+use image::places::{LENGTH, WORD};
+use image::{load, save};
 use std::io;
 
 // Both groups in mode 1: port A is an input with STB and IBF, and port B an output with ACK and OBF.
@@ -68,6 +70,15 @@ fn weigh(chip: &mut Chip) -> Result<Option<u8>, Refusal> {
     Ok(Some(digit))
 }
 
+// What is restored from bytes in which the chip was saved.
+fn told(saved: &[u8], chip: &Chip) -> &'static str {
+    match load::state(saved) {
+        Some(restored) if restored == *chip => "the same chip",
+        Some(_) => "another chip",
+        None => "no chip",
+    }
+}
+
 fn main(rt: HostRuntime) -> io::Result<()> {
     let mut chip = Chip::new(Edition::Older, Levels::HIGH);
     match weigh(&mut chip) {
@@ -81,5 +92,10 @@ fn main(rt: HostRuntime) -> io::Result<()> {
     println!(rt;
         "from the scale: {} offered, {} handed over",
         scale.offered, scale.handed
-    )
+    )?;
+    let mut saved = [0; LENGTH];
+    save::state(&mut saved, &chip);
+    println!(rt; "restored: {}", told(&saved, &chip))?;
+    saved[WORD] = 0;
+    println!(rt; "with a byte damaged: {}", told(&saved, &chip))
 }
