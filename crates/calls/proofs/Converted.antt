@@ -1,7 +1,7 @@
 -- What becomes of an older image: the image of the state that it tells, of the older edition, in which nothing was planted or struck; and
 -- bad bytes are refused.
 -- Rests on image's SameBytes, ComesBack, OneImage, Long, OlderComesBack, OlderLong and OlderOneImage.
-use Rattle.std.proofs.Common.{◌≡◌, ◌∙◌, refl, ap, true, false, List, ℕ, ◌<◌, arith, w8, Fits, length, eq-eqb, ne_eqb, le-ltb}
+use Rattle.std.proofs.Common.{◌≡◌, ◌∙◌, refl, ap, true, false, List, ℕ, arith, w8, Fits, length, eq-eqb, ne_eqb}
 use Rattle.chip.specs.declared.Chip.{Chip}
 use Rattle.image.specs.Places as places
 use Rattle.image.specs.Layout.{image_of}
@@ -21,7 +21,7 @@ use Rattle.image.specs.Before.{FromBefore}
 use Rattle.image.proofs.OlderComesBack as older
 use Rattle.image.proofs.OlderLong.{is_long}
 use Rattle.image.proofs.OlderOneImage.{older_where, tells_such, converted}
-use Rattle.calls.specs.Calls.{last_channel, counter_numbered, tally_answer, convert_answer, convert_image}
+use Rattle.calls.specs.Calls.{convert_answer, convert_image}
 
 -- What the writing of an older image leaves of a slice of any length is what the call leaves.
 pub converted_so : (o l : List ℕ) → ((i : ℕ) → Fits w8 (byte_at o i)) → is_older o ≡ true → converted_in o l ≡ convert_image o l
@@ -33,11 +33,6 @@ module _ (o l : List ℕ) where
   pub convert_bad : is_older o ≡ false → (convert_answer o l ≡ 8) × (convert_image o l ≡ l)
   unfolding convert_answer convert_image
   convert_bad bad = (rw (bad), rw (bad))
-
-  -- So it is where there is no room for an image, or too much.
-  pub convert_other : is_older o ≡ true → ¬ (length l ≡ places.length) → (convert_answer o l ≡ 8) × (convert_image o l ≡ l)
-  unfolding convert_answer convert_image saved_in
-  convert_other good other = let no = ne_eqb (length l) places.length other in (rw (good, no), rw (good, no))
 
   module _ (bytes : Bytes o) (good : is_older o ≡ true) (long : length l ≡ places.length) where
     -- Accepted, and the bytes are the image of the state that the older image tells.
@@ -55,18 +50,6 @@ module _ (o l : List ℕ) where
 
     pub convert_tells : state_of (convert_image o l) ≡ older_state o
     convert_tells = ap state_of convert_same ∙ comes_back (older_state o) (tells_such o bytes good)
-
--- Both new tallies read 0 in every channel.
-module _ (o l : List ℕ) (bytes : Bytes o) (good : is_older o ≡ true) (long : length l ≡ places.length) (k : ℕ) (channel : k < 4) where
-  pub none_planted_lem : tally_answer (convert_image o l) k 5 ≡ 0
-  unfolding tally_answer counter_numbered
-  none_planted_lem =
-      rw (convert_good o l bytes good long, convert_tells o l bytes good long, le-ltb last_channel k (omega (arith, channel)), ((older.from_before o).1 _ _).0)
-
-  pub none_struck_lem : tally_answer (convert_image o l) k 6 ≡ 0
-  unfolding tally_answer counter_numbered
-  none_struck_lem =
-      rw (convert_good o l bytes good long, convert_tells o l bytes good long, le-ltb last_channel k (omega (arith, channel)), ((older.from_before o).1 _ _).1)
 
 -- Of every state of the older edition with an image, in which nothing was planted or struck, the older image becomes the image.
 pub brought_over : (c : Chip) (l : List ℕ) → has_image c ≡ true → FromBefore c → length l ≡ places.length → convert_image (older_of c) l ≡ image_of c

@@ -1,7 +1,6 @@
--- A state that meets the conditions has exactly one image, and comes back from it; any other has none; and all other bytes are refused.
--- Rests on Fitting and SameBytes, and on bits' Logic.
+-- A state that meets the conditions has exactly one image, and all other bytes are refused.
+-- Rests on Fitting and SameBytes.
 use Rattle.std.proofs.Common.{◌≡◌, ◌∙◌, refl, ap, sym, Bool, true, false, List, ℕ}
-use Rattle.bits.proofs.Logic.{contrary}
 use Rattle.chip.specs.declared.Chip.{Chip}
 use Rattle.image.specs.Layout.{image_of}
 use Rattle.image.specs.Loaded.{state_of}
@@ -20,10 +19,6 @@ tells_such l bytes good = sym (image_where (state_of l)) ∙ ap is_image (same_b
 -- Two images of one state are one.
 pub one_image : (l m : List ℕ) → Bytes l → Bytes m → is_image l ≡ true → is_image m ≡ true → state_of l ≡ state_of m → l ≡ m
 one_image l m bl bm gl gm same = sym (same_bytes_lem l bl gl) ∙ ap image_of same ∙ same_bytes_lem m bm gm
-
--- A state without an image is told by none.
-pub none_other : (c : Chip) → has_image c ≡ false → (l : List ℕ) → Bytes l → is_image l ≡ true → ¬ (state_of l ≡ c)
-none_other c none l bytes good same = contrary (has_image (state_of l)) (ap has_image same ∙ none) (tells_such l bytes good)
 
 -- Bytes that are no state's image are refused.
 pub others_refused : (l : List ℕ) → Bytes l → ((c : Chip) → has_image c ≡ true → ¬ (image_of c ≡ l)) → is_image l ≡ false

@@ -18,15 +18,15 @@ use Rattle.calls.specs.Calls.{step_answer, pins_answer, tally_answer, explain_an
 abbrev pub answer_of : ℕ → ℕ → ℕ → ℕ
 answer_of number first second = number + 256 * first + 65536 * second
 
--- What there is of each channel, by their numbers: 0 is A in, 1 A out, 2 B in, 3 B out.
+-- A list for each channel, by the channel's number: 0 is A in, 1 A out, 2 B in, 3 B out.
 abbrev pub by_channel : (Group → Side → List ℕ) → List (List ℕ)
 by_channel f = f A Input ∷ f A Output ∷ f B Input ∷ f B Output ∷ []
 
--- The tallies by their numbers: 0 is offered, 1 handed over, 2 overwritten, 3 swallowed, 4 cleared, 5 planted, 6 struck.
+-- The tallies of a channel, by their numbers: 0 is offered, 1 handed over, 2 overwritten, 3 swallowed, 4 cleared, 5 planted, 6 struck.
 abbrev pub by_tally : Tally → List ℕ
 by_tally t = t.offered ∷ t.handed ∷ t.overwritten ∷ t.swallowed ∷ t.cleared ∷ t.planted ∷ t.struck ∷ []
 
--- Of such lists of all channels the one of channel k, and in it entry n.
+-- Entry n of the list of channel k.
 abbrev pub entry : List (List ℕ) → ℕ → ℕ → ℕ
 entry lists k n = get_or (get_or lists k []) n 0
 

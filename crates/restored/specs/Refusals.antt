@@ -13,7 +13,7 @@ pub record RefusedBytes (l : List ℕ) : Type 0 where
   pub tally : (k n : ℕ) → tally_answer l k n ≡ 8
   pub explain : (g : ℕ) → explain_answer l g ≡ 8
 
--- They are no image, and refused so.
+-- Bytes are no image, and are refused as such.
 abbrev pub NoImage : List ℕ → Type 0
 NoImage l = (is_image l ≡ false) × RefusedBytes l
 

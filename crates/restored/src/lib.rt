@@ -143,8 +143,8 @@ pub fn answers_are_told_by_the_events()
     ensures discipline { (g : Group) (a : Surroundings) (l : List ℕ) (c : Chip) (es : List Event) → Holds l c → HostDisciplined g a l es ↔ Disciplined g a c es }
 {}
 
-/// What the calls answer of bytes that tell a chip by the table is what the chip does and shows, in the numbers of the header: the bytes of an
-/// answer, the channels and the tallies.
+/// What the calls answer of bytes that tell a chip by the table is what the chip does and shows. Each part of it stands in the answer where the
+/// header has it, and channels and tallies have the header's numbers.
 pub fn answers_have_the_headers_numbers()
     ensures { (l : List ℕ) (c : Chip) → Bytes l → HasImage c → Tells l c → ByHeader l c }
 {}
