@@ -29,6 +29,12 @@ runs_are_numbered_determined c x y p q = refl
 pub refused_and_empty_runs_leave_all_determined : (S : _) (lS : _) → Determines (account_says.refused_and_empty_runs_leave_all.ended S) (account.refused_and_empty_runs_leave_all.Reads.Learnt S lS)
 refused_and_empty_runs_leave_all_determined S lS c x y p q = refl
 
+pub accepted_runs_write_the_answers_determined : (S : _) (lS : _) → Determines (account_says.accepted_runs_write_the_answers.ended S) (account.accepted_runs_write_the_answers.Reads.Learnt S lS)
+accepted_runs_write_the_answers_determined S lS c x y p q = refl
+
+pub runs_begin_at_power_up_determined : Determines account_says.runs_begin_at_power_up.ended account.runs_begin_at_power_up.Reads.Learnt
+runs_begin_at_power_up_determined c x y p q = refl
+
 pub answers_stand_line_by_line_determined : (S : _) (lS : _) → Determines (account_says.answers_stand_line_by_line.ended S) (account.answers_stand_line_by_line.Reads.Learnt S lS)
 answers_stand_line_by_line_determined S lS c x y p q = refl
 

@@ -27,6 +27,9 @@ pub mod Lines
 pub mod Script
 pub mod Texts
 pub mod RunNumbers
+pub mod RefusedRuns
+pub mod AcceptedRuns
+pub mod AtPowerUp
 pub mod ReadBack
 pub mod Decided
 pub mod Determined

@@ -1,7 +1,7 @@
 -- The whole case and the other scripts of specs/Texts.antt have the answers that the rules list. The checker computes them by the account,
 -- and ask the chip at power-up alone.
 -- Rests on Agrees and Lines, on fates' ScriptRun and on text's Quoted.
-use Rattle.std.proofs.Common.{◌≡◌, ◌∙◌, refl, List, ℕ}
+use Rattle.std.proofs.Common.{◌≡◌, ◌∙◌, refl, List, ℕ, ◌*◌, length, map, sum}
 use Rattle.bits.specs.Bit.{bit_of}
 use Rattle.bus.specs.Kinds.{is_kind, operands_of}
 use Rattle.chip.specs.declared.Edition.{Edition}
@@ -40,3 +40,12 @@ pub texts_answered : (ed : Edition) → answered (answers_of (by_device device p
 texts_answered ed =
     answered_alike (answers_of (by_device device pins_of) (power_up_as ed all_high)) (λ text. lines_by (start ed) (history_of text)) (by_account ed) (texts ed)
     ∙ as_listed ed
+
+-- They are nine, with so many bytes in answer.
+pub nine_texts : (ed : Edition) → length (texts ed) ≡ 9
+nine_texts Older = refl
+nine_texts Newer = refl
+
+pub lines_listed : (ed : Edition) → sum (map length (listed (texts ed))) ≡ 27 * 11
+lines_listed Older = refl
+lines_listed Newer = refl

@@ -10,4 +10,5 @@ pub mod ReadBack
 pub mod Script
 pub mod Texts
 pub mod AnyDevice
+pub mod AtPowerUp
 pub mod Decided

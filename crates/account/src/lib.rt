@@ -2,7 +2,7 @@
 //! function here does nothing: its contract is the theorem.
 #![tactic(auto)]
 
-ghost use Rattle.std.specs.Prelude.{◌≡◌, List, [], ◌∷◌, ◌++◌, ℕ, length, take};
+ghost use Rattle.std.specs.Prelude.{◌≡◌, List, [], ◌∷◌, ◌++◌, ℕ, ◌*◌, length, take, map, sum};
 ghost use Rattle.bus.specs.Event.{Event};
 ghost use Rattle.control.specs.declared.Group.{Group};
 ghost use Rattle.chip.specs.declared.channel.Side.{Side};
@@ -26,7 +26,8 @@ ghost use Rattle.account.specs.Holds.{HoldsTrue, HoldsFromPowerUp, WriteRuns, Po
 ghost use Rattle.account.specs.ReadBack.{ReadsBack};
 ghost use Rattle.account.specs.Script.{AnsweredBy, RunNumbered};
 ghost use Rattle.account.specs.Texts.{texts};
-ghost use Rattle.account.specs.AnyDevice.{IsRefused, LeavesAll, up_to_lf};
+ghost use Rattle.account.specs.AnyDevice.{LeavesAll, RefusedByLength, MayRun, WritesAnswers, up_to_lf};
+ghost use Rattle.account.specs.AtPowerUp.{RunsFromPowerUp};
 ghost use Rattle.account.specs.Unreached.{with_condition, with_word, SameSight};
 ghost use Rattle.account.specs.Decided.{EachDecided};
 
@@ -83,12 +84,27 @@ pub fn runs_are_numbered()
     ensures { (text : List ℕ) (room : ℕ) → RunNumbered text room }
 {}
 
-/// Whatever device answers, a refused run leaves every byte of the output, and the device. An empty text has no lines: it is accepted whatever
-/// the room, and leaves them too.
+/// Whatever device answers, a run of a text of more than 4,096 bytes is refused with 6, and one of any other with 7 where the output is shorter
+/// than the answers: for each line five bytes, and six more for each card. Both leave every byte of the output, and the device. An empty text has
+/// no lines: it is accepted whatever the room, and leaves them too.
 pub fn refused_and_empty_runs_leave_all<S>()
-    ensures refused { (a : Answerer S) (s : S) (text out : List ℕ) → IsRefused a s text out → LeavesAll a s text out }
+    ensures refused { (a : Answerer S) (s : S) (text out : List ℕ) → RefusedByLength a s text out }
     ensures no_lines { (a : Answerer S) (s : S) (out : List ℕ) → ran_of (width_of a s) [] (length out) ≡ accepted_run 0 }
     ensures empty { (a : Answerer S) (s : S) (out : List ℕ) → LeavesAll a s [] out }
+{}
+
+/// Whatever device answers, a text of at most 4,096 bytes runs where the output has room for the answers, and the run counts every line. The
+/// output then begins with the answers, and every byte behind them is as it was. The device is the one that the lines leave.
+pub fn accepted_runs_write_the_answers<S>()
+    ensures { (a : Answerer S) (s : S) (text out : List ℕ) → MayRun a s text out → WritesAnswers a s text out }
+{}
+
+/// A run that the library begins at power-up, on a chip of either edition, leaves in the output the lines of the account of the text's history,
+/// from a power-up with every line high, and behind them the bytes that stood there. One that is refused leaves every byte. It gives back 6, 7,
+/// or 0 and the number of lines, by the length of the text and eleven bytes for each line.
+#[tactic(auto, using(crate::proofs::AtPowerUp::runs_from_power_up))]
+pub fn runs_begin_at_power_up()
+    ensures { (ed : Edition) (text out : List ℕ) → RunsFromPowerUp ed text out }
 {}
 
 /// Whatever device answers, the answers to a text are of one width for each line; and those up to an LF are the same whatever follows.
@@ -98,7 +114,9 @@ pub fn answers_stand_line_by_line<S>()
 {}
 
 /// The rules' whole case and the other scripts that they list, which say what a line must be to be a frame, have the answers that stand beside
-/// them, for a chip of either edition.
+/// them, for a chip of either edition. They are nine scripts, with twenty-seven lines of eleven bytes in answer.
 pub fn texts_have_these_answers()
-    ensures { (ed : Edition) → answered (answers_of (by_device device pins_of) (power_up_as ed all_high)) (texts ed) ≡ listed (texts ed) }
+    ensures answers { (ed : Edition) → answered (answers_of (by_device device pins_of) (power_up_as ed all_high)) (texts ed) ≡ listed (texts ed) }
+    ensures scripts { (ed : Edition) → length (texts ed) ≡ 9 }
+    ensures lines { (ed : Edition) → sum (map length (listed (texts ed))) ≡ 27 * 11 }
 {}

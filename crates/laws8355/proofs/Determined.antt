@@ -57,3 +57,6 @@ cycles_at_no_place_end_determined c x y p q = refl
 
 pub scripts_are_answered_by_the_account_determined : Determines laws8355_says.scripts_are_answered_by_the_account.ended laws8355.scripts_are_answered_by_the_account.Reads.Learnt
 scripts_are_answered_by_the_account_determined c x y p q = refl
+
+pub runs_begin_at_power_up_determined : Determines laws8355_says.runs_begin_at_power_up.ended laws8355.runs_begin_at_power_up.Reads.Learnt
+runs_begin_at_power_up_determined c x y p q = refl

@@ -11,4 +11,5 @@ pub mod Agrees
 pub mod Account
 pub mod Accounted
 pub mod Script
+pub mod AtPowerUp
 pub mod Determined

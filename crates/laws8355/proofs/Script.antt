@@ -19,7 +19,7 @@ use Rattle.i8355.specs.State.{power_up}
 use Rattle.i8355.specs.Views.{pins_of}
 use Rattle.i8355.specs.Step.{device, step_of}
 use Rattle.laws8355.specs.Account.{Account, account_next, opened}
-use Rattle.laws8355.specs.Script.{line_by, lines_by, AnsweredBy, texts}
+use Rattle.laws8355.specs.Script.{line_by, lines_by, texts}
 use Rattle.laws8355.proofs.Agrees.{Agrees, agrees_opened, agrees_next}
 use Rattle.laws8355.proofs.Account.{levels_shown_lem, number_told_lem, byte_told_lem}
 
@@ -33,7 +33,7 @@ lines_are : (es : List Event) (c : Chip8355) (a : Account) → Agrees c a → an
 lines_are [] c a k = refl
 lines_are (e ∷ es) c a k = cc (line_is c a e k, lines_are es (given_in device c e).state (account_next a e) (agrees_next c a e k))
 
-pub answered_by : (text : List ℕ) → AnsweredBy text
+pub answered_by : (text : List ℕ) → answers_of (by_device device pins_of) power_up text ≡ lines_by opened (history_of text)
 answered_by text = history_answered device pins_of power_up text ∙ lines_are (history_of text) power_up opened agrees_opened
 
 as_listed : answered (λ text. lines_by opened (history_of text)) texts ≡ listed texts

@@ -1,9 +1,12 @@
--- A script of the 8355, by the account alone ("The 8355 ports", "Script and program").
-use Rattle.std.specs.Prelude.{◌≡◌, List, [], ◌∷◌, ◌++◌, ℕ}
+-- A script of the 8355, by the account alone: its answers, and what its run leaves ("The 8355 ports", "Script and program").
+use Rattle.std.specs.Prelude.{◌≡◌, List, [], ◌∷◌, ◌++◌, ℕ, ◌*◌, ◌<◌, ◌≤◌, length, drop}
 use Rattle.bus.specs.Event.{Event}
+use Rattle.text.specs.Lines.{line_count}
 use Rattle.text.specs.History.{history_of}
 use Rattle.text.specs.Quoted.{Text, ◌gives◌}
-use Rattle.script.specs.Answers.{by_device, levels_text, line_text, answers_of}
+use Rattle.script.specs.Answers.{by_device, levels_text, line_text, answer_width, answers_of}
+use Rattle.script.specs.Run.{ran_of}
+use Rattle.script.specs.AtPowerUp.{output_by_8355}
 use Rattle.i8355.specs.State.{power_up}
 use Rattle.i8355.specs.Views.{pins_of}
 use Rattle.i8355.specs.Step.{device}
@@ -23,6 +26,20 @@ lines_by a (e ∷ es) = line_by a e ++ lines_by (account_next a e) es
 -- What is promised of a text: its answers are the account's, from power-up.
 abbrev pub AnsweredBy : List ℕ → Type 0
 AnsweredBy text = answers_of (by_device device pins_of) power_up text ≡ lines_by opened (history_of text)
+
+-- The run of a text that begins at power-up gives back the number n and a count of lines, and leaves these bytes in the output.
+pub record Leaves (text out : List ℕ) (n lines : ℕ) (left : List ℕ) : Type 0 where
+  pub told : ran_of answer_width text (length out) ≡ record { number = n; lines = lines }
+  pub output : output_by_8355 text out ≡ left
+
+-- What is promised of that run: it is 6 for a text of more than 4,096 bytes, and else 7 where the output is shorter than eleven bytes for each
+-- line; the output is then as it was. Else it is 0 and the number of lines, and the output has the account's answer lines, and behind them the
+-- bytes that stood there.
+pub record RunsFromPowerUp (text out : List ℕ) : Type 0 where
+  pub too_long : 4096 < length text → Leaves text out 6 0 out
+  pub no_room : length text ≤ 4096 → length out < 11 * line_count text → Leaves text out 7 0 out
+  pub runs : length text ≤ 4096 → 11 * line_count text ≤ length out
+      → Leaves text out 0 (line_count text) (lines_by opened (history_of text) ++ drop (11 * line_count text) out)
 
 -- Port B is loaded with 5A, and shows it once its direction is FF; it is read; a direction register cannot be read, there is no port C, and 04 is no
 -- kind. In the second script the upper half of port A becomes an output, over levels that come later, and a reset turns it back. A blank line and a

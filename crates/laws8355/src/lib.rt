@@ -2,7 +2,7 @@
 //! does nothing: its contract is the theorem.
 #![tactic(auto)]
 
-ghost use Rattle.std.specs.Prelude.{◌≡◌, List, ℕ, ◌<◌};
+ghost use Rattle.std.specs.Prelude.{◌≡◌, List, ℕ, ◌*◌, ◌<◌, length, map, sum};
 ghost use Rattle.bus.specs.Event.{Event};
 ghost use Rattle.bus.specs.Facts.{Facts};
 ghost use Rattle.bus.specs.declared.Phase.TheVariants.{Idle, Reading, Writing};
@@ -17,7 +17,7 @@ ghost use Rattle.laws8355.specs.Account.{opened};
 ghost use Rattle.laws8355.specs.Promise.{account_of, Accounted};
 ghost use Rattle.laws8355.specs.Sheet.{Written, InEveryState};
 ghost use Rattle.laws8355.specs.Lasts.{Lasts};
-ghost use Rattle.laws8355.specs.Script.{AnsweredBy, texts};
+ghost use Rattle.laws8355.specs.Script.{AnsweredBy, RunsFromPowerUp, texts};
 
 /// The facts about cycles hold of the 8355 in every state, as they do of every device on the bus: which number an event has, that a refusal
 /// changes nothing, that operands which the kind lacks are not looked at, which cycle runs, and which event began it. There are four addresses,
@@ -65,9 +65,19 @@ pub fn cycles_at_no_place_end()
 {}
 
 /// The answers to every script of the 8355 are those of the account of its history, with 00 for port C, which there is not. Four scripts have
-/// the answers that are listed beside them.
+/// the answers that are listed beside them, with fifteen lines of eleven bytes in all.
 #[tactic(auto, using(crate::proofs::Script::answered_by, crate::proofs::Script::texts_answered))]
 pub fn scripts_are_answered_by_the_account()
     ensures account { (text : List ℕ) → AnsweredBy text }
     ensures examples { answered (answers_of (by_device device pins_of) power_up) texts ≡ listed texts }
+    ensures scripts { length texts ≡ 4 }
+    ensures lines { sum (map length (listed texts)) ≡ 15 * 11 }
+{}
+
+/// A run that the library begins at power-up leaves in the output the lines of the account of the text's history, and behind them the bytes that
+/// stood there. One that is refused leaves every byte. It gives back 6, 7, or 0 and the number of lines, by the length of the text and eleven
+/// bytes for each line.
+#[tactic(auto, using(crate::proofs::AtPowerUp::runs_from_power_up))]
+pub fn runs_begin_at_power_up()
+    ensures { (text out : List ℕ) → RunsFromPowerUp text out }
 {}

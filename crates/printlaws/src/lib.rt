@@ -2,7 +2,7 @@
 //! contract is the theorem.
 #![tactic(auto)]
 
-ghost use Rattle.std.specs.Prelude.{◌≡◌, ◌↔◌, true, false, ℕ, ◌<◌, ◌≤◌, List, eqb, length};
+ghost use Rattle.std.specs.Prelude.{◌≡◌, ◌↔◌, true, false, ℕ, ◌<◌, ◌≤◌, List, [], ◌∷◌, eqb, length, map};
 ghost use Rattle.chip.specs.Pins.{pins_of};
 ghost use Rattle.text.specs.Lines.{lines_of};
 ghost use Rattle.text.specs.History.{history_of};
@@ -14,6 +14,7 @@ ghost use Rattle.script.specs.Left as walk;
 ghost use Rattle.script.specs.RackAnswers.{answering};
 ghost use Rattle.script.specs.Run.{too_long};
 ghost use Rattle.prints.specs.declared.Device.{Device};
+ghost use Rattle.prints.specs.declared.Device.TheVariants.{I8255A, I82C55A, I8355};
 ghost use Rattle.prints.specs.Printed.{printed, printed_of_rack, refuses_rack};
 ghost use Rattle.prints.specs.Left.{left_of};
 ghost use Rattle.prints.specs.Mended.{refuses_mending, printed_mended, said_of_all, has_unfit};
@@ -26,12 +27,13 @@ ghost use Rattle.printlaws.specs.RackTexts.{rack_texts};
 ghost use Rattle.printlaws.specs.Capture.{a_capture, clean_script, said_of_its_lines, a_fit_capture};
 
 /// Of a text of at most 4,096 bytes the program prints the lines that the account of the text's history has, from a power-up with every line
-/// high: asked for an 8255A those of the older edition, for an 82C55A those of the newer, and for an 8355 those of the 8355. Of some scripts for
-/// each it prints the answers that are listed beside them.
+/// high: asked for an 8255A those of the older edition, for an 82C55A those of the newer, and for an 8355 those of the 8355. Of nine scripts for
+/// each of the two, and of four for the 8355, it prints the answers that are listed beside them.
 #[tactic(auto, using(crate::proofs::ByAccount::by_account, crate::proofs::ByAccount::as_listed))]
 pub fn scripts_print_what_the_account_says()
     ensures account { (device : Device) (text : List ℕ) → length text ≤ 4096 → printed device text ≡ accounted_lines device (history_of text) }
     ensures texts { (device : Device) → answered (printed device) (listed_scripts device) ≡ listed (listed_scripts device) }
+    ensures counted { map (λ device. length (listed_scripts device)) (I8255A ∷ I82C55A ∷ I8355 ∷ []) ≡ 9 ∷ 9 ∷ 4 ∷ [] }
 {}
 
 /// Of a text of at most 4,096 bytes whose first line is a rack the program prints one line for each further line, and nothing else: the number

@@ -1,17 +1,11 @@
 //! One run, shown: its number, the lines that it counts, and the output, which was full of dots.
 use bus::refusals;
-use chip::{Chip, Edition, Levels};
-use i8355::Chip8355;
-use script::{RunRefusal, Scripted};
+use chip::Edition;
+use script::RunRefusal;
 use std::io;
 
 pub(super) fn title(rt: &impl Print, text: &str) -> io::Result<()> {
     println!(rt; "\n== {text}")
-}
-
-/// The chip that the scripts here are for: an 8255A just powered up, on lines that idle high.
-pub(super) fn chip() -> Chip {
-    Chip::new(Edition::Older, Levels::HIGH)
 }
 
 pub(super) fn ran(rt: &impl Print, ran: Result<usize, RunRefusal>) -> io::Result<()> {
@@ -22,21 +16,17 @@ pub(super) fn ran(rt: &impl Print, ran: Result<usize, RunRefusal>) -> io::Result
     )
 }
 
-// A text run into an output of that size.
-fn on<S: Scripted>(
-    rt: &(impl Print + AllocGlobal),
-    subject: &mut S,
-    text: &[u8],
-    size: usize,
-) -> io::Result<()> {
-    let mut out = vec![in rt.alloc(); b'.'; size]?;
-    ran(rt, script::run(subject, text, &mut out))?;
-    rt.write_all(&out)?;
+// What a run gave back, and what it left in the output.
+fn left(rt: &impl Print, gave: Result<usize, RunRefusal>, out: &[u8]) -> io::Result<()> {
+    ran(rt, gave)?;
+    rt.write_all(out)?;
     println!(rt; "|")
 }
 
+/// A text run on an 8255A into an output of that size.
 pub(super) fn run(rt: &(impl Print + AllocGlobal), text: &[u8], size: usize) -> io::Result<()> {
-    on(rt, &mut chip(), text, size)
+    let mut out = vec![in rt.alloc(); b'.'; size]?;
+    left(rt, script::run(Edition::Older, text, &mut out), &out)
 }
 
 pub(super) fn run_8355(
@@ -44,5 +34,6 @@ pub(super) fn run_8355(
     text: &[u8],
     size: usize,
 ) -> io::Result<()> {
-    on(rt, &mut Chip8355::new(), text, size)
+    let mut out = vec![in rt.alloc(); b'.'; size]?;
+    left(rt, script::run_8355(text, &mut out), &out)
 }

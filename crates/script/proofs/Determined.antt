@@ -36,14 +36,27 @@ number_determined c x y = equation_determines
 pub line_width_determined : Determines script_says.line_width.ended script.line_width.Reads.Learnt
 line_width_determined c x y = equation_determines
 
-pub run_determined
+pub run_from_determined
     : (S : _) (lS : _) (R : _) (lR : _) (copy : _) (G : _) (t : _) (H : _) (u : _) (K : _) (v : _)
-    → Determines (script_says.run.ended S R G t H u K v) (script.run.Reads.Learnt S R lS lR copy G t H u K v)
-run_determined S lS R lR copy G t H u K v c x y p q =
+    → Determines (script_says.run_from.ended S R G t H u K v) (script.run_from.Reads.Learnt S R lS lR copy G t H u K v)
+run_from_determined S lS R lR copy G t H u K v c x y p q =
     let result = told_so x.0 ∙ ap (λ (r : Ran). run_answer r.number r.lines) (p.0 ∙ sym q.0) ∙ sym (told_so y.0) in
     let out = p.1.0 ∙ sym q.1.0 in
     let subject = p.1.1 ∙ sym q.1.1 in
     λ i. (result i, (subject i, (tt, (out i, tt))))
+
+-- Before the output stand the edition and the text, which are not written.
+pub run_determined : Determines script_says.run.ended script.run.Reads.Learnt
+run_determined c x y p q =
+    let result = told_so x.0 ∙ ap (λ (r : Ran). run_answer r.number r.lines) (p.0 ∙ sym q.0) ∙ sym (told_so y.0) in
+    let out = p.1 ∙ sym q.1 in
+    λ i. (result i, (tt, (tt, (out i, tt))))
+
+pub run_8355_determined : Determines script_says.run_8355.ended script.run_8355.Reads.Learnt
+run_8355_determined c x y p q =
+    let result = told_so x.0 ∙ ap (λ (r : Ran). run_answer r.number r.lines) (p.0 ∙ sym q.0) ∙ sym (told_so y.0) in
+    let out = p.1 ∙ sym q.1 in
+    λ i. (result i, (tt, (out i, tt)))
 
 pub take_all_determined
     : (S : _) (lS : _) (R : _) (lR : _) (copy : _) (G : _) (t : _) (H : _) (u : _) (K : _) (v : _)

@@ -1,5 +1,6 @@
 pub mod Answers
 pub mod Run
+pub mod AtPowerUp
 pub mod Left
 pub mod History
 pub mod RackBases

@@ -1,14 +1,17 @@
-//! The run of a script: a text of frames, one to a line, answered line by line by whoever answers scripts. A rack's script, whose first line
-//! names the rack, is run by `racks`.
+//! The run of a script: a text of frames, one to a line, answered line by line by a device at its power-up, or by whoever answers scripts from
+//! the state that it is in. A rack's script, whose first line names the rack, is run by `racks`.
 #![tactic(auto)]
 
 ghost use Rattle.std.specs.Prelude.{◌≡◌, ◌≤◌, length};
 ghost use Rattle.bus.specs.Answers.{frame_number, number_told, byte_told};
 ghost use Rattle.text.specs.Answers.{line_of};
-ghost use Rattle.script.specs.Answers.{Answerer, line_width, left_after};
+ghost use Rattle.script.specs.Answers.{Answerer, line_width, answer_width, left_after};
 ghost use Rattle.script.specs.Run.{run_refusal_number, run_refusal_never_0, run_told, room_for, ran_of, filled, output_left, subject_left};
+ghost use Rattle.script.specs.AtPowerUp.{output_by_chip, output_by_8355};
 
 use bus::refusals::{FrameRefusal, Numbered};
+use chip::{Chip, Edition, Levels};
+use i8355::Chip8355;
 use text::line::Line;
 use text::lines::{self, Lines};
 
@@ -94,10 +97,14 @@ fn answer_all<S: Scripted>(subject: &mut S, text: &[u8], out: &mut [u8])
     }
 }
 
-/// Has the subject answer every line of a text, and says how many lines that are. A refused run leaves the subject and the output as they
-/// were.
+/// Has the subject answer every line of a text, from the state that it is in, and says how many lines that are. A refused run leaves the
+/// subject and the output as they were.
 #[tactic(auto, unfolding(crate::specs::Run::run_number))]
-pub fn run<S: Scripted>(subject: &mut S, text: &[u8], out: &mut [u8]) -> Result<usize, RunRefusal>
+pub fn run_from<S: Scripted>(
+    subject: &mut S,
+    text: &[u8],
+    out: &mut [u8],
+) -> Result<usize, RunRefusal>
     ensures told { run_told result ≡ ran_of (line_width (S.answerer.cards subject.old)) text.now (length out.old) }
     ensures output { out.new ≡ output_left S.answerer subject.old text.now out.old }
     ensures subject { subject.new ≡ subject_left S.answerer subject.old text.now (length out.old) }
@@ -111,4 +118,21 @@ pub fn run<S: Scripted>(subject: &mut S, text: &[u8], out: &mut [u8]) -> Result<
     }
     answer_all(subject, text, out);
     Ok(lines)
+}
+
+/// Has a chip answer every line of a text from its power-up, with every line high, and says how many lines that are. A refused run leaves the
+/// output as it was.
+pub fn run(edition: Edition, text: &[u8], out: &mut [u8]) -> Result<usize, RunRefusal>
+    ensures told { run_told result ≡ ran_of answer_width text.now (length out.old) }
+    ensures output { out.new ≡ output_by_chip edition text.now out.old }
+{
+    run_from(&mut Chip::new(edition, Levels::HIGH), text, out)
+}
+
+/// The same of an 8355, whose lines are high at its power-up.
+pub fn run_8355(text: &[u8], out: &mut [u8]) -> Result<usize, RunRefusal>
+    ensures told { run_told result ≡ ran_of answer_width text.now (length out.old) }
+    ensures output { out.new ≡ output_by_8355 text.now out.old }
+{
+    run_from(&mut Chip8355::new(), text, out)
 }

@@ -74,7 +74,7 @@ pub fn run(text: &[u8], out: &mut [u8]) -> Result<Ran, RackRunRefusal>
     let first = lines.next().ok_or(BadRack)?;
     let mut subject = Answering(first::rack(first)?);
     let width = super::line_width(subject.cards());
-    let lines = super::run(&mut subject, lines.text, out)?;
+    let lines = super::run_from(&mut subject, lines.text, out)?;
     Ok(Ran {
         lines,
         length: width * lines,

@@ -7,7 +7,7 @@ use Rattle.script.specs.RackBases.{rack_of_line}
 use Rattle.script.specs.RackRun.{output_left}
 use Rattle.script.proofs.RackOpened.{told_as, same_output, not_run, has_run, fits}
 use Rattle.script.proofs.racks.run.Goals as goal
-use Rattle.script.proofs.racks.run.Goals.{In_ok-rack, After-run}
+use Rattle.script.proofs.racks.run.Goals.{In_ok-rack, After-run_from}
 
 -- The text is its first line and those that are left, and the first line is a rack.
 begins : (c : goal.In_ok-rack)
@@ -15,10 +15,10 @@ begins : (c : goal.In_ok-rack)
 begins c = ((search rules), (search rules))
 
 -- Refused or not, the output is left as the run of the further lines leaves it.
-left_so : (c : goal.After-run) → c.run.new.out ≡ output_left c.args.text.now c.args.out.now
+left_so : (c : goal.After-run_from) → c.run_from.new.out ≡ output_left c.args.text.now c.args.out.now
 left_so c =
-    let found = begins (goal.at.After-run c).In_ok-rack in
-    c.run.ensures.output ∙ same_output c.args.text.now _ c.args.out.now _ c.in_ok-rack.field-0 (omega arith) found.0 found.1
+    let found = begins (goal.at.After-run_from c).In_ok-rack in
+    c.run_from.ensures.output ∙ same_output c.args.text.now _ c.args.out.now _ c.in_ok-rack.field-0 (omega arith) found.0 found.1
 
 pub returns-in_err-lines-clause-told : goal.returns-in_err-lines-clause-told
 returns-in_err-lines-clause-told c =
@@ -27,7 +27,7 @@ returns-in_err-lines-clause-told c =
     ∙ not_run c.args.text.now _ c.args.out.now _ c.in_ok-rack.field-0 (omega arith) found.0 found.1 _ c.in_err-lines.ensures.told
 
 pub returns-in_err-lines-clause-output : goal.returns-in_err-lines-clause-output
-returns-in_err-lines-clause-output c = left_so (goal.at.returns-in_err-lines-clause-output c).After-run
+returns-in_err-lines-clause-output c = left_so (goal.at.returns-in_err-lines-clause-output c).After-run_from
 
 pub overflow_mul-result : goal.overflow_mul-result
 overflow_mul-result c =
@@ -42,4 +42,4 @@ returns-clause-told c =
     (has_run c.args.text.now _ c.args.out.now _ c.in_ok-rack.field-0 (omega arith) found.0 found.1 _ c.in_ok-lines.ensures.told)
 
 pub returns-clause-output : goal.returns-clause-output
-returns-clause-output c = left_so (goal.at.returns-clause-output c).After-run
+returns-clause-output c = left_so (goal.at.returns-clause-output c).After-run_from

@@ -1,9 +1,9 @@
--- `script::run` meets its contract: no more lines are counted than the text has bytes, so that their width fits.
+-- `script::run_from` meets its contract: no more lines are counted than the text has bytes, so that their width fits.
 -- Rests on text's LineCount.
 use Rattle.std.proofs.Common.{arith}
 use Rattle.std.proofs.lemmas.Nat.{mul-le}
 use Rattle.text.proofs.LineCount.{lines_at_most}
-use Rattle.script.proofs.run.Goals as goal
+use Rattle.script.proofs.run_from.Goals as goal
 
 pub overflow_mul-line_width : goal.overflow_mul-line_width
 overflow_mul-line_width g c =
