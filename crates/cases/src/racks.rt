@@ -85,8 +85,8 @@ impl Held {
         match (name, self.rack.card(self.place)) {
             (b'n', _) => print!(rt; "{}", self.number()),
             (b'y', _) => print!(rt; "{:02X}", self.answer.unwrap_or(0)),
-            (_, Some(card)) => self.of_card(rt, &card, name),
-            (_, None) => print!(rt; "no card"),
+            (_, Ok(card)) => self.of_card(rt, &card, name),
+            (_, Err(_)) => print!(rt; "no card"),
         }
     }
 
@@ -115,8 +115,8 @@ impl Held {
 
     fn said(&self, rt: &impl Print, group: Group) -> io::Result<()> {
         match self.rack.explain(self.place, group) {
-            Some(explained) => show::explained(rt, explained),
-            None => Ok(()),
+            Ok(explained) => show::explained(rt, explained),
+            Err(_) => Ok(()),
         }
     }
 

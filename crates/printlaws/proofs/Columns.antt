@@ -14,7 +14,7 @@ use Rattle.script.proofs.Levels.{all_length, line_length}
 use Rattle.script.specs.RackFrames.{RackFrame, Event, NoFrame, rack_frame_in}
 use Rattle.script.specs.RackAnswers.{as_given, acted, count_kept, answering}
 use Rattle.script.proofs.RackShown.{shows_cards}
-use Rattle.printlaws.specs.Digits.{two_digits}
+use Rattle.racklaws.specs.Digits.{two_digits}
 use Rattle.printlaws.specs.Columns.{stepped_by, step_at, column, AnswerLine, Answers, none, next}
 
 pub same_digits : (b : ℕ) → in_digits b ≡ two_digits b

@@ -6,7 +6,7 @@ use Rattle.rack.specs.declared.Rack.{Rack}
 use Rattle.rack.specs.State.{chip_at}
 use Rattle.rack.specs.Step.{Stepped, step_of}
 use Rattle.script.specs.RackFrames.{RackFrame, Event, NoFrame, rack_frame_in}
-use Rattle.printlaws.specs.Digits.{two_digits}
+use Rattle.racklaws.specs.Digits.{two_digits}
 
 -- What a rack makes of a line: its step, of the event that the line says. A line that is no frame has the number 1 and the byte 00, and the rack
 -- stays as it was.

@@ -1,7 +1,6 @@
-pub mod Digits
 pub mod ByAccount
-pub mod NamesRack
 pub mod Columns
+pub mod ByRack
 pub mod Refused
 pub mod Explained
 pub mod RackTexts

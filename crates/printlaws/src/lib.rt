@@ -4,7 +4,7 @@
 
 ghost use Rattle.std.specs.Prelude.{◌≡◌, ◌↔◌, true, false, ℕ, ◌<◌, ◌≤◌, List, [], ◌∷◌, eqb, length, map};
 ghost use Rattle.chip.specs.Pins.{pins_of};
-ghost use Rattle.text.specs.Lines.{lines_of};
+ghost use Rattle.text.specs.Lines.{Line, lines_of};
 ghost use Rattle.text.specs.History.{history_of};
 ghost use Rattle.text.specs.Quoted.{answered, listed, codes};
 ghost use Rattle.rack.specs.declared.Rack.{Rack};
@@ -13,14 +13,15 @@ ghost use Rattle.rack.specs.Targets.{is_place};
 ghost use Rattle.script.specs.Left as walk;
 ghost use Rattle.script.specs.RackAnswers.{answering};
 ghost use Rattle.script.specs.Run.{too_long};
+ghost use Rattle.racklaws.specs.NamesRack.{NamesRack};
 ghost use Rattle.prints.specs.declared.Device.{Device};
 ghost use Rattle.prints.specs.declared.Device.TheVariants.{I8255A, I82C55A, I8355};
 ghost use Rattle.prints.specs.Printed.{printed, printed_of_rack, refuses_rack};
 ghost use Rattle.prints.specs.Left.{left_of};
 ghost use Rattle.prints.specs.Mended.{refuses_mending, printed_mended, said_of_all, has_unfit};
 ghost use Rattle.printlaws.specs.ByAccount.{accounted_lines, listed_scripts};
-ghost use Rattle.printlaws.specs.NamesRack.{NamesRack};
 ghost use Rattle.printlaws.specs.Columns.{Answers};
+ghost use Rattle.printlaws.specs.ByRack.{InColumns};
 ghost use Rattle.printlaws.specs.Refused.{long_text_refused, first_line_refused, capture_refused, length_of_a_number};
 ghost use Rattle.printlaws.specs.Explained.{explained_at_first};
 ghost use Rattle.printlaws.specs.RackTexts.{rack_texts};
@@ -38,10 +39,12 @@ pub fn scripts_print_what_the_account_says()
 
 /// Of a text of at most 4,096 bytes whose first line is a rack the program prints one line for each further line, and nothing else: the number
 /// and the byte of the rack's step, the levels that the pins of each card then show, card by card, of ports A, B and C, all in two digits, and
-/// LF. In whatever state the rack is, the levels of a card in an answer line are those that the card's own pins show.
-#[tactic(auto, using(crate::proofs::RackPrinted::columns_printed, script::proofs::RackShown::shows_cards))]
+/// LF. So it is of the answers of any rack of at most eight cards to any lines. In whatever state the rack is, the levels of a card in an answer
+/// line are those that the card's own pins show.
+#[tactic(auto, using(crate::proofs::RackPrinted::columns_printed, crate::proofs::Columns::in_columns, script::proofs::RackShown::shows_cards))]
 pub fn rack_scripts_print_columns()
     ensures printed { (text : List ℕ) (named : NamesRack text) → length text ≤ 4096 → Answers (rack_of named.bases) (lines_of named.further) (printed_of_rack text) }
+    ensures answers { (ls : List Line) (r : Rack) → r.count ≤ 8 → InColumns ls r }
     ensures levels { (r : Rack) (place port : ℕ) → is_place r.count place ≡ true → answering.levels r place port ≡ (pins_of (chip_at r place) port).levels }
 {}
 
@@ -76,11 +79,12 @@ pub fn explained_chips_are_of_the_older_edition()
     ensures too_long { (text : List ℕ) → 4096 < length text → left_of text ≡ walk.left 6 explained_at_first 0 }
 {}
 
-/// Of some scripts of racks the program prints what is listed beside them: two cards that differ in what they show, and first lines that are a
-/// rack and that are none.
+/// Of thirteen scripts of racks the program prints what is listed beside them: two cards that differ in what they show, lines with an operand too
+/// many, and first lines that are a rack and that are none.
 #[tactic(auto, using(crate::proofs::RackTexts::rack_texts_printed))]
 pub fn rack_texts_print_as_listed()
-    ensures { answered printed_of_rack rack_texts ≡ listed rack_texts }
+    ensures printed { answered printed_of_rack rack_texts ≡ listed rack_texts }
+    ensures texts { length rack_texts ≡ 13 }
 {}
 
 /// Of seven captured lines the program prints the clean script, and says on standard error what became of each that was not kept. It fails, as

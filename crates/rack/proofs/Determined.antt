@@ -66,6 +66,9 @@ bad_rack_number_determined c x y = equation_determines
 pub refusal_number_determined : Determines rack_says.refusals.RackRefusalNumbered.number.ended rack.refusals.RackRefusalNumbered.number.Reads.Learnt
 refusal_number_determined c x y = equation_determines
 
+pub view_refusal_number_determined : Determines rack_says.refusals.ViewRefusalNumbered.number.ended rack.refusals.ViewRefusalNumbered.number.Reads.Learnt
+view_refusal_number_determined c x y = equation_determines
+
 pub step_determined : Determines rack_says.Rack.step.ended rack.Rack.step.Reads.Learnt
 step_determined c x y p q =
     equations_determine

@@ -12,6 +12,8 @@ use Rattle.rack.specs.declared.events.RackEvent.TheVariants.{Reset, BeginRead, E
 use Rattle.rack.specs.declared.refusals.RackRefusal.{RackRefusal}
 use Rattle.rack.specs.declared.refusals.RackRefusal.TheVariants.{NoCard, Card}
 use Rattle.rack.specs.declared.refusals.BadRack.{BadRack}
+use Rattle.rack.specs.declared.refusals.ViewRefusal as views
+use Rattle.rack.specs.declared.refusals.ViewRefusal.{ViewRefusal}
 use Rattle.rack.specs.Bases.{bad_rack_number, no_card_number}
 use Rattle.rack.specs.Step.{Stepped, device, step_of}
 
@@ -33,6 +35,11 @@ bad_rack_told r = bad_rack_number
 abbrev pub refusal_number : RackRefusal → ℕ
 refusal_number NoCard = no_card_number
 refusal_number (Card r) = card.refusal_number r
+
+-- Those of what it shows: there is no card at the place; or there is one, but no group of that number.
+abbrev pub view_refusal_number : ViewRefusal → ℕ
+view_refusal_number views.TheVariants.NoCard = no_card_number
+view_refusal_number views.TheVariants.NoSuchGroup = 2
 
 -- What the rack gives for an event; the operands that its kind lacks are zeros.
 abbrev pub stepped : Rack → RackEvent → Stepped

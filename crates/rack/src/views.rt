@@ -1,10 +1,11 @@
-//! What a card shows, counts and explains, by its place. Where there is no card there is nothing of it.
+//! What a card shows, counts and explains, by its place; or why there is nothing of it.
 ghost use Rattle.std.specs.Prelude.{◌≡◌, ◌<◌};
 ghost use Rattle.rack.specs.Bases.{most_cards};
 ghost use Rattle.rack.specs.State.{seen_at, chip_at};
 ghost use Rattle.rack.specs.Views.{card_of, card_pins, card_tally, card_explained, card_explained_numbered};
 
 use super::device::{place_of, register_of};
+use super::refusals::ViewRefusal;
 use super::{CARD_EDITION, Rack};
 use bus::devices::Device;
 use bus::{Phase, Pins};
@@ -43,48 +44,49 @@ impl Rack {
         }
     }
 
-    /// The card at a place, as a chip alone would be; `None` where there is no card.
+    /// The card at a place, as a chip alone would be; `NoCard` where there is none.
     #[tactic(auto, unfolding(crate::specs::Views::card_of, crate::specs::Targets::is_place))]
-    pub fn card(&self, place: u8) -> Option<Chip>
+    pub fn card(&self, place: u8) -> Result<Chip, ViewRefusal>
         ensures { result ≡ card_of self.now place }
     {
         if !self.has_card(place as u16) {
-            return None;
+            return Err(ViewRefusal::NoCard);
         }
-        Some(self.chip_at(place))
+        Ok(self.chip_at(place))
     }
 
-    /// The pins of a port of the card at a place; `None` where there is no card.
+    /// The pins of a port of the card at a place; `NoCard` where there is none.
     #[tactic(auto, unfolding(crate::specs::Views::card_pins, crate::specs::Views::card_of))]
-    pub fn pins(&self, place: u8, port: u8) -> Option<Pins>
+    pub fn pins(&self, place: u8, port: u8) -> Result<Pins, ViewRefusal>
         ensures { result ≡ card_pins self.now place port }
     {
-        Some(self.card(place)?.pins(port))
+        Ok(self.card(place)?.pins(port))
     }
 
-    /// What became of the bytes offered to a channel of the card at a place, or planted in it; `None` where there is no card.
+    /// What became of the bytes offered to a channel of the card at a place, or planted in it; `NoCard` where there is none.
     #[tactic(auto, unfolding(crate::specs::Views::card_tally, crate::specs::Views::card_of))]
-    pub fn tally(&self, place: u8, group: Group, side: Side) -> Option<Tally>
+    pub fn tally(&self, place: u8, group: Group, side: Side) -> Result<Tally, ViewRefusal>
         ensures { result ≡ card_tally self.now place group side }
     {
-        Some(self.card(place)?.tally(group, side))
+        Ok(self.card(place)?.tally(group, side))
     }
 
-    /// Explains the INTR of a group of the card at a place; `None` where there is no card.
+    /// Explains the INTR of a group of the card at a place; `NoCard` where there is none.
     #[tactic(auto, unfolding(crate::specs::Views::card_explained, crate::specs::Views::card_of))]
-    pub fn explain(&self, place: u8, group: Group) -> Option<Explained>
+    pub fn explain(&self, place: u8, group: Group) -> Result<Explained, ViewRefusal>
         ensures { result ≡ card_explained self.now place group }
     {
-        Some(self.card(place)?.explain(group))
+        Ok(self.card(place)?.explain(group))
     }
 
-    /// Explains the INTR of the group of that number, as scripts and C have it, of the card at a place: 0 is A and 1 is B; `None` of any
-    /// other number, and where there is no card.
+    /// Explains the INTR of the group of that number, as scripts and C have it, of the card at a place: 0 is A and 1 is B. It is `NoCard` where
+    /// there is none, whatever the number, and else `NoSuchGroup` of any other number.
     #[tactic(auto, unfolding(crate::specs::Views::card_explained_numbered, crate::specs::Views::card_of))]
-    pub fn explain_numbered(&self, place: u8, number: u8) -> Option<Explained>
+    pub fn explain_numbered(&self, place: u8, number: u8) -> Result<Explained, ViewRefusal>
         ensures { result ≡ card_explained_numbered self.now place number }
     {
         let card = self.card(place)?;
         card.explain_numbered(number)
+            .ok_or(ViewRefusal::NoSuchGroup)
     }
 }

@@ -38,6 +38,6 @@ impl Answering for Rack {
 pub(super) fn rounds(count: usize) -> Option<Handed> {
     let mut rack = Rack::new(&[0x700, 0x708, 0x710, 0x718, 0x720, 0x728, 0x730, LAST_BASE]).ok()?;
     round::rounds(&mut rack, count);
-    let card = rack.card(LAST_PLACE)?;
+    let card = rack.card(LAST_PLACE).ok()?;
     Some(Handed::by(&card))
 }

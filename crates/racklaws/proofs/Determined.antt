@@ -29,5 +29,11 @@ places_without_a_card_show_nothing_determined c x y p q = refl
 pub facts_about_cycles_hold_of_racks_determined : Determines racklaws_says.facts_about_cycles_hold_of_racks.ended racklaws.facts_about_cycles_hold_of_racks.Reads.Learnt
 facts_about_cycles_hold_of_racks_determined c x y p q = refl
 
+pub rack_lines_say_events_determined : Determines racklaws_says.rack_lines_say_events.ended racklaws.rack_lines_say_events.Reads.Learnt
+rack_lines_say_events_determined c x y p q = refl
+
+pub rack_runs_write_the_answers_determined : Determines racklaws_says.rack_runs_write_the_answers.ended racklaws.rack_runs_write_the_answers.Reads.Learnt
+rack_runs_write_the_answers_determined c x y p q = refl
+
 pub example_reaches_both_cards_determined : Determines racklaws_says.example_reaches_both_cards.ended racklaws.example_reaches_both_cards.Reads.Learnt
 example_reaches_both_cards_determined c x y p q = refl

@@ -13,6 +13,9 @@ pub mod Cards
 pub mod Refusals
 pub mod Building
 pub mod Locations
+pub mod NamesRack
+pub mod Saying
+pub mod Running
 pub mod Numbers
 pub mod Cycles
 pub mod Examples

@@ -1,6 +1,11 @@
 pub mod Whom
+pub mod Digits
 pub mod Promise
 pub mod Bases
+pub mod NamesRack
+pub mod Says
+pub mod Taken
+pub mod Run
 pub mod Table
 pub mod Cycles
 pub mod Examples

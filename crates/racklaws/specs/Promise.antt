@@ -1,5 +1,7 @@
 -- What is promised of a rack over any history: each card is a chip alone under the events that reach it ("A rack of cards").
-use Rattle.std.specs.Prelude.{◌≡◌, true, List, [], ◌∷◌, ◌++◌, ℕ, ◌<◌, length, Some, None}
+use Rattle.std.specs.Prelude.{◌≡◌, true, List, [], ◌∷◌, ◌++◌, ℕ, ◌<◌, ◌≤◌, length, Result, Ok}
+use Rattle.std.specs.Result.{result_ok}
+use Rattle.bus.specs.Answers.{number_told}
 use Rattle.bus.specs.Event.{Event}
 use Rattle.bus.specs.declared.Phase.{Phase}
 use Rattle.bus.specs.declared.Phase.TheVariants.{Idle, Reading, Writing}
@@ -13,6 +15,8 @@ use Rattle.chip.specs.Reasons.{explained_in, explained_of}
 use Rattle.chip.specs.Pins.{pins_of}
 use Rattle.chip.specs.Step.{stepped}
 use Rattle.rack.specs.declared.Rack.{Rack}
+use Rattle.rack.specs.declared.refusals.ViewRefusal.{ViewRefusal}
+use Rattle.rack.specs.Answers.{view_refusal_number}
 use Rattle.rack.specs.Bases.{most_cards}
 use Rattle.rack.specs.State.{place_of, chip_at, rack_of}
 use Rattle.rack.specs.Targets.{bases_in, is_place}
@@ -101,16 +105,23 @@ pub record GoesOn (r : Rack) (es : List RackEvent) : Type 0 where
   pub bus : bus_of (rack_run r es).phase ≡ bus_over (bases_of r) (bus_of r.phase) es
   pub card : (i : ℕ) → i < most_cards → chip_at (rack_run r es) i ≡ run (chip_at r i) (events_in i r es)
 
+-- The number that a view is refused with, and 0 where it shows something.
+abbrev pub number_of_view : {T : Type 0} → Result T ViewRefusal → ℕ
+number_of_view r = number_told view_refusal_number r
+
 -- What a card of a rack is promised, the rack having been built with these bases, where `events` are those of the history es that reach
 -- it: after the history the card is a chip alone after these events from power-up, and shows, counts and explains what that does, of a group
--- and of any number that is to name one; and so the fates, the discipline and the account hold of it over them.
+-- and of any number that is to name one, which is refused with 2 above 1; and so the fates, the discipline and the account hold of it over them.
 pub record AsAlone (bs : List ℕ) (es : List RackEvent) (i : ℕ) (events : List Event) : Type 0 where
   pub state : chip_at (rack_run (rack_of bs) es) i ≡ run power_up events
-  pub card : card_of (rack_run (rack_of bs) es) i ≡ Some (run power_up events)
-  pub pins : (p : ℕ) → card_pins (rack_run (rack_of bs) es) i p ≡ Some (pins_of (run power_up events) p)
-  pub tally : (g : Group) (s : Side) → card_tally (rack_run (rack_of bs) es) i g s ≡ Some (tally_of (run power_up events) g s)
-  pub explains : (g : Group) → card_explained (rack_run (rack_of bs) es) i g ≡ Some (explained_in (run power_up events) g)
-  pub explains_numbered : (n : ℕ) → card_explained_numbered (rack_run (rack_of bs) es) i n ≡ explained_of (run power_up events) n
+  pub card : card_of (rack_run (rack_of bs) es) i ≡ Ok (run power_up events)
+  pub pins : (p : ℕ) → card_pins (rack_run (rack_of bs) es) i p ≡ Ok (pins_of (run power_up events) p)
+  pub tally : (g : Group) (s : Side) → card_tally (rack_run (rack_of bs) es) i g s ≡ Ok (tally_of (run power_up events) g s)
+  pub explains : (g : Group) → card_explained (rack_run (rack_of bs) es) i g ≡ Ok (explained_in (run power_up events) g)
+  pub explains_numbered : (n : ℕ)
+      → result_ok (card_explained_numbered (rack_run (rack_of bs) es) i n) ≡ explained_of (run power_up events) n
+  pub no_such_group : (n : ℕ) → 1 < n
+      → number_of_view (card_explained_numbered (rack_run (rack_of bs) es) i n) ≡ 2
   pub fates : (g : Group) (s : Side) → Fates g s power_up events no_tally (bytes_of g s Older all_low events) (bytes_of g s Older all_low events)
   pub discipline : (g : Group) → Disciplined g (at_power_up Older all_low) power_up events → NoneLost (bytes_of g Input Older all_low events)
   pub unforced : (g : Group) (s : Side) → NeverForced g s (at_power_up Older all_low) events → NoneForced (bytes_of g s Older all_low events) (bytes_of g s Older all_low events)
@@ -119,14 +130,16 @@ pub record AsAlone (bs : List ℕ) (es : List RackEvent) (i : ℕ) (events : Lis
 -- The same of a card of any rack, from whatever it is there: a byte that waits in it counts as offered already.
 pub record AsAloneFrom (r : Rack) (es : List RackEvent) (i : ℕ) (c : Chip) (events : List Event) : Type 0 where
   pub state : chip_at (rack_run r es) i ≡ run c events
-  pub card : is_place r.count i ≡ true → card_of (rack_run r es) i ≡ Some (run c events)
-  pub pins : is_place r.count i ≡ true → (p : ℕ) → card_pins (rack_run r es) i p ≡ Some (pins_of (run c events) p)
+  pub card : is_place r.count i ≡ true → card_of (rack_run r es) i ≡ Ok (run c events)
+  pub pins : is_place r.count i ≡ true → (p : ℕ) → card_pins (rack_run r es) i p ≡ Ok (pins_of (run c events) p)
   pub tally : is_place r.count i ≡ true → (g : Group) (s : Side)
-      → card_tally (rack_run r es) i g s ≡ Some (tally_of (run c events) g s)
+      → card_tally (rack_run r es) i g s ≡ Ok (tally_of (run c events) g s)
   pub explains : is_place r.count i ≡ true → (g : Group)
-      → card_explained (rack_run r es) i g ≡ Some (explained_in (run c events) g)
+      → card_explained (rack_run r es) i g ≡ Ok (explained_in (run c events) g)
   pub explains_numbered : is_place r.count i ≡ true → (n : ℕ)
-      → card_explained_numbered (rack_run r es) i n ≡ explained_of (run c events) n
+      → result_ok (card_explained_numbered (rack_run r es) i n) ≡ explained_of (run c events) n
+  pub no_such_group : is_place r.count i ≡ true → (n : ℕ) → 1 < n
+      → number_of_view (card_explained_numbered (rack_run r es) i n) ≡ 2
   pub fates : (g : Group) (s : Side) → SixteenBits (tally_of c g s)
       → Fates g s c events (tally_of c g s) (new_bytes g s c events) (old_byte g s c events ++ new_bytes g s c events)
   pub discipline : (g : Group) → HasFound g c → Disciplined g (surroundings_of c) c events → NoneLost (old_byte g Input c events ++ new_bytes g Input c events)
@@ -134,10 +147,14 @@ pub record AsAloneFrom (r : Rack) (es : List RackEvent) (i : ℕ) (c : Chip) (ev
       → NoneForced (new_bytes g s c events) (old_byte g s c events ++ new_bytes g s c events)
   pub account : Accounted c (account_of c) events
 
--- Where there is no card, no view shows anything, of whatever group or number.
+-- Where there is no card, every view is refused with 10, of whatever port, channel or group, and whatever number a group is asked for by.
 pub record NoneThere (r : Rack) (i : ℕ) : Type 0 where
-  pub card : card_of r i ≡ None
-  pub pins : (p : ℕ) → card_pins r i p ≡ None
-  pub tally : (g : Group) (s : Side) → card_tally r i g s ≡ None
-  pub explains : (g : Group) → card_explained r i g ≡ None
-  pub explains_numbered : (n : ℕ) → card_explained_numbered r i n ≡ None
+  pub card : number_of_view (card_of r i) ≡ 10
+  pub pins : (p : ℕ) → number_of_view (card_pins r i p) ≡ 10
+  pub tally : (g : Group) (s : Side) → number_of_view (card_tally r i g s) ≡ 10
+  pub explains : (g : Group) → number_of_view (card_explained r i g) ≡ 10
+  pub explains_numbered : (n : ℕ) → number_of_view (card_explained_numbered r i n) ≡ 10
+
+-- After any history there is none at any place from so many on.
+abbrev pub NoneFrom : ℕ → Rack → Type 0
+NoneFrom count r = (es : List RackEvent) (i : ℕ) → count ≤ i → NoneThere (rack_run r es) i

@@ -1,19 +1,26 @@
 //! Theorems about a rack of cards. A function here does nothing: its contract is the theorem.
 #![tactic(auto)]
 
-ghost use Rattle.std.specs.Prelude.{◌≡◌, ◌<◌, ◌≤◌, List, ℕ, length, map, Ok, Err};
+ghost use Rattle.std.specs.Prelude.{◌≡◌, ◌↔◌, ◌<◌, ◌≤◌, List, ℕ, length, map, Ok, Err};
 ghost use Rattle.bus.specs.Event.{Event};
 ghost use Rattle.bus.specs.Refusals.{limits_of};
+ghost use Rattle.bus.specs.Answers.{number_told};
 ghost use Rattle.bus.specs.Device.{run_in};
 ghost use Rattle.bus.specs.Facts.{Facts};
 ghost use Rattle.chip.specs.State.{power_up};
+ghost use Rattle.text.specs.Lines.{ended, rest};
 ghost use Rattle.rack.specs.declared.Rack.{Rack};
 ghost use Rattle.rack.specs.Bases.{most_cards};
+ghost use Rattle.rack.specs.Answers.{bad_rack_told};
 ghost use Rattle.rack.specs.State.{chip_at, rack_of, built_of};
 ghost use Rattle.rack.specs.Step.{device};
+ghost use Rattle.script.specs.declared.racks.TheConstants.{MOST_ROOM};
 ghost use Rattle.racklaws.specs.Whom.{RackEvent, Access, access_of, seek, free, taken_by, card, bus_next, events_for};
-ghost use Rattle.racklaws.specs.Promise.{rack_stepped, rack_run, bus_of, bases_of, whom_in, events_in, Whole, Follows, ChangesNothing, GoesOn, AsAlone, AsAloneFrom, NoneThere};
+ghost use Rattle.racklaws.specs.Promise.{rack_stepped, rack_run, bus_of, bases_of, whom_in, events_in, Whole, Follows, ChangesNothing, GoesOn, AsAlone, AsAloneFrom, NoneFrom};
 ghost use Rattle.racklaws.specs.Bases.{GoodBases, Located};
+ghost use Rattle.racklaws.specs.Says.{Says, SaysAnEvent};
+ghost use Rattle.racklaws.specs.Taken.{ReadAs, TakenAs, RefusesLine};
+ghost use Rattle.racklaws.specs.Run.{RefusedWith, Refuses, Fits, Writes, FitsAll};
 ghost use Rattle.racklaws.specs.Table.{number_by};
 ghost use Rattle.racklaws.specs.Cycles.{event_by};
 ghost use Rattle.racklaws.specs.Examples.{store, addresses, registers, while_it_runs, their_numbers, on_a_free_bus, its_numbers, history, for_the_scale, for_the_printer};
@@ -54,18 +61,22 @@ pub fn each_location_is_one_register()
     ensures computed { map (λ (a : ℕ). seek 0 a store) addresses ≡ registers }
 {}
 
-/// Good bases, in plain numbers, make a rack, and no others do: these are refused, and give none. The rack has these bases, in their order, and
-/// in each place a chip at power-up.
+/// Good bases, in plain numbers, make a rack, and no others do: these are refused with 9, and give none. The rack has these bases, in their order,
+/// and in each place a chip at power-up.
 pub fn good_bases_alone_make_a_rack()
     ensures good { (bs : List ℕ) → GoodBases bs → built_of bs ≡ Ok (rack_of bs) }
     ensures others { (bs : List ℕ) → ¬ GoodBases bs → built_of bs ≡ Err (record {}) }
+    ensures accepted { (bs : List ℕ) → GoodBases bs → number_told bad_rack_told (built_of bs) ≡ 0 }
+    ensures refused { (bs : List ℕ) → ¬ GoodBases bs → number_told bad_rack_told (built_of bs) ≡ 9 }
     ensures bases { (bs : List ℕ) → length bs ≤ most_cards → bases_of (rack_of bs) ≡ bs }
     ensures power_up { (bs : List ℕ) → length bs ≤ most_cards → (i : ℕ) → i < most_cards → chip_at (rack_of bs) i ≡ power_up }
 {}
 
-/// Where a rack that was built has no card, no view shows anything, after any history.
+/// Where a rack has no card, which is at every place from the count of its bases on, each view is refused with 10, after any history, and that of a
+/// group by a number is, whatever the number. So it is of a rack that was built, and of every rack.
 pub fn places_without_a_card_show_nothing()
-    ensures { (bs : List ℕ) → length bs ≤ most_cards → (es : List RackEvent) (i : ℕ) → length bs ≤ i → NoneThere (rack_run (rack_of bs) es) i }
+    ensures built { (bs : List ℕ) → length bs ≤ 8 → NoneFrom (length bs) (rack_of bs) }
+    ensures any { (r : Rack) → Whole r → NoneFrom (length (bases_of r)) r }
 {}
 
 /// The facts about cycles hold of a rack, by the same law as of a chip: it is a device with 32 registers, 24 of which can be read, and 24 ports.
@@ -73,6 +84,27 @@ pub fn places_without_a_card_show_nothing()
 pub fn facts_about_cycles_hold_of_racks()
     ensures facts { (r : Rack) → Facts device (limits_of 32 24 24) r }
     ensures histories { (r : Rack) (es : List RackEvent) → rack_run r es ≡ run_in device r (map (event_by r.count r.bases) es) }
+{}
+
+/// A further line of a rack's script is read as an event exactly where it says that event, digit by digit: a kind and just its operands. The rack takes
+/// it so. A line that says none, and a rest without LF however well it is formed, is refused with 1 by every rack, as an event of no kind is: the
+/// byte is 00, and the rack is as it was.
+pub fn rack_lines_say_events()
+    ensures read { (line : List ℕ) (e : RackEvent) → ReadAs line e ↔ Says line e }
+    ensures taken { (r : Rack) (line : List ℕ) (e : RackEvent) → Says line e → TakenAs r line e }
+    ensures others { (r : Rack) (line : List ℕ) → ¬ SaysAnEvent line → RefusesLine r (ended line) }
+    ensures rest { (r : Rack) (line : List ℕ) → RefusesLine r (rest line) }
+{}
+
+/// The run of a rack's script is refused with 6 where the text has more than 4,096 bytes, then with 9 where its first line is no rack, and then with
+/// 7 where the output is shorter than five bytes for each further line and six more for each card of it. Then it tells no lines, and every byte of the
+/// output is left. Else it is accepted. It tells how many lines it answered and in how many bytes; the output begins with the rack's answers to these
+/// lines, and every byte behind them is as it was. `MOST_ROOM`, 217,088 bytes, is room for every text of at most 4,096.
+pub fn rack_runs_write_the_answers()
+    ensures refused { (text out : List ℕ) (n : ℕ) → RefusedWith text out n → Refuses text out n }
+    ensures accepted { (text out : List ℕ) (fits : Fits text out) → Writes text out fits.named }
+    ensures most_room { MOST_ROOM ≡ 217088 }
+    ensures enough { FitsAll MOST_ROOM }
 {}
 
 /// What of a history reaches a scale's card, and what a printer's, computed from the bases and the events.

@@ -1,9 +1,10 @@
 -- What a rack answers, line by line ("A rack of cards", "Script and program"): it is one of those who answer scripts, and has several cards.
-use Rattle.std.specs.Prelude.{◌≡◌, refl, ℕ, Option, Some, None}
+use Rattle.std.specs.Prelude.{◌≡◌, refl, ℕ, Result, Ok, Err}
 use Rattle.bus.specs.Device.{Given, gives}
 use Rattle.bus.specs.Cycles.{refused_in}
 use Rattle.bus.specs.declared.Pins.{Pins}
 use Rattle.rack.specs.declared.Rack.{Rack}
+use Rattle.rack.specs.declared.refusals.ViewRefusal.{ViewRefusal}
 use Rattle.rack.specs.Step.{Stepped, step_of}
 use Rattle.rack.specs.Views.{card_pins}
 use Rattle.rack.proofs.Stays.{cards_stay}
@@ -31,9 +32,9 @@ count_kept r (Event k x y z) = (cards_stay r k x y z).0
 count_kept r NoFrame = refl
 
 -- The levels of a port that is there. Where there is no card, which an answer line does not ask, they are 0.
-abbrev pub levels_in : Option Pins → ℕ
-levels_in None = 0
-levels_in (Some p) = p.levels
+abbrev pub levels_in : Result Pins ViewRefusal → ℕ
+levels_in (Err why) = 0
+levels_in (Ok p) = p.levels
 
 -- The rack as one who answers scripts: the levels of every card, in the order of their places, stand in every answer line.
 abbrev pub answering : Answerer Rack

@@ -165,13 +165,15 @@ pub(super) fn card(shelf: Shelf, place: u8) -> apart::Answer {
     }
 }
 
-// What is said of an INTR of the card at a place; where there is none, that there is no such group.
+// What is said of an INTR of the card at a place; where there is none, its number, and nothing of a half.
 pub(super) fn explain(shelf: Shelf, place: u8, group: u8) -> Explanation {
     let card = card(shelf, place);
     if card.number == 0 {
         return apart::explain(card.machine, group);
     }
-    apart::explain(card.machine, NO_GROUP)
+    Explanation {
+        number: card.number,
+        input: 0,
+        output: 0,
+    }
 }
-
-const NO_GROUP: u8 = 255;

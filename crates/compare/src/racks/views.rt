@@ -7,12 +7,12 @@ use super::super::twins::{Counted, PER_CHANNEL};
 use super::super::{twins, views};
 use super::apart;
 use super::apart::{Answer, NOWHERE, Shelf};
-use bus::refusals::Numbered;
+use bus::refusals::{self, Numbered};
 use bus::{Phase, Pins};
 use chip::channel::{Side, Tally};
 use control::Group;
 use rack::Rack;
-use rack::refusals::RackRefusal;
+use rack::refusals::ViewRefusal;
 
 // What a place answers, behind a number, as the second model has it: 10 where there is no card.
 #[derive(Clone, Copy, Debug, PartialEq, Eq)]
@@ -21,7 +21,8 @@ struct AtPlace<T> {
     told: T,
 }
 
-// The answer, and whether a cycle runs; and of the place that is asked the pins of a port, the tallies of a channel, and what is said of an INTR.
+// The answer, and whether a cycle runs; and of the place that is asked the pins of a port, the tallies of a channel, and what is said of an INTR, which
+// has a number of its own, since a group that there is not has one too.
 #[derive(Clone, Copy, Debug, PartialEq, Eq)]
 pub(crate) struct View {
     number: u8,
@@ -29,7 +30,7 @@ pub(crate) struct View {
     runs: bool,
     pins: AtPlace<Pins>,
     tally: AtPlace<Counted>,
-    said: AtPlace<Explanation>,
+    said: Explanation,
 }
 
 // What is asked by itself: a place, and there a port, a group and a channel.
@@ -60,7 +61,7 @@ pub(super) fn drawn(number: u64) -> Question {
 }
 
 // The tallies of a channel, by the number that the second model has for it: chip has none.
-fn tally(rack: &Rack, place: u8, channel: u8) -> Option<Tally> {
+fn tally(rack: &Rack, place: u8, channel: u8) -> Result<Tally, ViewRefusal> {
     match channel {
         0 => rack.tally(place, Group::A, Side::Input),
         1 => rack.tally(place, Group::A, Side::Output),
@@ -69,11 +70,15 @@ fn tally(rack: &Rack, place: u8, channel: u8) -> Option<Tally> {
     }
 }
 
-// The number of what is asked of a place: 10 where there is no card.
-fn number<T>(asked: &Option<T>) -> u8 {
-    match asked {
-        Some(_) => 0,
-        None => RackRefusal::NoCard.number(),
+// What is said of an INTR of the card at a place, in the form of the second model; or the number of the refusal.
+fn said(rack: &Rack, place: u8, group: u8) -> Explanation {
+    match rack.explain_numbered(place, group) {
+        Ok(explained) => explanation(Some(explained)),
+        Err(refusal) => Explanation {
+            number: refusal.number(),
+            input: 0,
+            output: 0,
+        },
     }
 }
 
@@ -87,18 +92,14 @@ pub(super) fn of_proved(last: &Stepped<Rack>, question: &Question) -> View {
         byte: last.byte,
         runs: rack.phase != Phase::Idle,
         pins: AtPlace {
-            number: number(&pins),
+            number: refusals::number(&pins),
             told: pins.unwrap_or_default(),
         },
         tally: AtPlace {
-            number: number(&tally),
+            number: refusals::number(&tally),
             told: twins::counted(&tally.unwrap_or_default()),
         },
-        // Of a group that there is not, as of no card, nothing is said.
-        said: AtPlace {
-            number: number(&rack.card(place)),
-            told: explanation(rack.explain_numbered(place, question.group)),
-        },
+        said: said(rack, place, question.group),
     }
 }
 
@@ -120,10 +121,7 @@ pub(super) fn of_apart(last: &Answer, question: &Question) -> View {
             number,
             told: std::array::from_fn(|at| tally[first + at]),
         },
-        said: AtPlace {
-            number,
-            told: apart::explain(shelf, question.place, question.group),
-        },
+        said: apart::explain(shelf, question.place, question.group),
     }
 }
 
@@ -132,7 +130,7 @@ pub(super) fn place_of_proved(rack: &Rack, place: u8) -> views::View {
     let card = rack.card(place);
     views::of_proved(&Stepped {
         device: card.unwrap_or_default(),
-        number: number(&card),
+        number: refusals::number(&card),
         byte: place,
     })
 }

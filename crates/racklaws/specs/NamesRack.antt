@@ -1,7 +1,7 @@
 -- The first line of a rack's script, in plain words ("A rack of cards").
 use Rattle.std.specs.Prelude.{◌≡◌, List, [], ◌∷◌, ◌++◌, ℕ}
 use Rattle.racklaws.specs.Bases.{GoodBases}
-use Rattle.printlaws.specs.Digits.{four_digits}
+use Rattle.racklaws.specs.Digits.{four_digits}
 
 -- Bases written one behind the other, four digits each.
 abbrev pub written : List ℕ → List ℕ
