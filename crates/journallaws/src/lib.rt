@@ -14,7 +14,7 @@ ghost use Rattle.journallaws.specs.Packing.{Packs, word_is_frame};
 ghost use Rattle.journallaws.specs.Keeps.{Exactly};
 ghost use Rattle.journallaws.specs.Promise.{Trimmed, Numbered};
 ghost use Rattle.journallaws.specs.ByEvents.{ByEvents};
-ghost use Rattle.journallaws.specs.Example.{given, said};
+ghost use Rattle.journallaws.specs.Example.{a_store, kept_among, given, said};
 
 /// A trim that is accepted, of either edition and under any levels at power-up, keeps exactly the events after which the chip is another than
 /// before: in front, in their order, with zero words behind them, and their count is the answer. What is kept leads to the same chip, the same
@@ -61,5 +61,7 @@ pub fn chips_are_told_apart_exactly()
 /// A journal of eighteen words, in which each reason to keep an event and to drop one is seen, but for a reset while a cycle runs, is trimmed as
 /// it says: ten words are kept, on a chip of either edition.
 pub fn example_is_trimmed()
-    ensures { (ed : Edition) → given ed ≡ said }
+    ensures gives { (ed : Edition) → given ed ≡ said }
+    ensures eighteen { length a_store ≡ 18 }
+    ensures ten { length (kept_among a_store) ≡ 10 }
 {}

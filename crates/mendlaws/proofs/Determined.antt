@@ -11,6 +11,9 @@ lines_become_one_thing_determined c x y p q = refl
 pub frames_say_events_determined : Determines mendlaws_says.frames_say_events.ended mendlaws.frames_say_events.Reads.Learnt
 frames_say_events_determined c x y p q = refl
 
+pub other_lines_are_of_no_kind_determined : (S R : _) (lS lR : _) → Determines (mendlaws_says.other_lines_are_of_no_kind.ended S R) (mendlaws.other_lines_are_of_no_kind.Reads.Learnt S R lS lR)
+other_lines_are_of_no_kind_determined S R lS lR c x y p q = refl
+
 pub fit_lines_mean_the_same_determined : Determines mendlaws_says.fit_lines_mean_the_same.ended mendlaws.fit_lines_mean_the_same.Reads.Learnt
 fit_lines_mean_the_same_determined c x y p q = refl
 

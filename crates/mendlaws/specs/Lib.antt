@@ -1,4 +1,5 @@
 pub mod Says
+pub mod Others
 pub mod Spells
 pub mod Becomes
 pub mod Steps

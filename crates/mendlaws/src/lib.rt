@@ -2,14 +2,16 @@
 #![tactic(auto)]
 
 ghost use Rattle.std.specs.Prelude.{◌≡◌, ◌↔◌, ◌%◌, true, List, ℕ, length, Result};
+ghost use Rattle.bus.specs.Device.{Device};
 ghost use Rattle.bus.specs.Event.{Event};
-ghost use Rattle.text.specs.Lines.{Line, lines_of};
-ghost use Rattle.text.specs.Frames.{is_frame, frame_of};
+ghost use Rattle.text.specs.Lines.{Line, ended, rest, lines_of};
+ghost use Rattle.text.specs.Frames.{is_frame, frame_of, frame_in};
 ghost use Rattle.text.specs.History.{event_of};
 ghost use Rattle.mend.specs.declared.Mended.{Mended as Lengths};
 ghost use Rattle.mend.specs.declared.MendRefusal.{MendRefusal};
 ghost use Rattle.mend.specs.Mend.{mend_told, outcome_of};
 ghost use Rattle.mendlaws.specs.Says.{Says, SaysAnEvent};
+ghost use Rattle.mendlaws.specs.Others.{of_no_kind, RefusesWith1};
 ghost use Rattle.mendlaws.specs.Becomes.{AllBecome, BecomeOneThing};
 ghost use Rattle.mendlaws.specs.Steps.{MeansTheSame};
 ghost use Rattle.mendlaws.specs.Reasons.{HasItsReason, unfit_lines, reasons_of, reasons_beside};
@@ -28,6 +30,15 @@ pub fn frames_say_events()
     ensures event { (bytes : List ℕ) (e : Event) → Says bytes e → event_of (frame_of bytes) ≡ e }
 {}
 
+/// A line that says no event in plain codes is an event of no kind, and so is a rest without LF, however well it is formed. Every device, in every
+/// state, refuses that event with 1: it answers 00, and stays as it was.
+pub fn other_lines_are_of_no_kind<S, R>()
+    ensures line { (bytes : List ℕ)
+        → ¬ SaysAnEvent bytes → event_of (frame_in (ended bytes)) ≡ of_no_kind }
+    ensures rest { (bytes : List ℕ) → event_of (frame_in (rest bytes)) ≡ of_no_kind }
+    ensures refused { (dev : Device S R) (s : S) → RefusesWith1 dev s of_no_kind }
+{}
+
 /// A kept or mended line means the same frame as before: the one that the line is once a rest has its LF, one CR is dropped and digits are
 /// raised. So it is mended to these bytes and to no others, and the clean script has them, with LF. Any other line is no frame even then.
 pub fn fit_lines_mean_the_same()
@@ -40,6 +51,7 @@ pub fn fit_lines_mean_the_same()
 pub fn unfit_lines_have_a_reason()
     ensures reason { (l : Line) → HasItsReason l }
     ensures examples { reasons_of unfit_lines ≡ reasons_beside unfit_lines }
+    ensures nine { length unfit_lines ≡ 9 }
 {}
 
 /// The number of every call: 6 where the text or its clean form is longer than 4,096 bytes, then 7 where an output is too short, and else 0. A
@@ -70,7 +82,9 @@ pub fn clean_texts_stay()
     ensures { (text clean report : List ℕ) (es : List Event) → CleanWithRoom text clean report es → Stays text clean report }
 {}
 
-/// The example has each reason to keep, to mend and to leave out a line: the call gives the clean script and the signs that stand beside it.
+/// The example has fifteen lines, and each reason to keep, to mend and to leave out a line: the call gives the clean script and the signs that stand
+/// beside it.
 pub fn example_is_mended()
-    ensures { given (all_of a_capture) ≡ said }
+    ensures gives { given (all_of a_capture) ≡ said }
+    ensures fifteen { length a_capture ≡ 15 }
 {}
