@@ -1,6 +1,6 @@
 -- What is printed of the captured script, and said of its lines: computed.
 -- Rests on nothing.
-use Rattle.std.proofs.Common.{◌≡◌, true, false, refl}
+use Rattle.std.proofs.Common.{◌≡◌, true, false, length, refl}
 use mathlib.Core.List.{flat_map}
 use Rattle.std.specs.Fmt.{digits}
 use Rattle.bus.specs.Kinds.{is_kind, operands_of}
@@ -28,3 +28,7 @@ fails = refl
 pub ends_well : has_unfit a_fit_capture ≡ false
 unfolding is_kind operands_of digit_value pair_value lines_of leading_byte is_frame without_cr raised mended sign_of has_unfit
 ends_well = refl
+
+pub seven_lines : length (lines_of a_capture) ≡ 7
+unfolding lines_of
+seven_lines = refl

@@ -23,6 +23,12 @@ refused_texts_print_a_number_alone_determined c x y p q = refl
 pub explained_chips_are_of_the_older_edition_determined : Determines printlaws_says.explained_chips_are_of_the_older_edition.ended printlaws.explained_chips_are_of_the_older_edition.Reads.Learnt
 explained_chips_are_of_the_older_edition_determined c x y p q = refl
 
+pub explanations_say_what_the_account_says_determined : Determines printlaws_says.explanations_say_what_the_account_says.ended printlaws.explanations_say_what_the_account_says.Reads.Learnt
+explanations_say_what_the_account_says_determined c x y p q = refl
+
+pub trims_print_the_lines_that_change_the_chip_determined : Determines printlaws_says.trims_print_the_lines_that_change_the_chip.ended printlaws.trims_print_the_lines_that_change_the_chip.Reads.Learnt
+trims_print_the_lines_that_change_the_chip_determined c x y p q = refl
+
 pub rack_texts_print_as_listed_determined : Determines printlaws_says.rack_texts_print_as_listed.ended printlaws.rack_texts_print_as_listed.Reads.Learnt
 rack_texts_print_as_listed_determined c x y p q = refl
 

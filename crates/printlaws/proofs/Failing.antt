@@ -1,8 +1,10 @@
--- A text is refused exactly where a number alone is printed of it: answers are none, or five bytes or more.
--- Rests on script's Pieces and RackEnough.
-use Rattle.std.proofs.Common.{◌≡◌, ℕ, zero, suc, ◌+◌, ◌*◌, Bool, true, false, List, length, ap, sym, ◌∙◌, refl, eqb, arith, ne_eqb}
+-- A text is refused exactly where a number alone is printed of it, 06, or of a rack 06 or 09: answers are none, or five bytes or more.
+-- Rests on bits' Logic, and on script's Pieces and RackEnough.
+use Rattle.std.proofs.Common.{◌≡◌, ◌↔◌, inl, inr, ℕ, zero, suc, ◌+◌, ◌*◌, Bool, true, false, List, length, ap, sym, ◌∙◌, refl, eqb, arith, ne_eqb}
+use Rattle.bits.proofs.Logic.{contrary}
 use Rattle.bus.specs.Device as devices
 use Rattle.bus.specs.declared.Pins.{Pins}
+use Rattle.text.specs.Digits.{digit_code}
 use Rattle.text.specs.Lines.{line_count}
 use Rattle.chip.specs.Pins as chip_pins
 use Rattle.chip.specs.Step as chip
@@ -17,7 +19,7 @@ use Rattle.script.proofs.RackEnough as racks
 use Rattle.prints.specs.declared.Device.{Device}
 use Rattle.prints.specs.declared.Device.TheVariants.{I8255A, I82C55A, I8355}
 use Rattle.prints.specs.Printed.{printed, printed_by, printed_of_rack, refuses_rack}
-use Rattle.printlaws.specs.Refused.{length_of_a_number}
+use Rattle.printlaws.specs.Refused.{length_of_a_number, long_text_refused, first_line_refused, IsEither}
 
 -- Lines of five bytes or more are not three bytes.
 not_alone : (w n : ℕ) (bytes : List ℕ) → length bytes ≡ (5 + w) * n → eqb (length bytes) length_of_a_number ≡ false
@@ -53,3 +55,27 @@ unfolding printed
 by_any I8255A text = by_device_lem chip.device chip_pins.pins_of _ text
 by_any I82C55A text = by_device_lem chip.device chip_pins.pins_of _ text
 by_any I8355 text = by_device_lem i8355.device i8355_views.pins_of _ text
+
+six_of : (device : Device) (text : List ℕ) → too_long text ≡ true → printed device text ≡ long_text_refused
+unfolding printed printed_by digit_code
+six_of I8255A text long = rw (long) refl
+six_of I82C55A text long = rw (long) refl
+six_of I8355 text long = rw (long) refl
+
+pub six : (device : Device) (text : List ℕ) → (too_long text ≡ true) ↔ (printed device text ≡ long_text_refused)
+six device text = (six_of device text, λ is. by_any device text ∙ ap (λ bytes. eqb (length bytes) length_of_a_number) is)
+
+pub six_or_nine : (text : List ℕ)
+    → (refuses_rack text ≡ true) ↔ IsEither (printed_of_rack text) long_text_refused first_line_refused
+unfolding printed_of_rack digit_code
+six_or_nine text = (go (too_long text) (names_rack text) refl refl, back)
+  where
+    go : (long rack : Bool) → too_long text ≡ long → names_rack text ≡ rack → refuses_rack text ≡ true
+        → IsEither (printed_of_rack text) long_text_refused first_line_refused
+    go true rack l k refused = inl (rw (l) refl)
+    go false false l k refused = inr (rw (l, k) refl)
+    go false true l k refused = absurd (contrary false refl (rw (l, k) at refused))
+
+    back : IsEither (printed_of_rack text) long_text_refused first_line_refused → refuses_rack text ≡ true
+    back (inl is) = by_rack text ∙ ap (λ bytes. eqb (length bytes) length_of_a_number) is
+    back (inr is) = by_rack text ∙ ap (λ bytes. eqb (length bytes) length_of_a_number) is

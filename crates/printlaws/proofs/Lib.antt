@@ -8,4 +8,10 @@ pub mod Failing
 pub mod LeftByOlder
 pub mod RackTexts
 pub mod Captured
+pub mod Words
+pub mod QuietTexts
+pub mod Trimmed
+pub mod TrimmedText
+pub mod FailingToTrim
+pub mod FailingToExplain
 pub mod Determined

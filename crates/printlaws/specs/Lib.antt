@@ -5,3 +5,6 @@ pub mod Refused
 pub mod Explained
 pub mod RackTexts
 pub mod Capture
+pub mod Words
+pub mod QuietTexts
+pub mod Trimmed

@@ -19,13 +19,18 @@ ghost use Rattle.prints.specs.declared.Device.TheVariants.{I8255A, I82C55A, I835
 ghost use Rattle.prints.specs.Printed.{printed, printed_of_rack, refuses_rack};
 ghost use Rattle.prints.specs.Left.{left_of};
 ghost use Rattle.prints.specs.Mended.{refuses_mending, printed_mended, said_of_all, has_unfit};
+ghost use Rattle.prints.specs.Quiet.{printed_quiet};
+ghost use Rattle.prints.specs.Trimmed.{refuses_trimming, printed_trimmed};
 ghost use Rattle.printlaws.specs.ByAccount.{accounted_lines, listed_scripts};
 ghost use Rattle.printlaws.specs.Columns.{Answers};
 ghost use Rattle.printlaws.specs.ByRack.{InColumns};
-ghost use Rattle.printlaws.specs.Refused.{long_text_refused, first_line_refused, capture_refused, length_of_a_number};
+ghost use Rattle.printlaws.specs.Refused.{long_text_refused, first_line_refused, capture_refused, line_refused, long_text_unexplained, length_of_a_number, IsEither};
 ghost use Rattle.printlaws.specs.Explained.{explained_at_first};
 ghost use Rattle.printlaws.specs.RackTexts.{rack_texts};
 ghost use Rattle.printlaws.specs.Capture.{a_capture, clean_script, said_of_its_lines, a_fit_capture};
+ghost use Rattle.printlaws.specs.Words.{accounted_words};
+ghost use Rattle.printlaws.specs.QuietTexts.{quiet_texts};
+ghost use Rattle.printlaws.specs.Trimmed.{TextKept, SaysEvents, a_script};
 
 /// Of a text of at most 4,096 bytes the program prints the lines that the account of the text's history has, from a power-up with every line
 /// high: asked for an 8255A those of the older edition, for an 82C55A those of the newer, and for an 8355 those of the 8355. Of nine scripts for
@@ -61,13 +66,23 @@ pub fn long_texts_print_06()
     ensures rack { (text : List ℕ) → 4096 < length text → printed_of_rack text ≡ long_text_refused }
 {}
 
-/// A text is refused as a whole, which makes the program fail, exactly where three bytes are printed of it, as many as a number alone has, two
-/// digits and LF; whichever device answers, or a rack. A captured script is refused exactly where 06 alone is printed, which is no clean script.
-#[tactic(auto, using(crate::proofs::Failing::by_any, crate::proofs::Failing::by_rack, crate::proofs::FailingToMend::mending))]
+/// A text is refused as a whole, which makes the program fail, exactly if three bytes are printed of it, as many as a number alone has, two
+/// digits and LF; whichever device answers, or a rack. Of a device's script these are 06 and LF, and of a rack's 06 or 09 and LF. A script to be
+/// trimmed is refused exactly if 06 or 01 and LF are printed; a captured script exactly if 06 and LF are, which is no clean script; and a script whose
+/// interrupts are to be explained exactly if the sentence is.
+#[tactic(auto, using(crate::proofs::Failing::by_any, crate::proofs::Failing::by_rack, crate::proofs::FailingToMend::mending, crate::proofs::Failing::six, crate::proofs::Failing::six_or_nine, crate::proofs::FailingToTrim::six_or_one, crate::proofs::FailingToExplain::sentence))]
 pub fn refused_texts_print_a_number_alone()
     ensures device { (device : Device) (text : List ℕ) → too_long text ≡ eqb (length (printed device text)) length_of_a_number }
     ensures rack { (text : List ℕ) → refuses_rack text ≡ eqb (length (printed_of_rack text)) length_of_a_number }
+    ensures six { (device : Device) (text : List ℕ)
+        → (too_long text ≡ true) ↔ (printed device text ≡ long_text_refused) }
+    ensures six_or_nine { (text : List ℕ) → (refuses_rack text ≡ true)
+        ↔ IsEither (printed_of_rack text) long_text_refused first_line_refused }
+    ensures trimming { (text : List ℕ) → (refuses_trimming text ≡ true)
+        ↔ IsEither (printed_trimmed text) long_text_refused line_refused }
     ensures capture { (text : List ℕ) → (refuses_mending text ≡ true) ↔ (printed_mended text ≡ capture_refused) }
+    ensures explanation { (text : List ℕ)
+        → (too_long text ≡ true) ↔ (printed_quiet text ≡ long_text_unexplained) }
 {}
 
 /// That the chip whose interrupts the program explains is an 8255A, with every line high at its power-up, is seen by two scripts: one that reads
@@ -77,6 +92,35 @@ pub fn refused_texts_print_a_number_alone()
 pub fn explained_chips_are_of_the_older_edition()
     ensures refused { left_of (codes "0103\n") ≡ walk.left 0 explained_at_first 1 }
     ensures too_long { (text : List ℕ) → 4096 < length text → left_of text ≡ walk.left 6 explained_at_first 0 }
+{}
+
+/// Asked why the interrupts are quiet after a text of at most 4,096 bytes, the program prints what the account of the text's history says, from a
+/// power-up of the older edition with every line high: the lines of group A and then of group B, the input's before the output's, in the words of a
+/// table; and behind them, if there are any, how many lines have another number than 0. It prints nothing else. Of a longer text it prints a
+/// sentence. Of two scripts it prints what is listed beside them.
+#[tactic(auto, using(crate::proofs::Words::said_by_account, crate::proofs::Words::unexplained, crate::proofs::QuietTexts::quiet_texts_printed))]
+pub fn explanations_say_what_the_account_says()
+    ensures said { (text : List ℕ)
+        → length text ≤ 4096 → printed_quiet text ≡ accounted_words (history_of text) }
+    ensures too_long { (text : List ℕ)
+        → 4096 < length text → printed_quiet text ≡ long_text_unexplained }
+    ensures texts { answered printed_quiet quiet_texts ≡ listed quiet_texts }
+    ensures two { length quiet_texts ≡ 2 }
+{}
+
+/// Asked to trim a text of at most 4,096 bytes, each line of which says an event, the program prints exactly the lines after which the chip is another
+/// than before, in their order and byte for byte as they stand. The chip is one of the older edition at its power-up, with every line high. If a line says
+/// no event, 01 and LF are printed, and of a longer text 06 and LF. Of one script of twelve lines it prints what is listed beside it.
+#[tactic(auto, using(crate::proofs::Trimmed::kept_printed, crate::proofs::Trimmed::one_refused, crate::proofs::Trimmed::all_refused, crate::proofs::TrimmedText::trimmed_as_listed, crate::proofs::TrimmedText::twelve_lines))]
+pub fn trims_print_the_lines_that_change_the_chip()
+    ensures kept { (text : List ℕ)
+        → length text ≤ 4096 → SaysEvents text → TextKept text (printed_trimmed text) }
+    ensures no_frame { (text : List ℕ)
+        → length text ≤ 4096 → ¬ SaysEvents text → printed_trimmed text ≡ line_refused }
+    ensures too_long { (text : List ℕ)
+        → 4096 < length text → printed_trimmed text ≡ long_text_refused }
+    ensures script { printed_trimmed (codes a_script.script) ≡ codes a_script.answers }
+    ensures twelve { length (lines_of (codes a_script.script)) ≡ 12 }
 {}
 
 /// Of thirteen scripts of racks the program prints what is listed beside them: two cards that differ in what they show, lines with an operand too
@@ -89,10 +133,11 @@ pub fn rack_texts_print_as_listed()
 
 /// Of seven captured lines the program prints the clean script, and says on standard error what became of each that was not kept. It fails, as
 /// some are unfit. Of a script without an unfit line it does not.
-#[tactic(auto, using(crate::proofs::Captured::printed, crate::proofs::Captured::said, crate::proofs::Captured::fails, crate::proofs::Captured::ends_well))]
+#[tactic(auto, using(crate::proofs::Captured::printed, crate::proofs::Captured::said, crate::proofs::Captured::fails, crate::proofs::Captured::ends_well, crate::proofs::Captured::seven_lines))]
 pub fn captures_print_as_listed()
     ensures printed { printed_mended a_capture ≡ clean_script }
     ensures said { said_of_all a_capture ≡ said_of_its_lines }
     ensures fails { has_unfit a_capture ≡ true }
     ensures ends_well { has_unfit a_fit_capture ≡ false }
+    ensures seven { length (lines_of a_capture) ≡ 7 }
 {}

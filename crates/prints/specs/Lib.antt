@@ -1,3 +1,5 @@
 pub mod Printed
 pub mod Mended
 pub mod Left
+pub mod Quiet
+pub mod Trimmed

@@ -1,3 +1,5 @@
 pub mod Answered
 pub mod AnsweredByRack
 pub mod CleanScript
+pub mod Explained
+pub mod Trimmed

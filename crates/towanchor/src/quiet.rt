@@ -1,12 +1,13 @@
 // What each group's INTR is doing after the last line of a script, and why, in plain words. include/towanchor.h has the same words for
 // hosts in C.
-ghost use Rattle.std.specs.Prelude.{◌≡◌, IfOk, is_some};
+ghost use Rattle.std.specs.Prelude.{◌≡◌, ◌++◌, IfOk, OnOk, is_some, string_bytes};
 ghost use Rattle.script.specs.Run.{too_long};
 ghost use Rattle.prints.specs.Left.{left_of};
+ghost use Rattle.prints.specs.Quiet.{reason_words, group_name, side_name, half_line, group_lines, refused_line, said_of_left, printed_quiet};
 ghost use Rattle.towanchor.specs.Left.{told};
 
 use super::output::Printed;
-use super::refusals::Refused;
+use super::refusals::TOO_LONG;
 use chip::channel::Side;
 use chip::reasons::{Explained, Reason};
 use chip::{Chip, Edition, Levels};
@@ -15,7 +16,9 @@ use script::{RunRefusal, left};
 use std::alloc::{AllocError, Global};
 
 // A function and no `Display` of the reason: the words depend on the side too.
-fn words(side: Side, reason: Reason) -> &'static str {
+fn words(side: Side, reason: Reason) -> &'static str
+    ensures { result.now ≡ reason_words side reason }
+{
     match (reason, side) {
         (Reason::EnableOff, _) => "low, the interrupt is not enabled",
         (Reason::FlagWrong, Side::Input) => "low, no byte is waiting to be read",
@@ -28,27 +31,58 @@ fn words(side: Side, reason: Reason) -> &'static str {
     }
 }
 
-fn half(said: &mut String, letter: char, side: Side, reason: Reason) -> Result<(), AllocError> {
-    let name = match side {
-        Side::Input => "input",
-        Side::Output => "output",
-    };
-    writeln!(said, "group {letter}, {name}: {}", words(side, reason))
+fn name(group: Group) -> &'static str
+    ensures { result.now ≡ group_name group }
+{
+    match group {
+        Group::A => "A",
+        Group::B => "B",
+    }
 }
 
-fn group(said: &mut String, letter: char, explained: Explained) -> Result<(), AllocError> {
+fn half_name(side: Side) -> &'static str
+    ensures { result.now ≡ side_name side }
+{
+    match side {
+        Side::Input => "input",
+        Side::Output => "output",
+    }
+}
+
+// Says what a half is doing.
+#[tactic(auto, unfolding(prints::specs::Quiet::half_line))]
+fn say_half(said: &mut String, group: Group, side: Side, reason: Reason) -> Result<(), AllocError>
+    ensures { OnOk result
+        (string_bytes said.new ≡ string_bytes said.old ++ half_line group side reason) }
+{
+    writeln!(
+        said,
+        "group {}, {}: {}",
+        name(group),
+        half_name(side),
+        words(side, reason)
+    )
+}
+
+// Says what a group's INTR is doing.
+#[tactic(auto, unfolding(prints::specs::Quiet::group_lines))]
+fn say_group(said: &mut String, group: Group, explained: Explained) -> Result<(), AllocError>
+    ensures { OnOk result
+        (string_bytes said.new ≡ string_bytes said.old ++ group_lines group explained) }
+{
     match explained {
         Explained::ModeZero => {
             writeln!(
                 said,
-                "group {letter}: there is no INTR, the group is in mode 0"
+                "group {}: there is no INTR, the group is in mode 0",
+                name(group)
             )
         }
-        Explained::InputHalf(reason) => half(said, letter, Side::Input, reason),
-        Explained::OutputHalf(reason) => half(said, letter, Side::Output, reason),
+        Explained::InputHalf(reason) => say_half(said, group, Side::Input, reason),
+        Explained::OutputHalf(reason) => say_half(said, group, Side::Output, reason),
         Explained::BothHalves(input, output) => {
-            half(said, letter, Side::Input, input)?;
-            half(said, letter, Side::Output, output)
+            say_half(said, group, Side::Input, input)?;
+            say_half(said, group, Side::Output, output)
         }
     }
 }
@@ -69,36 +103,46 @@ fn left_by(text: &[u8]) -> Result<Left, RunRefusal>
     Ok(Left { chip, refused })
 }
 
-// What is said of the chip that a script leaves. One that was refused in part may have left another chip than its writer had in mind.
-fn of_left(alloc: Global, left: Left) -> Result<String, AllocError> {
-    let mut said = String::new(alloc);
-    group(&mut said, 'A', left.chip.explain(Group::A))?;
-    group(&mut said, 'B', left.chip.explain(Group::B))?;
-    if left.refused != 0 {
-        writeln!(
-            said,
-            "lines that were refused, and changed nothing: {}",
-            left.refused
-        )?;
+// Says how many lines were refused, if any was: such a script may have left another chip than its writer had in mind.
+#[tactic(auto, unfolding(prints::specs::Quiet::refused_line))]
+fn say_refused(said: &mut String, count: usize) -> Result<(), AllocError>
+    ensures { OnOk result (string_bytes said.new ≡ string_bytes said.old ++ refused_line count) }
+{
+    if count == 0 {
+        return Ok(());
     }
+    writeln!(
+        said,
+        "lines that were refused, and changed nothing: {count}"
+    )
+}
+
+// What is said of the chip that a script leaves.
+#[tactic(auto, unfolding(prints::specs::Quiet::said_of_left))]
+fn of_left(alloc: Global, left: Left) -> Result<String, AllocError>
+    ensures { IfOk result (λ said. string_bytes said ≡ said_of_left left.chip left.refused) }
+{
+    let mut said = String::new(alloc);
+    say_group(&mut said, Group::A, left.chip.explain(Group::A))?;
+    say_group(&mut said, Group::B, left.chip.explain(Group::B))?;
+    say_refused(&mut said, left.refused)?;
     Ok(said)
 }
 
 // Where the text is too long, that is said in place of all this.
+#[tactic(auto, using(crate::proofs::Explained::of_a_run, crate::proofs::Explained::of_none))]
 pub(super) fn explain(alloc: Global, text: &[u8]) -> Result<Printed, AllocError>
-    ensures { IfOk result (λ printed. is_some printed.refused ≡ too_long text.now) }
+    ensures text { IfOk result (λ printed. printed.text.items ≡ printed_quiet text.now) }
+    ensures refused { IfOk result (λ printed. is_some printed.refused ≡ too_long text.now) }
 {
     match left_by(text) {
         Ok(left) => Ok(Printed {
             text: of_left(alloc, left)?.into_bytes(),
             refused: None,
         }),
-        Err(refusal) => {
-            let why = Refused::from(refusal);
-            Ok(Printed {
-                text: format!(in alloc; "{why}\n")?.into_bytes(),
-                refused: Some(why),
-            })
-        }
+        Err(refusal) => Ok(Printed {
+            text: format!(in alloc; "{TOO_LONG}\n")?.into_bytes(),
+            refused: Some(refusal.into()),
+        }),
     }
 }

@@ -5,11 +5,14 @@ use script::RunRefusal;
 use script::racks::RackRunRefusal;
 use thiserror::Error;
 
+// What is said of a text that is too long to be run.
+pub(super) const TOO_LONG: &str = "the text is longer than 4,096 bytes, and was not run";
+
 #[derive(Clone, Copy, Debug, Error)]
 pub(super) enum Refused {
     #[error("a line is no frame, and nothing was trimmed")]
     NoFrame,
-    #[error("the text is longer than 4,096 bytes, and was not run")]
+    #[error("{}", TOO_LONG)]
     TooLong,
     #[error("the text or its clean form is longer than 4,096 bytes, and was not mended")]
     TooLongToMend,
