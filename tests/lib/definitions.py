@@ -41,7 +41,7 @@ class Item:
     name: str
     comment: list = field(default_factory=list)
     lines: list = field(default_factory=list)
-    has_members: bool = False
+    has_constructors: bool = False
     meanings: list = None
 
     def words(self):
@@ -53,7 +53,7 @@ class Item:
 
 @dataclass
 class Member:
-    """A constructor, variant or field, by the item that has it."""
+    """A constructor or variant, by the item that has it."""
 
     item: Item
     name: str
@@ -61,7 +61,7 @@ class Member:
 
 @dataclass
 class Module:
-    """A file: its items, their constructors and fields; what it imports, each as a path and a name there; the modules that it names."""
+    """A file: its items and their constructors; what it imports, each as a path and a name there; the modules that it names."""
 
     crate: str
     file: str
@@ -101,8 +101,8 @@ def read_specs(module, text):
         if indent > base:
             if item:
                 item.lines.append(line[base:])
-                named = re.match(r"(?:pub )?([^:(]*) :( |$)", bare)
-                if named and item.has_members:
+                named = re.match(r"([^:(]*) :( |$)", bare)
+                if named and item.has_constructors:
                     module.members.update((name, Member(item, name)) for name in named[1].split())
             continue
         if not indent:
@@ -120,7 +120,7 @@ def read_specs(module, text):
             fixity = [bare]
         elif found:
             name = found[1] or found[2]
-            item = module.items[name] = Item(module, name, comment, has_members=bool(found[1]))
+            item = module.items[name] = Item(module, name, comment, has_constructors=declared.startswith("data "))
             item.lines = [*([parameters] if parameters else []), *fixity, line[base:]]
             comment, fixity = [], []
         else:
