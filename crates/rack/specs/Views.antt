@@ -15,7 +15,7 @@ use Rattle.rack.specs.declared.refusals.ViewRefusal.TheVariants.{NoCard, NoSuchG
 use Rattle.rack.specs.State.{place_of, register_of, chip_at}
 use Rattle.rack.specs.Targets.{is_place}
 
--- The card at a place, as a chip, where there is one. Where there is none this is refused, and so is all that follows.
+-- The card at a place, as a chip, if there is one. If there is none this is refused, and so is all that follows.
 unfoldable pub card_of : Rack → ℕ → Result Chip ViewRefusal
 card_of r i = cond (is_place r.count i) (Ok (chip_at r i)) (Err NoCard)
 

@@ -44,7 +44,7 @@ impl Rack {
         }
     }
 
-    /// The card at a place, as a chip alone would be; `NoCard` where there is none.
+    /// The card at a place, as a chip alone would be; `NoCard` if there is none.
     #[tactic(auto, unfolding(crate::specs::Views::card_of, crate::specs::Targets::is_place))]
     pub fn card(&self, place: u8) -> Result<Chip, ViewRefusal>
         ensures { result ≡ card_of self.now place }
@@ -55,7 +55,7 @@ impl Rack {
         Ok(self.chip_at(place))
     }
 
-    /// The pins of a port of the card at a place; `NoCard` where there is none.
+    /// The pins of a port of the card at a place; `NoCard` if there is none.
     #[tactic(auto, unfolding(crate::specs::Views::card_pins, crate::specs::Views::card_of))]
     pub fn pins(&self, place: u8, port: u8) -> Result<Pins, ViewRefusal>
         ensures { result ≡ card_pins self.now place port }
@@ -63,7 +63,7 @@ impl Rack {
         Ok(self.card(place)?.pins(port))
     }
 
-    /// What became of the bytes offered to a channel of the card at a place, or planted in it; `NoCard` where there is none.
+    /// What became of the bytes offered to a channel of the card at a place, or planted in it; `NoCard` if there is none.
     #[tactic(auto, unfolding(crate::specs::Views::card_tally, crate::specs::Views::card_of))]
     pub fn tally(&self, place: u8, group: Group, side: Side) -> Result<Tally, ViewRefusal>
         ensures { result ≡ card_tally self.now place group side }
@@ -71,7 +71,7 @@ impl Rack {
         Ok(self.card(place)?.tally(group, side))
     }
 
-    /// Explains the INTR of a group of the card at a place; `NoCard` where there is none.
+    /// Explains the INTR of a group of the card at a place; `NoCard` if there is none.
     #[tactic(auto, unfolding(crate::specs::Views::card_explained, crate::specs::Views::card_of))]
     pub fn explain(&self, place: u8, group: Group) -> Result<Explained, ViewRefusal>
         ensures { result ≡ card_explained self.now place group }
@@ -79,8 +79,8 @@ impl Rack {
         Ok(self.card(place)?.explain(group))
     }
 
-    /// Explains the INTR of the group of that number, as scripts and C have it, of the card at a place: 0 is A and 1 is B. It is `NoCard` where
-    /// there is none, whatever the number, and else `NoSuchGroup` of any other number.
+    /// Explains the INTR of the group of that number, as scripts and C have it, of the card at a place: 0 is A and 1 is B. Without a
+    /// card it is `NoCard`, whatever the number, and else `NoSuchGroup` of any other number.
     #[tactic(auto, unfolding(crate::specs::Views::card_explained_numbered, crate::specs::Views::card_of))]
     pub fn explain_numbered(&self, place: u8, number: u8) -> Result<Explained, ViewRefusal>
         ensures { result ≡ card_explained_numbered self.now place number }

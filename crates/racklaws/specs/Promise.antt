@@ -105,7 +105,7 @@ pub record GoesOn (r : Rack) (es : List RackEvent) : Type 0 where
   pub bus : bus_of (rack_run r es).phase ≡ bus_over (bases_of r) (bus_of r.phase) es
   pub card : (i : ℕ) → i < most_cards → chip_at (rack_run r es) i ≡ run (chip_at r i) (events_in i r es)
 
--- The number that a view is refused with, and 0 where it shows something.
+-- The number that a view is refused with, and 0 if it shows something.
 abbrev pub number_of_view : {T : Type 0} → Result T ViewRefusal → ℕ
 number_of_view r = number_told view_refusal_number r
 

@@ -12,8 +12,8 @@ use Rattle.racklaws.specs.NamesRack.{NamesRack}
 abbrev pub answer_bytes : {text : List ℕ} → NamesRack text → ℕ
 answer_bytes named = (5 + 6 * length named.bases) * line_total named.further
 
--- The numbers with which a run is refused, in their order: 6 where the text has more than 4,096 bytes; 9 where its first line is no rack; 7 where
--- the output is shorter than the answers.
+-- The numbers with which a run is refused, in their order: 6 if the text has more than 4,096 bytes; 9 if its first line is no rack; 7 if the output
+-- is shorter than the answers.
 pub data RefusedWith (text out : List ℕ) : ℕ → Type 0 where
   too_long : 4096 < length text → RefusedWith text out 6
   no_rack : length text ≤ 4096 → ¬ NamesRack text → RefusedWith text out 9
@@ -25,7 +25,7 @@ pub record Refuses (text out : List ℕ) (n : ℕ) : Type 0 where
   pub told : ran_of text (length out) ≡ record { number = n; lines = 0; length = 0 }
   pub output : output_left text out ≡ out
 
--- A run is accepted of a text of at most 4,096 bytes whose first line is a rack, where the answers fit into the output.
+-- A run is accepted of a text of at most 4,096 bytes whose first line is a rack, if the answers fit into the output.
 pub record Fits (text out : List ℕ) : Type 0 where
   pub short : length text ≤ 4096
   pub named : NamesRack text

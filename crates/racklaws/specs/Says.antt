@@ -4,7 +4,7 @@ use Rattle.text.specs.Quoted.{codes}
 use Rattle.racklaws.specs.Digits.{two_digits, four_digits}
 use Rattle.racklaws.specs.Whom.{RackEvent, rack_event}
 
--- A line, without its LF, says an event where it is 00; 01 and an address of four digits; 02; 03, an address and a byte of two digits; or 05, and a
+-- A line, without its LF, says an event in five forms: 00; 01 and an address of four digits; 02; 03, an address and a byte of two digits; 05, and a
 -- place, a port and levels of two digits each. No other line says one: not 04, and not one with an operand, or a digit, more or less.
 pub data Says : List ℕ → RackEvent → Type 0 where
   reset : Says (codes "00") (rack_event 0 0 0 0)

@@ -72,8 +72,8 @@ pub fn good_bases_alone_make_a_rack()
     ensures power_up { (bs : List ℕ) → length bs ≤ most_cards → (i : ℕ) → i < most_cards → chip_at (rack_of bs) i ≡ power_up }
 {}
 
-/// Where a rack has no card, which is at every place from the count of its bases on, each view is refused with 10, after any history, and that of a
-/// group by a number is, whatever the number. So it is of a rack that was built, and of every rack.
+/// A rack has no card at the places from the count of its bases on. There each view is refused with 10, after any history, and an explanation is,
+/// whatever the number of the group. So it is of a rack that was built, and of every rack.
 pub fn places_without_a_card_show_nothing()
     ensures built { (bs : List ℕ) → length bs ≤ 8 → NoneFrom (length bs) (rack_of bs) }
     ensures any { (r : Rack) → Whole r → NoneFrom (length (bases_of r)) r }
@@ -86,9 +86,9 @@ pub fn facts_about_cycles_hold_of_racks()
     ensures histories { (r : Rack) (es : List RackEvent) → rack_run r es ≡ run_in device r (map (event_by r.count r.bases) es) }
 {}
 
-/// A further line of a rack's script is read as an event exactly where it says that event, digit by digit: a kind and just its operands. The rack takes
-/// it so. A line that says none, and a rest without LF however well it is formed, is refused with 1 by every rack, as an event of no kind is: the
-/// byte is 00, and the rack is as it was.
+/// A further line of a rack's script is read as an event exactly if it says that event digit by digit, a kind and just its operands; and the rack takes
+/// it so. A line that says none is refused with 1 by every rack, and so is a rest without LF, however well it is formed. The byte is then 00, and the
+/// rack is as it was.
 pub fn rack_lines_say_events()
     ensures read { (line : List ℕ) (e : RackEvent) → ReadAs line e ↔ Says line e }
     ensures taken { (r : Rack) (line : List ℕ) (e : RackEvent) → Says line e → TakenAs r line e }
@@ -96,10 +96,10 @@ pub fn rack_lines_say_events()
     ensures rest { (r : Rack) (line : List ℕ) → RefusesLine r (rest line) }
 {}
 
-/// The run of a rack's script is refused with 6 where the text has more than 4,096 bytes, then with 9 where its first line is no rack, and then with
-/// 7 where the output is shorter than five bytes for each further line and six more for each card of it. Then it tells no lines, and every byte of the
-/// output is left. Else it is accepted. It tells how many lines it answered and in how many bytes; the output begins with the rack's answers to these
-/// lines, and every byte behind them is as it was. `MOST_ROOM`, 217,088 bytes, is room for every text of at most 4,096.
+/// The run of a rack's script is refused with 6 if the text has more than 4,096 bytes, then with 9 if its first line is no rack, and then with 7 if the
+/// answers do not fit into the output. They take five bytes for each further line, and six more for each card. A refused run tells no lines, and leaves
+/// every byte of the output. Any other run is accepted, and tells how many lines it answered and in how many bytes. The output then begins with the
+/// rack's answers to these lines, and every byte behind them is as it was. `MOST_ROOM`, 217,088 bytes, is enough for every text of at most 4,096 bytes.
 pub fn rack_runs_write_the_answers()
     ensures refused { (text out : List ℕ) (n : ℕ) → RefusedWith text out n → Refuses text out n }
     ensures accepted { (text out : List ℕ) (fits : Fits text out) → Writes text out fits.named }
