@@ -20,8 +20,8 @@ module _ {S : Type 0} (a : Answerer S) where
     pub told : ran_of (width_of a s) text (length out) ≡ record { number = n; lines = 0 }
     pub leaves : LeavesAll s text out
 
-  -- Which runs are refused, in plain numbers: with 6 those of a text of more than 4,096 bytes, and of the others with 7 those into an output that
-  -- is too short for the answers.
+  -- Which runs are refused, in plain numbers: those of a text of more than 4,096 bytes with 6, and of the others those into an output that is too
+  -- short for the answers with 7.
   pub record RefusedByLength (s : S) (text out : List ℕ) : Type 0 where
     pub too_long : 4096 < length text → RefusedWith 6 s text out
     pub no_room : length text ≤ 4096 → length out < bytes_of_answers s text → RefusedWith 7 s text out

@@ -22,8 +22,9 @@ pub record Leaves (ed : Edition) (text out : List ℕ) (n lines : ℕ) (left : L
   pub told : ran_of answer_width text (length out) ≡ record { number = n; lines = lines }
   pub output : output_by_chip ed text out ≡ left
 
--- It is 6 for a text of more than 4,096 bytes; else 7 where the output is shorter than eleven bytes for each line; and the output is then as it
--- was. Else it is 0 and the number of lines, and the output has the answer lines, and behind them the bytes that stood there.
+-- A text of more than 4,096 bytes is refused with 6. Any other is refused with 7 if the output is shorter than eleven bytes for each line. The
+-- output is then as it was. A text that runs gives 0 and the number of its lines; the output has the answer lines, and behind them the bytes that
+-- stood there.
 pub record RunsFromPowerUp (ed : Edition) (text out : List ℕ) : Type 0 where
   pub too_long : 4096 < length text → Leaves ed text out 6 0 out
   pub no_room : length text ≤ 4096 → length out < 11 * line_total text → Leaves ed text out 7 0 out

@@ -84,17 +84,17 @@ pub fn runs_are_numbered()
     ensures { (text : List ℕ) (room : ℕ) → RunNumbered text room }
 {}
 
-/// Whatever device answers, a run of a text of more than 4,096 bytes is refused with 6, and one of any other with 7 where the output is shorter
-/// than the answers: for each line five bytes, and six more for each card. Both leave every byte of the output, and the device. An empty text has
-/// no lines: it is accepted whatever the room, and leaves them too.
+/// Whatever device answers, a run of a text of more than 4,096 bytes is refused with 6, and one of any other with 7 if the output is shorter than
+/// the answers: for each line five bytes, and six more for each card. Both leave every byte of the output, and the device. An empty text has no
+/// lines: it is accepted whatever the room, and leaves them too.
 pub fn refused_and_empty_runs_leave_all<S>()
     ensures refused { (a : Answerer S) (s : S) (text out : List ℕ) → RefusedByLength a s text out }
     ensures no_lines { (a : Answerer S) (s : S) (out : List ℕ) → ran_of (width_of a s) [] (length out) ≡ accepted_run 0 }
     ensures empty { (a : Answerer S) (s : S) (out : List ℕ) → LeavesAll a s [] out }
 {}
 
-/// Whatever device answers, a text of at most 4,096 bytes runs where the output has room for the answers, and the run counts every line. The
-/// output then begins with the answers, and every byte behind them is as it was. The device is the one that the lines leave.
+/// Whatever device answers, a text of at most 4,096 bytes runs if the output has room for the answers, and the run counts every line. The output
+/// then begins with the answers, and every byte behind them is as it was. The device is the one that the lines leave.
 pub fn accepted_runs_write_the_answers<S>()
     ensures { (a : Answerer S) (s : S) (text out : List ℕ) → MayRun a s text out → WritesAnswers a s text out }
 {}

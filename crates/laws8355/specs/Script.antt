@@ -32,9 +32,9 @@ pub record Leaves (text out : List ℕ) (n lines : ℕ) (left : List ℕ) : Type
   pub told : ran_of answer_width text (length out) ≡ record { number = n; lines = lines }
   pub output : output_by_8355 text out ≡ left
 
--- What is promised of that run: it is 6 for a text of more than 4,096 bytes, and else 7 where the output is shorter than eleven bytes for each
--- line; the output is then as it was. Else it is 0 and the number of lines, and the output has the account's answer lines, and behind them the
--- bytes that stood there.
+-- What is promised of that run. A text of more than 4,096 bytes is refused with 6. Any other is refused with 7 if the output is shorter than
+-- eleven bytes for each line. The output is then as it was. A text that runs gives 0 and the number of its lines; the output has the account's
+-- answer lines, and behind them the bytes that stood there.
 pub record RunsFromPowerUp (text out : List ℕ) : Type 0 where
   pub too_long : 4096 < length text → Leaves text out 6 0 out
   pub no_room : length text ≤ 4096 → length out < 11 * line_count text → Leaves text out 7 0 out
