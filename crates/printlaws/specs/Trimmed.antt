@@ -33,3 +33,14 @@ abbrev pub a_script : Text
 a_script =
     "00\n0502FF\n050041\n0109\n0303B0\n0100\n02\n0502EF\n0502EF\n0502FF\n0102\n02\n"
     gives "050041\n0303B0\n02\n0502EF\n0502FF\n0102\n02\n"
+
+-- Scripts with lines that are no frames, and what is said of these on standard error: each by its number, which counts from 1, up to ten of them, and how
+-- many more there are.
+abbrev pub stray_texts : List Text
+stray_texts =
+    ("00\n\n02\n04\n0z\n0100" gives "line 2 is no frame\nline 4 is no frame\nline 5 is no frame\nline 6 is no frame\n")
+    ∷ ("00\n\n\n\n\n\n\n\n\n\n\n\n"
+    gives "line 2 is no frame\nline 3 is no frame\nline 4 is no frame\nline 5 is no frame\nline 6 is no frame\nline 7 is no frame\nline 8 is no frame\nline 9 is no frame\nline 10 is no frame\nline 11 is no frame\n1 more line is no frame\n")
+    ∷ ("\n\n\n\n\n\n\n\n\n\n\n\n"
+    gives "line 1 is no frame\nline 2 is no frame\nline 3 is no frame\nline 4 is no frame\nline 5 is no frame\nline 6 is no frame\nline 7 is no frame\nline 8 is no frame\nline 9 is no frame\nline 10 is no frame\n2 more lines are no frames\n")
+    ∷ []

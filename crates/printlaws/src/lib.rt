@@ -21,6 +21,7 @@ ghost use Rattle.prints.specs.Left.{left_of};
 ghost use Rattle.prints.specs.Mended.{refuses_mending, printed_mended, said_of_all, has_unfit};
 ghost use Rattle.prints.specs.Quiet.{printed_quiet};
 ghost use Rattle.prints.specs.Trimmed.{refuses_trimming, printed_trimmed};
+ghost use Rattle.prints.specs.Strays.{said_of_strays};
 ghost use Rattle.printlaws.specs.ByAccount.{accounted_lines, listed_scripts};
 ghost use Rattle.printlaws.specs.Columns.{Answers};
 ghost use Rattle.printlaws.specs.ByRack.{InColumns};
@@ -30,7 +31,7 @@ ghost use Rattle.printlaws.specs.RackTexts.{rack_texts};
 ghost use Rattle.printlaws.specs.Capture.{a_capture, clean_script, said_of_its_lines, a_fit_capture};
 ghost use Rattle.printlaws.specs.Words.{accounted_words};
 ghost use Rattle.printlaws.specs.QuietTexts.{quiet_texts};
-ghost use Rattle.printlaws.specs.Trimmed.{TextKept, SaysEvents, a_script};
+ghost use Rattle.printlaws.specs.Trimmed.{TextKept, SaysEvents, a_script, stray_texts};
 
 /// Of a text of at most 4,096 bytes the program prints the lines that the account of the text's history has, from a power-up with every line
 /// high: asked for an 8255A those of the older edition, for an 82C55A those of the newer, and for an 8355 those of the 8355. Of nine scripts for
@@ -110,8 +111,9 @@ pub fn explanations_say_what_the_account_says()
 
 /// Asked to trim a text of at most 4,096 bytes, each line of which says an event, the program prints exactly the lines after which the chip is another
 /// than before, in their order and byte for byte as they stand. The chip is one of the older edition at its power-up, with every line high. If a line says
-/// no event, 01 and LF are printed, and of a longer text 06 and LF. Of one script of twelve lines it prints what is listed beside it.
-#[tactic(auto, using(crate::proofs::Trimmed::kept_printed, crate::proofs::Trimmed::one_refused, crate::proofs::Trimmed::all_refused, crate::proofs::TrimmedText::trimmed_as_listed, crate::proofs::TrimmedText::twelve_lines))]
+/// no event, 01 and LF are printed, and of a longer text 06 and LF. Of one script of twelve lines it prints what is listed beside it; and of three
+/// with lines that say no event it says on standard error what is listed beside them.
+#[tactic(auto, using(crate::proofs::Trimmed::kept_printed, crate::proofs::Trimmed::one_refused, crate::proofs::Trimmed::all_refused, crate::proofs::TrimmedText::trimmed_as_listed, crate::proofs::TrimmedText::twelve_lines, crate::proofs::TrimmedText::strays_as_listed))]
 pub fn trims_print_the_lines_that_change_the_chip()
     ensures kept { (text : List ℕ)
         → length text ≤ 4096 → SaysEvents text → TextKept text (printed_trimmed text) }
@@ -121,6 +123,8 @@ pub fn trims_print_the_lines_that_change_the_chip()
         → 4096 < length text → printed_trimmed text ≡ long_text_refused }
     ensures script { printed_trimmed (codes a_script.script) ≡ codes a_script.answers }
     ensures twelve { length (lines_of (codes a_script.script)) ≡ 12 }
+    ensures strays { answered said_of_strays stray_texts ≡ listed stray_texts }
+    ensures three { length stray_texts ≡ 3 }
 {}
 
 /// Of thirteen scripts of racks the program prints what is listed beside them: two cards that differ in what they show, lines with an operand too

@@ -3,3 +3,4 @@ pub mod Mended
 pub mod Left
 pub mod Quiet
 pub mod Trimmed
+pub mod Strays
