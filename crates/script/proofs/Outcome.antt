@@ -1,28 +1,14 @@
--- A run as a whole: what it leaves, and an empty text.
--- Rests on text's LineCount, on Numbers and on Pieces.
-use Rattle.std.proofs.Common.{◌≡◌, ◌∙◌, sym, List, [], ℕ, ◌*◌, ◌≤◌, mul-zero, arith, length, drop, drop_at, le-ltb, ne_eqb}
+-- A run as a whole: of an empty text, and the room that the answers take.
+-- Rests on text's LineCount and on Numbers.
+use Rattle.std.proofs.Common.{◌≡◌, ◌∙◌, sym, List, [], ℕ, ◌*◌, ◌≤◌, mul-zero, arith, length, le-ltb}
 use Rattle.std.proofs.Math.Nat.{mul-le-mul_left}
 use Rattle.text.specs.Lines.{lines_of, line_count}
 use Rattle.text.proofs.LineCount.{lines_at_most}
-use Rattle.script.specs.Answers.{Answerer, answers_of, answers_from}
+use Rattle.script.specs.Answers.{Answerer, answers_from}
 use Rattle.script.specs.Run.{longest_script, room_for, run_number, Ran, ran_of, width_of, output_left, subject_left}
 use Rattle.script.proofs.Numbers.{number_given, has_room_lem}
-use Rattle.script.proofs.Pieces.{answers_length}
 
 module _ {S : Type 0} (a : Answerer S) (s : S) where
-  module _ (text out : List ℕ) where
-    -- A refused run leaves every byte of the output, and the state.
-    pub refused_leaves : ¬ (run_number (width_of a s) text (length out) ≡ 0)
-        → (output_left a s text out ≡ out) × (subject_left a s text (length out) ≡ s)
-    refused_leaves h = (rw (ne_eqb _ _ h), rw (ne_eqb _ _ h))
-
-    -- An accepted one leaves every byte behind its answers.
-    pub behind_stays : run_number (width_of a s) text (length out) ≡ 0
-        → drop (room_for (width_of a s) text) (output_left a s text out) ≡ drop (room_for (width_of a s) text) out
-    behind_stays e =
-        rw (e)
-        (drop_at (answers_of a s text) (drop (room_for (width_of a s) text) out) (room_for (width_of a s) text) (answers_length a s text))
-
   -- An empty text has no lines, is accepted whatever the room, and leaves the output and the state.
   pub empty_text : (out : List ℕ)
       → (ran_of (width_of a s) [] (length out) ≡ record { number = 0; lines = 0 })
