@@ -2,10 +2,10 @@
 -- "The 82C55A", "The 8355 ports").
 use Rattle.std.specs.Prelude.{List, ℕ}
 use Rattle.bus.specs.Event.{Event}
-use Rattle.chip.specs.declared.Levels.{Levels}
 use Rattle.chip.specs.declared.Edition.TheVariants.{Older, Newer}
 use Rattle.text.specs.Quoted.{Text}
 use Rattle.account.specs.Account.{opened}
+use Rattle.account.specs.AtPowerUp.{lines_high}
 use Rattle.account.specs.Script.{lines_by}
 use Rattle.account.specs.Texts.{texts}
 use Rattle.laws8355.specs.Account as account8355
@@ -13,15 +13,11 @@ use Rattle.laws8355.specs.Script as script8355
 use Rattle.prints.specs.declared.Device.{Device}
 use Rattle.prints.specs.declared.Device.TheVariants.{I8255A, I82C55A, I8355}
 
--- Every line of the three ports is high.
-abbrev pub every_line_high : Levels
-every_line_high = record { a = 0xff; b = 0xff; c = 0xff }
-
--- The answer lines of a history, by the account: of the older edition and of the newer, from a power-up under these levels, and of the 8355, whose
--- lines are high at power-up.
+-- The answer lines of a history, by the account: of the older edition and of the newer, from a power-up with every line high, and of the 8355, whose
+-- lines are high at power-up too.
 abbrev pub accounted_lines : Device → List Event → List ℕ
-accounted_lines I8255A es = lines_by (opened Older every_line_high) es
-accounted_lines I82C55A es = lines_by (opened Newer every_line_high) es
+accounted_lines I8255A es = lines_by (opened Older lines_high) es
+accounted_lines I82C55A es = lines_by (opened Newer lines_high) es
 accounted_lines I8355 es = script8355.lines_by account8355.opened es
 
 -- Scripts, with the answers that are listed beside them: for each edition the whole case and eight others, and for the 8355 four.

@@ -8,7 +8,7 @@ use Rattle.chip.specs.Step.{stepped}
 use Rattle.text.specs.Lines.{Line, ended, lines_of}
 use Rattle.text.specs.Quoted.{Text, ◌gives◌}
 use Rattle.mendlaws.specs.Says.{Says, AllSay}
-use Rattle.printlaws.specs.ByAccount.{every_line_high}
+use Rattle.account.specs.AtPowerUp.{lines_high}
 
 -- What is printed of some lines that a chip meets, each of which says an event: of those after which the chip is another than before, in their order,
 -- the bytes as they stand and LF; and nothing of the others.
@@ -21,7 +21,7 @@ pub data KeptLines : Chip → List Line → List ℕ → Type 0 where
 
 -- The lines of a text, met by a chip of the older edition at its power-up, with every line high.
 abbrev pub TextKept : List ℕ → List ℕ → Type 0
-TextKept text printed = KeptLines (power_up_as Older every_line_high) (lines_of text) printed
+TextKept text printed = KeptLines (power_up_as Older lines_high) (lines_of text) printed
 
 -- Each line of a text says an event.
 abbrev pub SaysEvents : List ℕ → Type 0

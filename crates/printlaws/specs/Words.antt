@@ -10,9 +10,9 @@ use Rattle.text.specs.Quoted.{codes}
 use Rattle.fates.specs.Kinds.{kind_of}
 use Rattle.account.specs.Acts.{number_by}
 use Rattle.account.specs.Account.{Account, account_next, opened}
+use Rattle.account.specs.AtPowerUp.{lines_high}
 use Rattle.account.specs.Promise.{over}
 use Rattle.account.specs.Reasons.{explained}
-use Rattle.printlaws.specs.ByAccount.{every_line_high}
 
 -- A row of the table: what the account says of a half, by its number, and the words for it, of an input and of an output.
 pub record Row : Type 0 where
@@ -64,4 +64,4 @@ said_after a es = lines_of_group "A" (explained (over a es) 0) ++ lines_of_group
 
 -- From a power-up of the older edition with every line high.
 abbrev pub accounted_words : List Event → List ℕ
-accounted_words es = said_after (opened Older every_line_high) es
+accounted_words es = said_after (opened Older lines_high) es
