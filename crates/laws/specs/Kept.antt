@@ -9,6 +9,7 @@ use Rattle.chip.specs.declared.Chip.{Chip}
 use Rattle.chip.specs.State.{channel_of}
 use Rattle.chip.specs.Handshakes.{line_pin}
 use Rattle.chip.specs.Levels.{fallen}
+use Rattle.chip.specs.Step.{step_of}
 use Rattle.laws.specs.Seen.{makes_anew}
 
 -- Condition and tallies as they were. The latch may change: levels go through to an input's, and a mode 0 write changes an output's.
@@ -19,6 +20,14 @@ pub record Kept (before after : Channel) : Type 0 where
 -- The same of a channel of a chip, before an event and after it.
 abbrev pub Keeps : Chip → Group → Side → Chip → Type 0
 Keeps before g s after = Kept (channel_of before.core g s) (channel_of after.core g s)
+
+-- Levels d on port x leave a channel's condition and tallies.
+abbrev pub KeptByLevels : Chip → Group → Side → ℕ → ℕ → Type 0
+KeptByLevels c g s x d = Keeps c g s (step_of c 5 x d).chip
+
+-- An event of kind k leaves them.
+abbrev pub KeptByEvent : Chip → Group → Side → ℕ → ℕ → ℕ → Type 0
+KeptByEvent c g s k x d = Keeps c g s (step_of c k x d).chip
 
 -- Levels d on port x lower the line of a channel, STB or ACK: they come onto port C, and this line was high outside and is low in them.
 abbrev pub lets_fall : Chip → Group → Side → ℕ → ℕ → Bool

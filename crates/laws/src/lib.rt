@@ -38,9 +38,9 @@ ghost use Rattle.laws.specs.Ports.{Gives, Takes, PortWritten, GivesAndTakes};
 ghost use Rattle.laws.specs.PortC.{LinesWritten, LinesHeld, driven_by, LineShown};
 ghost use Rattle.laws.specs.OnePin.{PinPut};
 ghost use Rattle.laws.specs.Forcing.{Forced};
-ghost use Rattle.laws.specs.Enables.{moves_enables};
+ghost use Rattle.laws.specs.Enables.{moves_enables, EnablesStay};
 ghost use Rattle.laws.specs.Loads.{LatchLoads, LatchStays};
-ghost use Rattle.laws.specs.Kept.{Keeps, lets_fall, reaches_all};
+ghost use Rattle.laws.specs.Kept.{KeptByLevels, KeptByEvent, lets_fall, reaches_all};
 ghost use Rattle.laws.specs.Flags.{ibf, IbfMoves, ObfMoves};
 ghost use Rattle.laws.specs.Halves.{half, IntrInMode1, IntrInMode2, HalfAfter, IntrAfter};
 ghost use Rattle.laws.specs.Quiet.{TrueOfGroup, intr_seen, earlier, later};
@@ -160,7 +160,7 @@ pub fn forced_flags_are_shown_and_counted()
 
 /// No event moves an enable but a reset and the end of a write to control.
 pub fn enables_move_by_control_words()
-    ensures { (c : Chip) (k x d : ℕ) → moves_enables c.phase k ≡ false → (step_of c k x d).chip.core.inte ≡ c.core.inte }
+    ensures { (c : Chip) (k x d : ℕ) → moves_enables c.phase k ≡ false → EnablesStay c k x d }
 {}
 
 /// A strobed port reads as the levels that came last while its STB was low, be it in a read or in mode 2, and the fall of STB brings in what
@@ -172,14 +172,14 @@ pub fn input_latches_load_while_stb_is_low()
 
 /// Levels that do not lower a channel's STB or ACK leave its condition and its tallies. No levels change an output's latch.
 pub fn levels_move_a_channel_only_by_a_fall()
-    ensures kept { (c : Chip) (g : Group) (s : Side) (x d : ℕ) → lets_fall c g s x d ≡ false → Keeps c g s (step_of c 5 x d).chip }
+    ensures kept { (c : Chip) (g : Group) (s : Side) (x d : ℕ) → lets_fall c g s x d ≡ false → KeptByLevels c g s x d }
     ensures output_latch { (c : Chip) (g : Group) (x d : ℕ) → (channel_of (step_of c 5 x d).chip.core g Output).latch ≡ (channel_of c.core g Output).latch }
 {}
 
 /// A channel without a handshake takes no part in edges and cycles: it keeps its condition and its tallies through every event but a reset and
 /// the end of a mode word's write.
 pub fn channels_without_a_handshake_stay()
-    ensures { (c : Chip) (g : Group) (s : Side) (k x d : ℕ) → strobed c.core.word g s ≡ false → reaches_all c.phase k ≡ false → Keeps c g s (step_of c k x d).chip }
+    ensures { (c : Chip) (g : Group) (s : Side) (k x d : ℕ) → strobed c.core.word g s ≡ false → reaches_all c.phase k ≡ false → KeptByEvent c g s k x d }
 {}
 
 /// IBF is set by the fall of STB and reset by the end of the read, and not by its beginning. Besides, it moves only by bit set/reset of its pin,

@@ -1,8 +1,13 @@
 -- What a line is that says no event, and what devices make of it ("Script and program").
-use Rattle.std.specs.Prelude.{◌≡◌}
+use Rattle.std.specs.Prelude.{◌≡◌, List, ℕ}
 use Rattle.bus.specs.Event.{Event, event}
 use Rattle.bus.specs.Device.{Device}
 use Rattle.bus.specs.Begun.{given_in}
+use Rattle.mendlaws.specs.Says.{Says}
+
+-- A line, without its LF, says no event.
+abbrev pub SaysNothing : List ℕ → Type 0
+SaysNothing bytes = (e : Event) → ¬ Says bytes e
 
 -- An event of no kind: there is no kind 255.
 abbrev pub of_no_kind : Event

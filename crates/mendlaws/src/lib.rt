@@ -11,7 +11,7 @@ ghost use Rattle.mend.specs.declared.Mended.{Mended as Lengths};
 ghost use Rattle.mend.specs.declared.MendRefusal.{MendRefusal};
 ghost use Rattle.mend.specs.Mend.{mend_told, outcome_of};
 ghost use Rattle.mendlaws.specs.Says.{Says, SaysAnEvent};
-ghost use Rattle.mendlaws.specs.Others.{of_no_kind, RefusesWith1};
+ghost use Rattle.mendlaws.specs.Others.{SaysNothing, of_no_kind, RefusesWith1};
 ghost use Rattle.mendlaws.specs.Becomes.{AllBecome, BecomeOneThing};
 ghost use Rattle.mendlaws.specs.Steps.{MeansTheSame};
 ghost use Rattle.mendlaws.specs.Reasons.{HasItsReason, unfit_lines, reasons_of, reasons_beside};
@@ -34,7 +34,7 @@ pub fn frames_say_events()
 /// state, refuses that event with 1: it answers 00, and stays as it was.
 pub fn other_lines_are_of_no_kind<S, R>()
     ensures line { (bytes : List ℕ)
-        → ¬ SaysAnEvent bytes → event_of (frame_in (ended bytes)) ≡ of_no_kind }
+        → SaysNothing bytes → event_of (frame_in (ended bytes)) ≡ of_no_kind }
     ensures rest { (bytes : List ℕ) → event_of (frame_in (rest bytes)) ≡ of_no_kind }
     ensures refused { (dev : Device S R) (s : S) → RefusesWith1 dev s of_no_kind }
 {}

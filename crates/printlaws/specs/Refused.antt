@@ -1,6 +1,15 @@
 -- What is printed of a text that is refused as a whole ("Script and program", "A rack of cards", "Mending captured scripts").
-use Rattle.std.specs.Prelude.{◌≡◌, ◌⊎◌, List, [], ◌∷◌, ℕ}
+use Rattle.std.specs.Prelude.{◌≡◌, ◌⊎◌, List, [], ◌∷◌, ℕ, ◌<◌, ◌≤◌, length}
 use Rattle.text.specs.Quoted.{codes}
+use Rattle.racklaws.specs.NamesRack.{NamesRack}
+
+-- A text is longer than a script may be.
+abbrev pub IsLong : List ℕ → Type 0
+IsLong text = 4096 < length text
+
+-- It is not, and its first line is no rack.
+abbrev pub LacksRack : List ℕ → Type 0
+LacksRack text = (length text ≤ 4096) × (¬ NamesRack text)
 
 -- Of a text that is longer than a script may be: 06 and LF.
 abbrev pub long_text_refused : List ℕ

@@ -25,7 +25,7 @@ ghost use Rattle.prints.specs.Strays.{said_of_strays};
 ghost use Rattle.printlaws.specs.ByAccount.{accounted_lines, listed_scripts};
 ghost use Rattle.printlaws.specs.Columns.{Answers};
 ghost use Rattle.printlaws.specs.ByRack.{InColumns};
-ghost use Rattle.printlaws.specs.Refused.{long_text_refused, first_line_refused, capture_refused, line_refused, long_text_unexplained, length_of_a_number, IsEither};
+ghost use Rattle.printlaws.specs.Refused.{IsLong, LacksRack, long_text_refused, first_line_refused, capture_refused, line_refused, long_text_unexplained, length_of_a_number, IsEither};
 ghost use Rattle.printlaws.specs.Explained.{explained_at_first};
 ghost use Rattle.printlaws.specs.RackTexts.{rack_texts};
 ghost use Rattle.printlaws.specs.Capture.{a_capture, clean_script, said_of_its_lines, a_fit_capture};
@@ -57,14 +57,14 @@ pub fn rack_scripts_print_columns()
 /// Of a text of at most 4,096 bytes whose first line is no rack the program prints 09 and LF, and nothing else.
 #[tactic(auto, using(crate::proofs::NamesRack::others_print_09))]
 pub fn other_first_lines_print_09()
-    ensures { (text : List ℕ) → length text ≤ 4096 → ¬ NamesRack text → printed_of_rack text ≡ first_line_refused }
+    ensures { (text : List ℕ) → LacksRack text → printed_of_rack text ≡ first_line_refused }
 {}
 
 /// Of a text of more than 4,096 bytes the program prints 06 and LF, and nothing else, whichever device it is asked for, and of a rack's too.
 #[tactic(auto, using(crate::proofs::LongTexts::by_device, crate::proofs::LongTexts::by_rack))]
 pub fn long_texts_print_06()
-    ensures device { (device : Device) (text : List ℕ) → 4096 < length text → printed device text ≡ long_text_refused }
-    ensures rack { (text : List ℕ) → 4096 < length text → printed_of_rack text ≡ long_text_refused }
+    ensures device { (device : Device) (text : List ℕ) → IsLong text → printed device text ≡ long_text_refused }
+    ensures rack { (text : List ℕ) → IsLong text → printed_of_rack text ≡ long_text_refused }
 {}
 
 /// A text is refused as a whole, which makes the program fail, exactly if three bytes are printed of it, as many as a number alone has, two

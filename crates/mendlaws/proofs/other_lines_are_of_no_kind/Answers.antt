@@ -7,17 +7,16 @@ use Rattle.bus.proofs.Numbering.{no_kind_refused}
 use Rattle.text.specs.Lines.{ended, rest}
 use Rattle.text.specs.Frames.{is_frame, frame_of, frame_in}
 use Rattle.text.specs.History.{event_of}
-use Rattle.mendlaws.specs.Says.{SaysAnEvent}
-use Rattle.mendlaws.specs.Others.{of_no_kind, RefusesWith1}
+use Rattle.mendlaws.specs.Others.{SaysNothing, of_no_kind, RefusesWith1}
 use Rattle.mendlaws.proofs.OneLine.{frame_exactly}
 use Rattle.mendlaws.proofs.other_lines_are_of_no_kind.Goals as goal
 
-said_by_another : (bytes : List ℕ) → ¬ SaysAnEvent bytes → event_of (frame_in (ended bytes)) ≡ of_no_kind
+said_by_another : (bytes : List ℕ) → SaysNothing bytes → event_of (frame_in (ended bytes)) ≡ of_no_kind
 unfolding frame_of frame_in
 said_by_another bytes none = go (is_frame bytes) refl
   where
     go : (t : Bool) → is_frame bytes ≡ t → event_of (frame_in (ended bytes)) ≡ of_no_kind
-    go true is = absurd (none ((frame_exactly bytes).0 is))
+    go true is = let says = (frame_exactly bytes).0 is in absurd (none says.0 says.1)
     go false other = rw (other) refl
 
 said_by_a_rest : (bytes : List ℕ) → event_of (frame_in (rest bytes)) ≡ of_no_kind
