@@ -11,6 +11,7 @@ use Rattle.chip.specs.declared.Enables.{Enables}
 use Rattle.chip.specs.declared.Edition.{Edition}
 use Rattle.chip.specs.declared.Edition.TheVariants.{Older, Newer}
 use Rattle.chip.specs.declared.Chip.{Chip}
+use Rattle.restored.specs.Having.{HasImage}
 
 -- The byte at a place.
 abbrev pub byte : List ℕ → ℕ → ℕ
@@ -80,3 +81,7 @@ pub record Tells (l : List ℕ) (c : Chip) : Type 0 where
   pub edition : edition_number c.edition ≡ byte l 72
   -- What is not used, 73 to 95, is 0.
   pub unused : drop 73 l ≡ replicate 23 0
+
+-- Bytes tell some chip that has an image.
+abbrev pub TellsSome : List ℕ → Type 0
+TellsSome l = (c : Chip) × HasImage c × Tells l c

@@ -25,7 +25,7 @@ ghost use Rattle.restored.specs.Host.{image_after, number_and_byte, Holds, ByDef
 ghost use Rattle.restored.specs.Answers.{HostDisciplined, HostKept, ImageKept};
 ghost use Rattle.restored.specs.Refusals.{RefusedBytes, NoImage, AcceptedBytes, PowersUp, Converts};
 ghost use Rattle.restored.specs.Having.{HasImage, InRange, ComesFromBytes};
-ghost use Rattle.restored.specs.Table.{Tells};
+ghost use Rattle.restored.specs.Table.{Tells, TellsSome};
 ghost use Rattle.restored.specs.Restoring.{IsImageOf, SavedOfNone, TellsNone, LoadsAsTold};
 ghost use Rattle.restored.specs.OlderBytes.{OlderTells, Converted};
 ghost use Rattle.restored.specs.SavedOlder.{five_saved, Becomes};
@@ -78,7 +78,7 @@ pub fn reached_chips_come_back()
 /// Bytes are an image exactly where they tell, place by place, a chip that has one: 96 bytes, of which those that are not used are 0. That chip
 /// is the one that is restored from them. A chip that has an image is saved as bytes that tell it.
 pub fn images_tell_chips_place_by_place()
-    ensures image { (l : List ℕ) → Bytes l → (is_image l ≡ true) ↔ ((c : Chip) × HasImage c × Tells l c) }
+    ensures image { (l : List ℕ) → Bytes l → (is_image l ≡ true) ↔ TellsSome l }
     ensures restored { (l : List ℕ) (c : Chip) → Bytes l → HasImage c → Tells l c → state_of l ≡ c }
     ensures saved { (c : Chip) → HasImage c → Tells (image_of c) c }
 {}
