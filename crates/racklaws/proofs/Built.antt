@@ -1,4 +1,4 @@
--- A rack that was built: its bases, its cards at power-up, and for which places there is a card after any history.
+-- For which places there is a card after any history; and a rack that was built: its bases, and its cards at power-up.
 -- Rests on Followed and Projected.
 use Rattle.std.proofs.Common.{◌≡◌, refl, ap, ◌∙◌, List, ℕ, ◌<◌, ◌≤◌, ◌-◌, arith, length, replicate, length-append, take_all, ltb}
 use lib.ListN.{length-replicate, get_or-replicate}
@@ -15,6 +15,11 @@ use Rattle.racklaws.specs.Whom.{RackEvent}
 use Rattle.racklaws.specs.Promise.{rack_run, bases_of, Whole}
 use Rattle.racklaws.proofs.Followed.{placed}
 use Rattle.racklaws.proofs.Projected.{whole_over, bases_over}
+
+-- Of any rack: a history leaves the places that have a card, those of the bases.
+pub places_over : (r : Rack) → Whole r → (es : List RackEvent) (i : ℕ) → is_place (rack_run r es).count i ≡ ltb i (length (bases_of r))
+places_over r whole es i =
+    placed (rack_run r es).count (rack_run r es).bases (whole_over r whole es).bases i ∙ ap (λ (l : List ℕ). ltb i (length l)) (bases_over r whole es)
 
 -- A rack that was built has eight places, the bases that it was built with, and in each place a chip at power-up.
 module _ (bs : List ℕ) (few : length bs ≤ most_cards) where

@@ -1,6 +1,6 @@
 -- What is promised of each card of a rack, by what is promised of a chip alone.
 -- Rests on Followed, Projected and Built, on the fates' EveryByte, Discipline and Unforced, and on the account's Account.
-use Rattle.std.proofs.Common.{◌≡◌, refl, sym, ap, ◌∙◌, true, List, ℕ, ◌<◌, ◌≤◌, arith, length, ltb, lt-ltb, ne_eqb, Option, Some, None, ok_or}
+use Rattle.std.proofs.Common.{◌≡◌, refl, sym, ◌∙◌, true, List, ℕ, ◌<◌, ◌≤◌, arith, length, lt-ltb, ne_eqb, Option, Some, None, ok_or}
 use Rattle.std.specs.Result.{result_ok}
 use Rattle.chip.specs.State.{all_low, power_up}
 use Rattle.chip.specs.declared.Chip.{Chip}
@@ -18,10 +18,10 @@ use Rattle.fates.proofs.Discipline.{disciplined_from, disciplined}
 use Rattle.fates.proofs.Unforced.{unforced_from, unforced}
 use Rattle.account.proofs.Account.{account_from, account}
 use Rattle.racklaws.specs.Whom.{RackEvent, free, events_for}
-use Rattle.racklaws.specs.Promise.{rack_run, bases_of, events_in, number_of_view, Whole, AsAlone, AsAloneFrom}
+use Rattle.racklaws.specs.Promise.{rack_run, events_in, number_of_view, Whole, AsAlone, AsAloneFrom}
 use Rattle.racklaws.proofs.Followed.{placed}
-use Rattle.racklaws.proofs.Projected.{whole_over, bases_over, card_over}
-use Rattle.racklaws.proofs.Built.{built_whole, built_bases, built_chip, placed_after}
+use Rattle.racklaws.proofs.Projected.{card_over}
+use Rattle.racklaws.proofs.Built.{places_over, built_whole, built_bases, built_chip, placed_after}
 
 -- What is answered of a number is what the chip says, and above 1, where it says nothing, that is refused with 2.
 answer_back : (said : Option Explained) → result_ok (ok_or said NoSuchGroup) ≡ said
@@ -65,11 +65,6 @@ module _ (bs : List ℕ) (few : length bs ≤ most_cards) (es : List RackEvent) 
     unforced = λ g s. unforced g s card_edition all_low (events_for i bs free es);
     account = account card_edition all_low (events_for i bs free es);
   }
-
--- Of any rack: a history leaves the places that have a card, those of the bases.
-pub places_over : (r : Rack) → Whole r → (es : List RackEvent) (i : ℕ) → is_place (rack_run r es).count i ≡ ltb i (length (bases_of r))
-places_over r whole es i =
-    placed (rack_run r es).count (rack_run r es).bases (whole_over r whole es).bases i ∙ ap (λ (l : List ℕ). ltb i (length l)) (bases_over r whole es)
 
 -- The card at a place of any rack.
 module _ (r : Rack) (whole : Whole r) (es : List RackEvent) (i : ℕ) (h : i < most_cards) where

@@ -147,6 +147,11 @@ pub record AsAloneFrom (r : Rack) (es : List RackEvent) (i : ℕ) (c : Chip) (ev
       → NoneForced (new_bytes g s c events) (old_byte g s c events ++ new_bytes g s c events)
   pub account : Accounted c (account_of c) events
 
+-- A rack that was built has its bases in their order, and in each place a chip at power-up.
+pub record AsBuilt (bs : List ℕ) : Type 0 where
+  pub bases : bases_of (rack_of bs) ≡ bs
+  pub cards : (i : ℕ) → i < most_cards → chip_at (rack_of bs) i ≡ power_up
+
 -- Where there is no card, every view is refused with 10, of whatever port, channel or group, and whatever number a group is asked for by.
 pub record NoneThere (r : Rack) (i : ℕ) : Type 0 where
   pub card : number_of_view (card_of r i) ≡ 10

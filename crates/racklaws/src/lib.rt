@@ -7,7 +7,6 @@ ghost use Rattle.bus.specs.Refusals.{limits_of};
 ghost use Rattle.bus.specs.Answers.{number_told};
 ghost use Rattle.bus.specs.Device.{run_in};
 ghost use Rattle.bus.specs.Facts.{Facts};
-ghost use Rattle.chip.specs.State.{power_up};
 ghost use Rattle.text.specs.Lines.{ended, rest};
 ghost use Rattle.rack.specs.declared.Rack.{Rack};
 ghost use Rattle.rack.specs.Bases.{most_cards};
@@ -16,7 +15,7 @@ ghost use Rattle.rack.specs.State.{chip_at, rack_of, built_of};
 ghost use Rattle.rack.specs.Step.{device};
 ghost use Rattle.script.specs.declared.racks.TheConstants.{MOST_ROOM};
 ghost use Rattle.racklaws.specs.Whom.{RackEvent, Access, access_of, seek, free, taken_by, card, bus_next, events_for};
-ghost use Rattle.racklaws.specs.Promise.{rack_stepped, rack_run, bus_of, bases_of, whom_in, events_in, Whole, Follows, ChangesNothing, GoesOn, AsAlone, AsAloneFrom, NoneFrom};
+ghost use Rattle.racklaws.specs.Promise.{rack_stepped, rack_run, bus_of, bases_of, whom_in, events_in, Whole, Follows, ChangesNothing, GoesOn, AsAlone, AsAloneFrom, AsBuilt, NoneFrom};
 ghost use Rattle.racklaws.specs.Bases.{GoodBases, Located};
 ghost use Rattle.racklaws.specs.Says.{Says, SaysAnEvent};
 ghost use Rattle.racklaws.specs.Taken.{ReadAs, TakenAs, RefusesLine};
@@ -68,8 +67,7 @@ pub fn good_bases_alone_make_a_rack()
     ensures others { (bs : List ℕ) → ¬ GoodBases bs → built_of bs ≡ Err (record {}) }
     ensures accepted { (bs : List ℕ) → GoodBases bs → number_told bad_rack_told (built_of bs) ≡ 0 }
     ensures refused { (bs : List ℕ) → ¬ GoodBases bs → number_told bad_rack_told (built_of bs) ≡ 9 }
-    ensures bases { (bs : List ℕ) → length bs ≤ most_cards → bases_of (rack_of bs) ≡ bs }
-    ensures power_up { (bs : List ℕ) → length bs ≤ most_cards → (i : ℕ) → i < most_cards → chip_at (rack_of bs) i ≡ power_up }
+    ensures built { (bs : List ℕ) → length bs ≤ most_cards → AsBuilt bs }
 {}
 
 /// A rack has no card at the places from the count of its bases on. There each view is refused with 10, after any history, and an explanation is,

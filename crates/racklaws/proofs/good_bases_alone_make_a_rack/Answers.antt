@@ -13,6 +13,5 @@ returns c = record {
   others = built_bad;
   accepted = λ bs good. ap (number_told bad_rack_told) (built_good bs good);
   refused = λ bs bad. ap (number_told bad_rack_told) (built_bad bs bad);
-  bases = built_bases;
-  power_up = built_chip;
+  built = λ bs few. record { bases = built_bases bs few; cards = built_chip bs few };
 }

@@ -1,12 +1,11 @@
 -- Where there is no card, every view is refused with 10.
--- Rests on Built and Cards.
+-- Rests on Built.
 use Rattle.std.proofs.Common.{◌≡◌, ◌∙◌, false, ℕ, le-ltb, length}
 use Rattle.rack.specs.declared.Rack.{Rack}
 use Rattle.rack.specs.Targets.{is_place}
 use Rattle.rack.specs.Views.{card_of, card_pins, card_tally, card_explained, card_explained_numbered}
 use Rattle.racklaws.specs.Promise.{NoneThere}
-use Rattle.racklaws.proofs.Built.{placed_after}
-use Rattle.racklaws.proofs.Cards.{places_over}
+use Rattle.racklaws.proofs.Built.{places_over, placed_after}
 use Rattle.racklaws.proofs.places_without_a_card_show_nothing.Goals as goal
 
 none_there : (r : Rack) (i : ℕ) → is_place r.count i ≡ false → NoneThere r i
