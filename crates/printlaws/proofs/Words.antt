@@ -68,9 +68,6 @@ output_same B LineLow = refl
 output_same B OwnCycle = refl
 output_same B High = refl
 
-no_input : (g : Group) → input_line (letter g) 0 table ≡ []
-no_input g = refl
-
 -- No reason has the number of mode 0.
 other_number : (r : Reason) → eqb (reason_number r) 1 ≡ false
 other_number EnableOff = refl

@@ -1,5 +1,5 @@
--- What a caller of a run can count on: the answers have as many bytes as it says, lie within the output, and leave what stands behind
--- them; and with enough room no text is refused for want of it.
+-- What a caller of a run can count on: the answers have as many bytes as it says, and leave what stands behind them; and with enough room no
+-- text is refused for want of it.
 -- Rests on Pieces and RackRoom.
 use Rattle.std.proofs.Common.{◌≡◌, refl, Bool, true, false, cond, not, List, ℕ, ◌≤◌, arith, ltb, length, drop, drop_at, ltb-true, ltb-false}
 use Rattle.rack.specs.declared.Rack.{Rack}
@@ -9,7 +9,7 @@ use Rattle.script.specs.Run.{longest_script, too_long, too_long_number, no_room_
 use Rattle.script.proofs.Pieces.{width_each}
 use Rattle.text.specs.Lines.{Line}
 use Rattle.script.specs.RackAnswers.{answering}
-use Rattle.script.specs.RackRun.{names_rack, rack_named, to_answer, room_for, room_for_text, run_number, Ran, ran_by, ran_of, output_left}
+use Rattle.script.specs.RackRun.{names_rack, rack_named, to_answer, room_for, room_for_text, run_number, output_left}
 use Rattle.script.proofs.RackRoom.{most_room, most_room_lem}
 
 -- One width to a line.
@@ -26,17 +26,6 @@ behind_stays text out e =
 -- The number of a run by its three tests.
 abbrev first_of : Bool → Bool → Bool → ℕ
 first_of long rack short = cond long too_long_number (cond (not rack) bad_rack_number (cond short no_room_number 0))
-
--- What a run says that it wrote lies within the output.
-pub answers_fit : (text : List ℕ) (room : ℕ) (r : Ran) → r ≡ ran_of text room → r.length ≤ room
-unfolding run_number
-answers_fit text room r is = rw (is) (go (too_long text) (names_rack text) (ltb room (room_for_text text)) refl)
-  where
-    go : (long rack short : Bool) → ltb room (room_for_text text) ≡ short → (ran_by (first_of long rack short) text).length ≤ room
-    go true rack short e = omega arith
-    go false false short e = omega arith
-    go false true true e = omega arith
-    go false true false e = ltb-false room (room_for_text text) e
 
 -- Where there is room enough for any script no text is refused with 7.
 pub room_enough : (text : List ℕ) (room : ℕ) → most_room ≤ room → ¬ (run_number text room ≡ no_room_number)

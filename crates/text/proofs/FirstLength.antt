@@ -1,19 +1,10 @@
--- How long the first line is: never longer than the text, and as long as there is no LF before.
+-- How long the first line is: as long as there is no LF before.
 -- Rests on nothing.
-use Rattle.std.proofs.Common.{◌≡◌, ◌∙◌, refl, ap, Bool, true, false, cond, List, [], ◌∷◌, ℕ, suc, ◌+◌, ◌<◌, ◌≤◌, arith, eqb, length, get_or}
+use Rattle.std.proofs.Common.{◌≡◌, ◌∙◌, refl, ap, true, false, cond, List, ◌∷◌, ℕ, suc, ◌+◌, ◌<◌, ◌≤◌, arith, eqb, length, get_or}
 use Rattle.std.proofs.lemmas.List.Recursion.{is_position_or_len}
 use Rattle.std.proofs.lemmas.List.Sums.{position_or_len_is}
 use Rattle.text.specs.Lines.{lf}
 use Rattle.text.specs.LineEnds.{first_length}
-
-pub no_longer : (text : List ℕ) → first_length text ≤ length text
-unfolding first_length
-no_longer [] = omega arith
-no_longer (b ∷ text) = go (eqb b lf) (no_longer text)
-  where
-    go : (t : Bool) → first_length text ≤ length text → cond t 0 (suc (first_length text)) ≤ suc (length text)
-    go true h = omega arith
-    go false h = omega arith
 
 -- The first line ends at the first LF, or where the text does.
 pub first_length_is : (text : List ℕ) (end : ℕ) → end ≤ length text → ((k : ℕ) → k < end → eqb (get_or text k 0) lf ≡ false)

@@ -6,6 +6,5 @@ pub mod FirstLength
 pub mod FirstLine
 pub mod LineCount
 pub mod Pieces
-pub mod Turn
 pub mod Quoted
 pub mod WrittenBack

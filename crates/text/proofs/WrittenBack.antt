@@ -1,5 +1,5 @@
 -- Every line that is a frame is the event that it says, written out: two lines that say the same are the same.
--- Rests on bits' Logic and Tested, the bus's ByKind, Leading and Written.
+-- Rests on bits' Logic and Tested, the bus's ByKind, and Leading.
 use Rattle.std.proofs.Common.{◌≡◌, ◌∙◌, refl, ap, sym, Bool, true, false, cond, ◌&&◌, List, [], ◌∷◌, ◌++◌, ℕ, zero, suc, ◌+◌, ◌*◌, ◌/◌, ◌%◌, ◌<◌, ◌≤◌, arith, eqb, ltb, length, drop, get_or, length-drop, drop_of_length-le, drop-drop, eqb-true, ltb-true, ltb-false, lt-ltb, ne_eqb}
 use Rattle.bits.proofs.Logic.{both}
 use Rattle.bits.proofs.Tested.{numbers}
@@ -7,10 +7,9 @@ use Rattle.bus.specs.Kinds.{is_kind, operands_of}
 use Rattle.bus.specs.Event.{Event, event}
 use Rattle.bus.proofs.ByKind.{by_known_kind, kind_small}
 use Rattle.text.specs.Digits.{digits, place_from, digit_value, digit_code, in_digits, no_byte, pair_value}
-use Rattle.text.specs.Frames.{Event as FrameEvent, leading_byte, kind_in, first_in, second_in, is_frame, frame_of}
+use Rattle.text.specs.Frames.{leading_byte, kind_in, first_in, second_in, is_frame}
 use Rattle.text.specs.Written.{operands_out, written_out, Exact}
 use Rattle.text.proofs.Leading.{none_left}
-use Rattle.text.proofs.Written.{kind_alone, with_one, with_two}
 
 -- Every code of a list is below a bound.
 abbrev pub all_below : ℕ → List ℕ → Bool
@@ -134,17 +133,3 @@ module _ (line : List ℕ) (is : is_frame line ≡ true) where
           ∙ ap (λ later. in_digits (first_in line) ++ later)
           (behind 4 (omega (arith, long)) parts.3 ∙ ap (λ later. in_digits (second_in line) ++ later) (none 6 (omega (arith, long)))))
       go (suc (suc (suc n))) long few = absurd (omega (arith, few))
-
--- And every event that a line can say is said by the line that it is written out as.
-pub says : (e : Event) → Exact e → frame_of (written_out e) ≡ FrameEvent e.kind e.first e.second
-unfolding written_out
-says e ok = go (operands_of e.kind) refl
-  where
-    go : (n : ℕ) → operands_of e.kind ≡ n
-        → frame_of (in_digits e.kind ++ operands_out n e.first e.second) ≡ FrameEvent e.kind e.first e.second
-    go zero n =
-        rw (ok.no_first n, ok.no_second (omega (arith, n))) (kind_alone e.kind ok.known n)
-    go (suc zero) n =
-        rw (ok.no_second (omega (arith, n))) (with_one e.kind ok.known e.first ok.first_byte n)
-    go (suc (suc zero)) n = with_two e.kind ok.known e.first e.second ok.first_byte ok.second_byte n
-    go (suc (suc (suc k))) n = absurd (omega (arith, n, few_operands e.kind ok.known))
