@@ -32,4 +32,3 @@ pub mod AcceptedRuns
 pub mod AtPowerUp
 pub mod ReadBack
 pub mod Decided
-pub mod Determined

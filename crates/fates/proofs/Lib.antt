@@ -32,4 +32,3 @@ pub mod Wherever
 pub mod Forces
 pub mod Minds
 pub mod Conditions
-pub mod Determined

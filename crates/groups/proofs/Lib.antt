@@ -25,4 +25,3 @@ pub mod Lines
 pub mod Runs
 pub mod InTheWay
 pub mod OneGroup
-pub mod Determined

@@ -11,4 +11,3 @@ pub mod SameLevels
 pub mod PlainWord
 pub mod ByEvents
 pub mod Example
-pub mod Determined

@@ -1,6 +1,6 @@
--- The contracts of the public functions of bits and chip, of the methods by which a chip is a device and a chip or a core is a holder, and of the
--- functions here, which do nothing, leave no choice: two outcomes that one allows of a call are equal. The contract of a rule that changes a
--- holder leaves none where that holds its chip whole before, since by the law of the trait there is one way to do so.
+-- The contracts of the public functions of bits and chip, and of the methods by which a chip is a device and a chip or a core is a holder, leave
+-- no choice: two outcomes that one allows of a call are equal. The contract of a rule that changes a holder leaves none where that holds its chip
+-- whole before, since by the law of the trait there is one way to do so.
 -- Rests on bits' Determined.
 use Rattle.std.proofs.Common.{refl, ap}
 use Rattle.bits.proofs.Determined.{Determines, DeterminesWhere, equation_determines, equations_determine, whole_determines}
@@ -11,8 +11,6 @@ use Rattle.chip.specs.declared.Core.{Core}
 use Rattle.chip.specs.contracts.holder.Holder.TheBound
 use Rattle.chip.specs.contracts as chip_says
 use Rattle.chip.proofs as chip
-use Rattle.laws.specs.contracts as laws_says
-use Rattle.laws.proofs as laws
 
 -- The core of a chip. Of a core by itself (`alone`) it is that core again.
 abbrev core_of : Chip → Core
@@ -249,87 +247,3 @@ chip_put_outside_c_determined c x y p q = equations_determine (refl, p.0) (refl,
 
 pub chip_put_enables_determined : Determines chip_says.holder.ChipHolder.put_enables.ended chip.holder.ChipHolder.put_enables.Reads.Learnt
 chip_put_enables_determined c x y p q = equations_determine (refl, p.0) (refl, q.0)
-
-pub events_have_their_numbers_determined : Determines laws_says.events_have_their_numbers.ended laws.events_have_their_numbers.Reads.Learnt
-events_have_their_numbers_determined c x y p q = refl
-
-pub one_event_ends_every_cycle_determined : Determines laws_says.one_event_ends_every_cycle.ended laws.one_event_ends_every_cycle.Reads.Learnt
-one_event_ends_every_cycle_determined c x y p q = refl
-
-pub cycles_nowhere_end_without_effect_determined : Determines laws_says.cycles_nowhere_end_without_effect.ended laws.cycles_nowhere_end_without_effect.Reads.Learnt
-cycles_nowhere_end_without_effect_determined c x y p q = refl
-
-pub power_ups_show_the_levels_named_determined : Determines laws_says.power_ups_show_the_levels_named.ended laws.power_ups_show_the_levels_named.Reads.Learnt
-power_ups_show_the_levels_named_determined c x y p q = refl
-
-pub mode_words_and_resets_make_the_chip_anew_determined : Determines laws_says.mode_words_and_resets_make_the_chip_anew.ended laws.mode_words_and_resets_make_the_chip_anew.Reads.Learnt
-mode_words_and_resets_make_the_chip_anew_determined c x y p q = refl
-
-pub mode_words_are_read_by_plain_bits_determined : Determines laws_says.mode_words_are_read_by_plain_bits.ended laws.mode_words_are_read_by_plain_bits.Reads.Learnt
-mode_words_are_read_by_plain_bits_determined c x y p q = refl
-
-pub the_mode_0_chart_says_what_is_driven_determined : Determines laws_says.the_mode_0_chart_says_what_is_driven.ended laws.the_mode_0_chart_says_what_is_driven.Reads.Learnt
-the_mode_0_chart_says_what_is_driven_determined c x y p q = refl
-
-pub channels_have_their_pins_determined : Determines laws_says.channels_have_their_pins.ended laws.channels_have_their_pins.Reads.Learnt
-channels_have_their_pins_determined c x y p q = refl
-
-pub ports_go_one_way_in_modes_0_and_1_determined : Determines laws_says.ports_go_one_way_in_modes_0_and_1.ended laws.ports_go_one_way_in_modes_0_and_1.Reads.Learnt
-ports_go_one_way_in_modes_0_and_1_determined c x y p q = refl
-
-pub port_a_goes_both_ways_in_mode_2_determined : Determines laws_says.port_a_goes_both_ways_in_mode_2.ended laws.port_a_goes_both_ways_in_mode_2.Reads.Learnt
-port_a_goes_both_ways_in_mode_2_determined c x y p q = refl
-
-pub port_c_goes_by_plain_bits_determined : Determines laws_says.port_c_goes_by_plain_bits.ended laws.port_c_goes_by_plain_bits.Reads.Learnt
-port_c_goes_by_plain_bits_determined c x y p q = refl
-
-pub bit_set_reset_puts_one_pin_determined : Determines laws_says.bit_set_reset_puts_one_pin.ended laws.bit_set_reset_puts_one_pin.Reads.Learnt
-bit_set_reset_puts_one_pin_determined c x y p q = refl
-
-pub forced_flags_are_shown_and_counted_determined : Determines laws_says.forced_flags_are_shown_and_counted.ended laws.forced_flags_are_shown_and_counted.Reads.Learnt
-forced_flags_are_shown_and_counted_determined c x y p q = refl
-
-pub enables_move_by_control_words_determined : Determines laws_says.enables_move_by_control_words.ended laws.enables_move_by_control_words.Reads.Learnt
-enables_move_by_control_words_determined c x y p q = refl
-
-pub input_latches_load_while_stb_is_low_determined : Determines laws_says.input_latches_load_while_stb_is_low.ended laws.input_latches_load_while_stb_is_low.Reads.Learnt
-input_latches_load_while_stb_is_low_determined c x y p q = refl
-
-pub levels_move_a_channel_only_by_a_fall_determined : Determines laws_says.levels_move_a_channel_only_by_a_fall.ended laws.levels_move_a_channel_only_by_a_fall.Reads.Learnt
-levels_move_a_channel_only_by_a_fall_determined c x y p q = refl
-
-pub channels_without_a_handshake_stay_determined : Determines laws_says.channels_without_a_handshake_stay.ended laws.channels_without_a_handshake_stay.Reads.Learnt
-channels_without_a_handshake_stay_determined c x y p q = refl
-
-pub ibf_moves_as_the_sheet_has_it_determined : Determines laws_says.ibf_moves_as_the_sheet_has_it.ended laws.ibf_moves_as_the_sheet_has_it.Reads.Learnt
-ibf_moves_as_the_sheet_has_it_determined c x y p q = refl
-
-pub obf_moves_as_the_sheet_has_it_determined : Determines laws_says.obf_moves_as_the_sheet_has_it.ended laws.obf_moves_as_the_sheet_has_it.Reads.Learnt
-obf_moves_as_the_sheet_has_it_determined c x y p q = refl
-
-pub interrupts_are_told_by_the_pins_determined : Determines laws_says.interrupts_are_told_by_the_pins.ended laws.interrupts_are_told_by_the_pins.Reads.Learnt
-interrupts_are_told_by_the_pins_determined c x y p q = refl
-
-pub cycles_drop_their_own_half_determined : Determines laws_says.cycles_drop_their_own_half.ended laws.cycles_drop_their_own_half.Reads.Learnt
-cycles_drop_their_own_half_determined c x y p q = refl
-
-pub quiet_interrupts_have_their_reason_determined : Determines laws_says.quiet_interrupts_have_their_reason.ended laws.quiet_interrupts_have_their_reason.Reads.Learnt
-quiet_interrupts_have_their_reason_determined c x y p q = refl
-
-pub editions_differ_in_the_read_of_control_determined : Determines laws_says.editions_differ_in_the_read_of_control.ended laws.editions_differ_in_the_read_of_control.Reads.Learnt
-editions_differ_in_the_read_of_control_determined c x y p q = refl
-
-pub reads_of_control_tell_the_mode_word_determined : Determines laws_says.reads_of_control_tell_the_mode_word.ended laws.reads_of_control_tell_the_mode_word.Reads.Learnt
-reads_of_control_tell_the_mode_word_determined c x y p q = refl
-
-pub errors_of_other_models_are_forbidden_determined : Determines laws_says.errors_of_other_models_are_forbidden.ended laws.errors_of_other_models_are_forbidden.Reads.Learnt
-errors_of_other_models_are_forbidden_determined c x y p q = refl
-
-pub exceptions_are_these_determined : Determines laws_says.exceptions_are_these.ended laws.exceptions_are_these.Reads.Learnt
-exceptions_are_these_determined c x y p q = refl
-
-pub marked_cases_hold_determined : Determines laws_says.marked_cases_hold.ended laws.marked_cases_hold.Reads.Learnt
-marked_cases_hold_determined c x y p q = refl
-
-pub reads_of_control_are_as_listed_determined : Determines laws_says.reads_of_control_are_as_listed.ended laws.reads_of_control_are_as_listed.Reads.Learnt
-reads_of_control_are_as_listed_determined c x y p q = refl

@@ -12,4 +12,3 @@ pub mod Stays
 pub mod Mended
 pub mod Longest
 pub mod Example
-pub mod Determined

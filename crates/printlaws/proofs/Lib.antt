@@ -14,4 +14,3 @@ pub mod Trimmed
 pub mod TrimmedText
 pub mod FailingToTrim
 pub mod FailingToExplain
-pub mod Determined

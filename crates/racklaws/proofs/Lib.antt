@@ -19,4 +19,3 @@ pub mod Running
 pub mod Numbers
 pub mod Cycles
 pub mod Examples
-pub mod Determined

@@ -19,4 +19,3 @@ pub mod Table
 pub mod Restoring
 pub mod OlderBytes
 pub mod SavedOlder
-pub mod Determined
