@@ -1,7 +1,10 @@
 # What ./build, ./run, ./test, bench/measure and scripts of tests/ have in common: where the Rattle kit has its tools, how a program that they
 # linked is run, whether something has to be built, how it is built, and how they say how far that is.
 # shellcheck shell=sh disable=SC2034
-home=$(dirname "$(dirname "$(readlink -f "$(command -v rt)")")")
+
+# The shell takes the folders off: each process that is started is a millisecond of every ./run.
+home=$(readlink -f "$(command -v rt)")
+home=${home%/*/*}
 tools=$home/toolchain
 target=x86_64-unknown-linux-gnu
 loader=$tools/lib/ld-linux-x86-64.so.2
@@ -35,15 +38,20 @@ made_of() ( # REPOSITORY CRATE..
 )
 
 # Whether a file is there and no source of the crates that it is made of is newer, nor a folder of sources, as where one was removed. What a
-# check writes, in the folders out/ of the crates, is no source.
+# check writes, in the folders out/ of the crates, is no source. One find looks at all, since every ./run waits for it.
 is_fresh() ( # REPOSITORY FILE CRATE..
     repository=$1 file=$2
     shift 2
-    [ -f "$file" ] && [ -z "$(find "$repository/crates.txt" -newer "$file")" ] || return 1
-    for crate in $(made_of "$repository" "$@"); do
-        sources=$repository/crates/$crate
-        [ -z "$(find "$sources/src" "$sources/specs" "$sources/proofs" -newer "$file" 2>/dev/null | head -n 1)" ] || return 1
+    [ -f "$file" ] || return 1
+    crates=$(made_of "$repository" "$@")
+    set -- "$repository/crates.txt"
+    for crate in $crates; do
+        for part in src specs proofs; do
+            [ ! -d "$repository/crates/$crate/$part" ] || set -- "$@" "$repository/crates/$crate/$part"
+        done
     done
+    # It fails where it could not look at something, which may then be newer.
+    newer=$(find "$@" -newer "$file") && [ -z "$newer" ]
 )
 
 # How long it is since a moment of `date +%s`.
