@@ -1,10 +1,10 @@
 -- Which ports a mode word strobes, bit by bit: bit 6 is mode 2 of group A, otherwise bit 5 its mode 1, and bit 2 mode 1 of group B; bits 4
 -- and 1 are the directions ("Mode words").
 -- Rests on nothing.
-use Rattle.std.proofs.Common.{◌≡◌, Bool, not, ◌&&◌, ◌||◌, ℕ, zero, suc, ◌+◌, ◌*◌, ◌/◌, ◌%◌, ◌<◌, arith, eqb, ne_eqb}
+use Rattle.std.proofs.Common.{◌≡◌, refl, Bool, not, ◌&&◌, ◌||◌, ℕ, zero, suc, ◌+◌, ◌*◌, ◌/◌, ◌%◌, ◌<◌, arith, eqb, ne_eqb}
 use Rattle.bits.specs.Bit.{bit_of}
 use Rattle.control.specs.declared.Group.TheVariants.{A, B}
-use Rattle.control.specs.Mode.{mode_of, input_of, strobed_input, strobed_output}
+use Rattle.control.specs.Mode.{mode_of, input_of, upper_input, lower_input, directions_of, strobed_input, strobed_output}
 
 -- Group A's mode by two bits, and what is strobed in it where the direction is d.
 by_two_bits : (w low high : ℕ) → w / 32 % 4 ≡ low + 2 * high → low < 2 → high < 2 → (d : Bool)
@@ -42,3 +42,7 @@ b_takes w = of_b w (bit_of w 1)
 pub b_gives : (w : ℕ) → strobed_output w B ≡ (bit_of w 2 && not (bit_of w 1))
 unfolding strobed_output input_of
 b_gives w = of_b w (not (bit_of w 1))
+
+pub directions_by_bits : (w : ℕ) → directions_of w ≡ record { a = bit_of w 4; upper = bit_of w 3; b = bit_of w 1; lower = bit_of w 0 }
+unfolding input_of upper_input lower_input
+directions_by_bits w = refl

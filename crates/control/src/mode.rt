@@ -36,7 +36,7 @@ impl Mode {
 
 /// Whether port A, the upper half of C, port B and the lower half of C are set to input. Data sheet: Mode Definition Format. The sheet's chart
 /// says the same row by row (chart.rt): both have one contract, so that the chart is proved to be these four bits.
-#[tactic(auto, unfolding(crate::specs::Mode::input_of, crate::specs::Mode::upper_input, crate::specs::Mode::lower_input))]
+#[tactic(auto, using(crate::proofs::ByBits::directions_by_bits))]
 pub fn directions(word: u8) -> Directions
     ensures { result ≡ directions_of word }
 {

@@ -6,24 +6,20 @@ use Rattle.control.specs.declared.Group.TheVariants.{A, B}
 use Rattle.groups.specs.Alone.{out_of_the_way}
 use Rattle.groups.specs.SideBySide.{start, both_at_work, SideBySide, ReadInTheWay, StatusRead}
 
-pub side_by_side : SideBySide
+pub computed : SideBySide × ReadInTheWay × StatusRead
 unfolding bit_of
-side_by_side = record {
-  printers_own = refl;
-  not_the_scales = refl;
-  scale = refl;
-  printer = refl;
-  both_out_of_the_way = λ g. elim g as (λ g. out_of_the_way g start both_at_work ≡ true) [ A ↦ refl | B ↦ refl ];
-  digits = refl;
-  digits_alone = refl;
-  prints = refl;
-  prints_alone = refl;
-}
-
-pub read_in_the_way : ReadInTheWay
-unfolding bit_of
-read_in_the_way = record { with_it = refl; without_it = refl; not_out_of_the_way = refl; others_out_of_the_way = refl }
-
-pub status_read_lem : StatusRead
-unfolding bit_of
-status_read_lem = record { stays = refl; waits = refl }
+computed = (
+  record {
+    printers_own = refl;
+    not_the_scales = refl;
+    scale = refl;
+    printer = refl;
+    both_out_of_the_way = λ g. elim g as (λ g. out_of_the_way g start both_at_work ≡ true) [ A ↦ refl | B ↦ refl ];
+    digits = refl;
+    digits_alone = refl;
+    prints = refl;
+    prints_alone = refl;
+  },
+  record { with_it = refl; without_it = refl; not_out_of_the_way = refl; others_out_of_the_way = refl },
+  record { stays = refl; waits = refl },
+)

@@ -113,7 +113,7 @@ pub fn belongings_are_these_numbers()
 
 /// A scale and a printer at work, computed from the events: what is left of their history without either, and that each has the same bytes then.
 /// A read of port A that is refused while a write to port B runs makes a difference; one that is refused while port C is read makes none.
-#[tactic(auto, using(crate::proofs::SideBySide::side_by_side, crate::proofs::SideBySide::read_in_the_way, crate::proofs::SideBySide::status_read_lem))]
+#[tactic(auto, using(crate::proofs::SideBySide::computed))]
 pub fn scale_and_printer_work_side_by_side()
     ensures together { SideBySide }
     ensures in_the_way { ReadInTheWay }

@@ -155,3 +155,6 @@ module _ (line : lent.Line) where
 
       pub unfit_reason : (reason : Reason) → reason ≡ why (map raised left) → Some reason ≡ reason_of l
       unfit_reason reason given = reason_given l left reason unfit_letter here given
+
+-- The letter and the reason of every sign.
+pub ruleset signs = (sign_kept, kept_reason, mended_letter, mended_reason, blank_letter, blank_reason, unfit_letter, unfit_reason)

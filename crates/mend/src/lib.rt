@@ -1,8 +1,9 @@
 //! Mending a captured script: a clean script is made of its lines, and a report has a sign for each of them.
 #![tactic(auto)]
 
-ghost use Rattle.std.specs.Prelude.{◌≡◌, length};
-ghost use Rattle.mend.specs.Mend.{mend_refusal_number, mend_refusal_never_0, mend_told, outcome_of, mend_answer, clean_left, report_left};
+ghost use Rattle.std.specs.Prelude.{◌≡◌, ◌≤◌, length, OnOk};
+ghost use Rattle.text.specs.Lines.{line_count};
+ghost use Rattle.mend.specs.Mend.{mend_refusal_number, mend_refusal_never_0, mend_told, clean_of, outcome_of, mend_answer, clean_left, report_left};
 
 use bus::refusals::Numbered;
 use script::LONGEST;
@@ -42,7 +43,9 @@ impl Numbered for MendRefusal {
 // What a call comes to, by the text and by the room that each output has.
 #[tactic(auto, unfolding(crate::specs::Mend::mend_number, crate::specs::Mend::report_of))]
 fn judge(text: &[u8], clean: usize, report: usize) -> Result<Mended, MendRefusal>
-    ensures { mend_told result ≡ outcome_of text.now clean report }
+    ensures told { mend_told result ≡ outcome_of text.now clean report }
+    ensures clean_fits { OnOk result (length (clean_of text.now) ≤ clean) }
+    ensures report_fits { OnOk result (line_count text.now ≤ report) }
 {
     if LONGEST < text.len() {
         return Err(MendRefusal::TooLong);
@@ -62,7 +65,7 @@ fn judge(text: &[u8], clean: usize, report: usize) -> Result<Mended, MendRefusal
 }
 
 /// Writes the clean script and the report to the front of their outputs. A refused call leaves both as they were.
-#[tactic(auto, unfolding(crate::specs::Mend::clean_left, crate::specs::Mend::report_left, crate::specs::Mend::mend_number))]
+#[tactic(auto, unfolding(crate::specs::Mend::clean_left, crate::specs::Mend::report_left))]
 pub fn mend(text: &[u8], clean: &mut [u8], report: &mut [u8]) -> Result<Mended, MendRefusal>
     ensures told { mend_told result ≡ outcome_of text.now (length clean.old) (length report.old) }
     ensures clean_after { clean.new ≡ clean_left text.now clean.old report.old }

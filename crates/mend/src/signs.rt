@@ -99,7 +99,7 @@ fn is_frame(line: Line<'_>) -> bool
 
 impl Sign {
     /// The sign of a line. It is kept just where it is a frame as it stands.
-    #[tactic(auto, using(crate::proofs::Judging::sign_kept, crate::proofs::Judging::kept_reason, crate::proofs::Judging::mended_letter, crate::proofs::Judging::mended_reason, crate::proofs::Judging::blank_letter, crate::proofs::Judging::blank_reason, crate::proofs::Judging::unfit_letter, crate::proofs::Judging::unfit_reason))]
+    #[tactic(auto, using(crate::proofs::Judging::signs))]
     pub fn of(line: Line<'_>) -> Self
         ensures letter { letter_of result ≡ sign_of (line_of line.entry) }
         ensures reason { reason_told result ≡ reason_of (line_of line.entry) }

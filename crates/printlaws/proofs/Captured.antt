@@ -13,22 +13,7 @@ use Rattle.mend.specs.Mend.{clean_of}
 use Rattle.prints.specs.Mended.{printed_mended, said_of, said_of_all, has_unfit}
 use Rattle.printlaws.specs.Capture.{a_capture, clean_script, said_of_its_lines, a_fit_capture}
 
-pub printed : printed_mended a_capture ≡ clean_script
-unfolding flat_map is_kind operands_of digit_value pair_value lines_of leading_byte is_frame without_cr raised mended clean_line clean_of printed_mended
-printed = refl
-
-pub said : said_of_all a_capture ≡ said_of_its_lines
-unfolding digits is_kind operands_of digit_value pair_value lines_of leading_byte is_frame without_cr raised mended sign_of why reason_of said_of said_of_all
-said = refl
-
-pub fails : has_unfit a_capture ≡ true
-unfolding is_kind operands_of digit_value pair_value lines_of leading_byte is_frame without_cr raised mended sign_of has_unfit
-fails = refl
-
-pub ends_well : has_unfit a_fit_capture ≡ false
-unfolding is_kind operands_of digit_value pair_value lines_of leading_byte is_frame without_cr raised mended sign_of has_unfit
-ends_well = refl
-
-pub seven_lines : length (lines_of a_capture) ≡ 7
-unfolding lines_of
-seven_lines = refl
+pub computed : (printed_mended a_capture ≡ clean_script) × (said_of_all a_capture ≡ said_of_its_lines)
+    × (has_unfit a_capture ≡ true) × (has_unfit a_fit_capture ≡ false) × (length (lines_of a_capture) ≡ 7)
+unfolding flat_map digits is_kind operands_of digit_value pair_value lines_of leading_byte is_frame without_cr raised mended sign_of clean_line why reason_of clean_of printed_mended said_of said_of_all has_unfit
+computed = (refl, refl, refl, refl, refl)

@@ -1,5 +1,5 @@
 -- A text is refused exactly where a number alone is printed of it, 06, or of a rack 06 or 09: answers are none, or five bytes or more.
--- Rests on bits' Logic, and on script's Pieces and RackEnough.
+-- Rests on bits' Logic, on script's Pieces and RackEnough, and on FailingToMend, FailingToTrim and FailingToExplain.
 use Rattle.std.proofs.Common.{◌≡◌, ◌↔◌, inl, inr, ℕ, zero, suc, ◌+◌, ◌*◌, Bool, true, false, List, length, ap, sym, ◌∙◌, refl, eqb, arith, ne_eqb}
 use Rattle.bits.proofs.Logic.{contrary}
 use Rattle.bus.specs.Device as devices
@@ -20,6 +20,9 @@ use Rattle.prints.specs.declared.Device.{Device}
 use Rattle.prints.specs.declared.Device.TheVariants.{I8255A, I82C55A, I8355}
 use Rattle.prints.specs.Printed.{printed, printed_by, printed_of_rack, refuses_rack}
 use Rattle.printlaws.specs.Refused.{length_of_a_number, long_text_refused, first_line_refused, IsEither}
+use Rattle.printlaws.proofs.FailingToMend.{mending}
+use Rattle.printlaws.proofs.FailingToTrim.{six_or_one}
+use Rattle.printlaws.proofs.FailingToExplain.{sentence}
 
 -- Lines of five bytes or more are not three bytes.
 not_alone : (w n : ℕ) (bytes : List ℕ) → length bytes ≡ (5 + w) * n → eqb (length bytes) length_of_a_number ≡ false
@@ -79,3 +82,6 @@ six_or_nine text = (go (too_long text) (names_rack text) refl refl, back)
     back : IsEither (printed_of_rack text) long_text_refused first_line_refused → refuses_rack text ≡ true
     back (inl is) = by_rack text ∙ ap (λ bytes. eqb (length bytes) length_of_a_number) is
     back (inr is) = by_rack text ∙ ap (λ bytes. eqb (length bytes) length_of_a_number) is
+
+-- What is said of texts that are refused as a whole.
+pub ruleset failing = (by_any, by_rack, mending, six, six_or_nine, six_or_one, sentence)

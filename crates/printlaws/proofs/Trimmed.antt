@@ -138,3 +138,5 @@ module _ (text : List ℕ) where
   pub all_refused : 4096 < length text → printed_trimmed text ≡ long_text_refused
   unfolding printed_trimmed digit_code
   all_refused more = rw (lt-ltb 4096 (length text) more) refl
+
+pub ruleset trimmed_so = (kept_printed, one_refused, all_refused)

@@ -30,14 +30,7 @@ use Rattle.prints.specs.Trimmed.{word_line, printed_trimmed}
 use Rattle.prints.specs.Strays.{strays_of, stray_line, more_line, said_of_strays}
 use Rattle.printlaws.specs.Trimmed.{a_script, stray_texts}
 
-pub trimmed_as_listed : printed_trimmed (codes a_script.script) ≡ codes a_script.answers
-unfolding flat_map bit_of value_of with_bit blend_of is_kind operands_of number_of step_in mode_of input_of output_of lower_input upper_input strobed_input strobed_output uses_of free_role role_of control_of digit_value digit_code pair_value lines_of leading_byte is_frame frame_of frame_in written_out after_offer after_follow after_hand_over after_end_read after_clear cleared_port after_mode_word after_control_word fallen edged after_levels_on_c port_after_levels after_levels after_read_begins after_read_ends read_port read_of step_of stored_by latch_written after_write_ends is_word same_state kept_from word_line printed_trimmed
-trimmed_as_listed = refl
-
-pub twelve_lines : length (lines_of (codes a_script.script)) ≡ 12
-unfolding lines_of
-twelve_lines = refl
-
-pub strays_as_listed : answered said_of_strays stray_texts ≡ listed stray_texts
-unfolding flat_map number_digits is_kind operands_of digit_value pair_value lines_of leading_byte is_frame frame_of frame_in strays_of stray_line more_line said_of_strays
-strays_as_listed = refl
+pub computed : (printed_trimmed (codes a_script.script) ≡ codes a_script.answers) × (length (lines_of (codes a_script.script)) ≡ 12)
+    × (answered said_of_strays stray_texts ≡ listed stray_texts)
+unfolding flat_map bit_of value_of with_bit blend_of is_kind operands_of number_of step_in mode_of input_of output_of lower_input upper_input strobed_input strobed_output uses_of free_role role_of control_of digit_value digit_code pair_value lines_of leading_byte is_frame frame_of frame_in written_out after_offer after_follow after_hand_over after_end_read after_clear cleared_port after_mode_word after_control_word fallen edged after_levels_on_c port_after_levels after_levels after_read_begins after_read_ends read_port read_of step_of stored_by latch_written after_write_ends is_word same_state kept_from word_line printed_trimmed number_digits strays_of stray_line more_line said_of_strays
+computed = (refl, refl, refl)

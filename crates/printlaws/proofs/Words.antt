@@ -143,3 +143,5 @@ module _ (text : List ℕ) where
   pub unexplained : 4096 < length text → printed_quiet text ≡ long_text_unexplained
   unfolding printed_quiet
   unexplained more = rw (lt-ltb 4096 (length text) more) refl
+
+pub ruleset explained_so = (said_by_account, unexplained)

@@ -47,7 +47,7 @@ pub fn scripts_print_what_the_account_says()
 /// and the byte of the rack's step, the levels that the pins of each card then show, card by card, of ports A, B and C, all in two digits, and
 /// LF. So it is of the answers of any rack of at most eight cards to any lines. In whatever state the rack is, the levels of a card in an answer
 /// line are those that the card's own pins show.
-#[tactic(auto, using(crate::proofs::RackPrinted::columns_printed, crate::proofs::Columns::in_columns, script::proofs::RackShown::shows_cards))]
+#[tactic(auto, using(crate::proofs::RackPrinted::columns))]
 pub fn rack_scripts_print_columns()
     ensures printed { (text : List ℕ) (named : NamesRack text) → length text ≤ 4096 → Answers (rack_of named.bases) (lines_of named.further) (printed_of_rack text) }
     ensures answers { (ls : List Line) (r : Rack) → r.count ≤ 8 → InColumns ls r }
@@ -71,7 +71,7 @@ pub fn long_texts_print_06()
 /// digits and LF; whichever device answers, or a rack. Of a device's script these are 06 and LF, and of a rack's 06 or 09 and LF. A script to be
 /// trimmed is refused exactly if 06 or 01 and LF are printed; a captured script exactly if 06 and LF are, which is no clean script; and a script whose
 /// interrupts are to be explained exactly if the sentence is.
-#[tactic(auto, using(crate::proofs::Failing::by_any, crate::proofs::Failing::by_rack, crate::proofs::FailingToMend::mending, crate::proofs::Failing::six, crate::proofs::Failing::six_or_nine, crate::proofs::FailingToTrim::six_or_one, crate::proofs::FailingToExplain::sentence))]
+#[tactic(auto, using(crate::proofs::Failing::failing))]
 pub fn refused_texts_print_a_number_alone()
     ensures device { (device : Device) (text : List ℕ) → too_long text ≡ eqb (length (printed device text)) length_of_a_number }
     ensures rack { (text : List ℕ) → refuses_rack text ≡ eqb (length (printed_of_rack text)) length_of_a_number }
@@ -99,7 +99,7 @@ pub fn explained_chips_are_of_the_older_edition()
 /// power-up of the older edition with every line high: the lines of group A and then of group B, the input's before the output's, in the words of a
 /// table; and behind them, if there are any, how many lines have another number than 0. It prints nothing else. Of a longer text it prints a
 /// sentence. Of two scripts it prints what is listed beside them.
-#[tactic(auto, using(crate::proofs::Words::said_by_account, crate::proofs::Words::unexplained, crate::proofs::QuietTexts::quiet_texts_printed))]
+#[tactic(auto, using(crate::proofs::Words::explained_so, crate::proofs::QuietTexts::quiet_texts_printed))]
 pub fn explanations_say_what_the_account_says()
     ensures said { (text : List ℕ)
         → length text ≤ 4096 → printed_quiet text ≡ accounted_words (history_of text) }
@@ -113,7 +113,7 @@ pub fn explanations_say_what_the_account_says()
 /// than before, in their order and byte for byte as they stand. The chip is one of the older edition at its power-up, with every line high. If a line says
 /// no event, 01 and LF are printed, and of a longer text 06 and LF. Of one script of twelve lines it prints what is listed beside it; and of three
 /// with lines that say no event it says on standard error what is listed beside them.
-#[tactic(auto, using(crate::proofs::Trimmed::kept_printed, crate::proofs::Trimmed::one_refused, crate::proofs::Trimmed::all_refused, crate::proofs::TrimmedText::trimmed_as_listed, crate::proofs::TrimmedText::twelve_lines, crate::proofs::TrimmedText::strays_as_listed))]
+#[tactic(auto, using(crate::proofs::Trimmed::trimmed_so, crate::proofs::TrimmedText::computed))]
 pub fn trims_print_the_lines_that_change_the_chip()
     ensures kept { (text : List ℕ)
         → length text ≤ 4096 → SaysEvents text → TextKept text (printed_trimmed text) }
@@ -137,7 +137,7 @@ pub fn rack_texts_print_as_listed()
 
 /// Of seven captured lines the program prints the clean script, and says on standard error what became of each that was not kept. It fails, as
 /// some are unfit. Of a script without an unfit line it does not.
-#[tactic(auto, using(crate::proofs::Captured::printed, crate::proofs::Captured::said, crate::proofs::Captured::fails, crate::proofs::Captured::ends_well, crate::proofs::Captured::seven_lines))]
+#[tactic(auto, using(crate::proofs::Captured::computed))]
 pub fn captures_print_as_listed()
     ensures printed { printed_mended a_capture ≡ clean_script }
     ensures said { said_of_all a_capture ≡ said_of_its_lines }

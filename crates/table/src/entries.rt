@@ -1033,8 +1033,7 @@ const ROLES: [u8; 1024] = [
 ];
 
 /// The table, whole.
-// The check works the rule out at all 1,024 places, and finds the same numbers.
-#[tactic(auto, unfolding(crate::specs::Entry::entry_at, control::specs::Role::role_of, control::specs::Role::uses_of, control::specs::Role::free_role, control::specs::Mode::mode_of, control::specs::Mode::input_of, control::specs::Mode::upper_input, control::specs::Mode::lower_input, bits::specs::Bit::bit_of))]
+#[tactic(auto, using(crate::proofs::Listed::listed))]
 pub(super) fn published() -> [u8; 1024]
     ensures { result ≡ table entry_at 1024 }
 {
