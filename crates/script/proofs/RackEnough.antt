@@ -1,7 +1,7 @@
 -- What a caller of a run can count on: the answers have as many bytes as it says, and leave what stands behind them; and with enough room no
 -- text is refused for want of it.
 -- Rests on Pieces and RackRoom.
-use Rattle.std.proofs.Common.{◌≡◌, refl, Bool, true, false, cond, not, List, ℕ, ◌≤◌, arith, ltb, length, drop, drop_at, ltb-true, ltb-false}
+use Rattle.std.proofs.Common.{◌≡◌, refl, Bool, true, false, cond, not, List, ℕ, ◌≤◌, arith, ltb, length, drop, drop_at, le-ltb, ltb-false}
 use Rattle.rack.specs.declared.Rack.{Rack}
 use Rattle.rack.specs.Bases.{bad_rack_number}
 use Rattle.script.specs.Answers.{answers_from}
@@ -27,15 +27,13 @@ behind_stays text out e =
 abbrev first_of : Bool → Bool → Bool → ℕ
 first_of long rack short = cond long too_long_number (cond (not rack) bad_rack_number (cond short no_room_number 0))
 
--- Where there is room enough for any script no text is refused with 7.
-pub room_enough : (text : List ℕ) (room : ℕ) → most_room ≤ room → ¬ (run_number text room ≡ no_room_number)
+-- With room enough for any script no text is refused with 7.
+pub room_enough : (text : List ℕ) (room : ℕ) → most_room ≤ room
+    → run_number text room ≡ cond (too_long text) too_long_number (cond (not (names_rack text)) bad_rack_number 0)
 unfolding run_number
-room_enough text room enough = go (too_long text) (names_rack text) (ltb room (room_for_text text)) refl refl
+room_enough text room enough = go (too_long text) refl
   where
-    go : (long rack short : Bool) → too_long text ≡ long → ltb room (room_for_text text) ≡ short
-        → ¬ (first_of long rack short ≡ no_room_number)
-    go true rack short l e seven = omega (arith, seven)
-    go false false short l e seven = omega (arith, seven)
-    go false true false l e seven = omega (arith, seven)
-    go false true true l e seven =
-        omega (arith, ltb-true room (room_for_text text) e, enough, most_room_lem text (ltb-false longest_script (length text) l))
+    go : (long : Bool) → too_long text ≡ long → first_of (too_long text) (names_rack text) (ltb room (room_for_text text))
+        ≡ cond (too_long text) too_long_number (cond (not (names_rack text)) bad_rack_number 0)
+    go true l = rw l
+    go false l = rw (l, le-ltb room (room_for_text text) (omega (arith, enough, most_room_lem text (ltb-false longest_script (length text) l))))

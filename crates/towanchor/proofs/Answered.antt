@@ -1,8 +1,7 @@
 -- With room for 4,096 answers, what a run leaves in front of the output, or its number alone, is what the program prints of a script; and it is
 -- refused where the text is too long.
 -- Rests on bits' Logic and on script's Numbers, Outcome and Pieces.
-use Rattle.std.proofs.Common.{◌≡◌, ◌≢◌, Result, Ok, Err, is_err, ℕ, ◌*◌, ◌≤◌, Bool, true, false, List, length, take, drop, sym, ◌∙◌, refl, take_at, eqb, arith, eq-eqb}
-use Rattle.std.proofs.lemmas.Bool.{ltb-false}
+use Rattle.std.proofs.Common.{◌≡◌, Ok, Err, ℕ, ◌*◌, ◌≤◌, Bool, true, false, List, length, take, drop, cond, ap, sym, ◌∙◌, refl, take_at, eqb, arith, eq-eqb}
 use Rattle.bits.proofs.Logic.{contrary}
 use Rattle.bus.specs.Device.{Device}
 use Rattle.bus.specs.declared.Pins.{Pins}
@@ -13,90 +12,62 @@ use Rattle.chip.specs.Step as chip
 use Rattle.i8355.specs.State as i8355_state
 use Rattle.i8355.specs.Views as i8355_views
 use Rattle.i8355.specs.Step as i8355
-use Rattle.script.specs.Answers.{answer_width, by_device, answers_of}
+use Rattle.text.specs.Lines.{line_count}
+use Rattle.script.specs.Answers.{Answerer, answer_width, by_device, answers_of}
 use Rattle.script.specs.declared.RunRefusal.{RunRefusal}
-use Rattle.script.specs.Run.{run_told, longest_script, too_long, too_long_number, run_refusal_number, run_refusal_never_0, room_for, run_number, Ran, ran_of, output_left}
+use Rattle.script.specs.Run.{run_told, longest_script, too_long, too_long_number, run_number, run_refusal_number, run_refusal_never_0, room_for, Ran, ran_of, output_left}
 use Rattle.script.proofs.Numbers.{number_given}
 use Rattle.script.proofs.Outcome.{room_enough}
 use Rattle.script.proofs.Pieces.{answers_length}
 use Rattle.prints.specs.declared.Device.{Device as Which}
 use Rattle.prints.specs.declared.Device.TheVariants.{I8255A, I82C55A, I8355}
 use Rattle.prints.specs.Printed.{refusal_text, printed_by, printed}
-use Rattle.towanchor.specs.OfRun.{output_by, kept_of}
-
--- What is to be printed of a run.
-abbrev given : Result ℕ RunRefusal → Result ℕ RunRefusal
-given (Ok lines) = Ok (answer_width * lines)
-given (Err r) = Err r
+use Rattle.towanchor.specs.ByDevice.{output_by}
 
 module _ (text out : List ℕ) (enough : answer_width * longest_script ≤ length out) where
-  -- The number is 6 where the text is too long, and else 0.
-  abbrev Number : Bool → Type 0
-  Number true = run_number answer_width text (length out) ≡ too_long_number
-  Number false = run_number answer_width text (length out) ≡ 0
-
-  number_by_lem : (long : Bool) → too_long text ≡ long → Number long
-  unfolding run_number
-  number_by_lem true e = rw (e)
-  number_by_lem false e = room_enough answer_width text (length out) (ltb-false longest_script (length text) e) enough
-
-  never_0 : (r : RunRefusal) → run_refusal_number r ≢ 0
-  never_0 r e = contrary (eqb (run_refusal_number r) 0) (run_refusal_never_0 r) (eq-eqb _ 0 e)
-
-  pub refused_where_long : (r : Result ℕ RunRefusal) → run_told r ≡ ran_of answer_width text (length out) → is_err (given r) ≡ too_long text
-  refused_where_long (Ok lines) is = go (too_long text) refl
-    where
-      go : (long : Bool) → too_long text ≡ long → false ≡ too_long text
-      go true e = absurd (omega (arith, number_by_lem true e, number_given answer_width text (length out) _ is))
-      go false e = sym e
-  refused_where_long (Err refusal) is = go (too_long text) refl
-    where
-      go : (long : Bool) → too_long text ≡ long → true ≡ too_long text
-      go true e = sym e
-      go false e = absurd (never_0 refusal (number_given answer_width text (length out) _ is ∙ number_by_lem false e))
+  number_by : (n : ℕ) → n ≡ run_number answer_width text (length out) → n ≡ cond (too_long text) too_long_number 0
+  number_by n is = is ∙ room_enough answer_width text (length out) enough
 
   module _ {S R : Type 0} (dev : Device S R) (pins : S → ℕ → Pins) (s : S) where
-    abbrev answers : List ℕ
-    answers = answers_of (by_device dev pins) s text
+    abbrev by : Answerer S
+    by = by_device dev pins
 
-    -- An accepted run.
-    answered : (r : Ran) → r ≡ ran_of answer_width text (length out) → r.number ≡ 0
-        → take (answer_width * r.lines) (output_left (by_device dev pins) s text out) ≡ printed_by (by_device dev pins) s text
+    answered_by : (lines : ℕ) → run_told (Ok lines) ≡ ran_of answer_width text (length out)
+        → (take (answer_width * lines) (output_left by s text out) ≡ printed_by by s text) × (false ≡ too_long text)
     unfolding printed_by
-    answered r is zero = go (too_long text) refl
+    answered_by lines is = go (too_long text) refl
       where
-        accepted : run_number answer_width text (length out) ≡ 0
-        accepted = sym (number_given answer_width text (length out) r is) ∙ zero
-
         go : (long : Bool) → too_long text ≡ long
-            → take (answer_width * r.lines) (output_left (by_device dev pins) s text out) ≡ printed_by (by_device dev pins) s text
-        go true e = absurd (omega (arith, number_by_lem true e, accepted))
-        go false e =
-            rw (is, accepted, e)
-            (take_at answers (drop (room_for answer_width text) out) (room_for answer_width text) (answers_length (by_device dev pins) s text))
+            → (take (answer_width * lines) (output_left by s text out) ≡ printed_by by s text) × (false ≡ too_long text)
+        go true l = absurd (omega (arith, rw (l) at (number_by _ (number_given answer_width text (length out) _ is))))
+        go false l =
+            let counted : lines ≡ line_count text = rw (room_enough answer_width text (length out) enough, l) at (ap (λ (r : Ran). r.lines) is) in (
+              rw (counted, room_enough answer_width text (length out) enough, l) (take_at (answers_of by s text) (drop (room_for answer_width text) out) _ (answers_length by s text)),
+              sym l,
+            )
 
-    -- A refused one.
-    refused : (r : Ran) → r ≡ ran_of answer_width text (length out) → r.number ≢ 0 → refusal_text r.number ≡ printed_by (by_device dev pins) s text
+    refused_by : (r : RunRefusal) → run_told (Err r) ≡ ran_of answer_width text (length out)
+        → (refusal_text (run_refusal_number r) ≡ printed_by by s text) × (true ≡ too_long text)
     unfolding printed_by
-    refused r is other = go (too_long text) refl
+    refused_by r is = go (too_long text) refl
       where
-        given : r.number ≡ run_number answer_width text (length out)
-        given = number_given answer_width text (length out) r is
+        number : run_refusal_number r ≡ cond (too_long text) too_long_number 0
+        number = number_by _ (number_given answer_width text (length out) _ is)
 
-        go : (long : Bool) → too_long text ≡ long → refusal_text r.number ≡ printed_by (by_device dev pins) s text
-        go true e = rw (given, number_by_lem true e, e) refl
-        go false e = absurd (other (given ∙ number_by_lem false e))
+        go : (long : Bool) → too_long text ≡ long → (refusal_text (run_refusal_number r) ≡ printed_by by s text) × (true ≡ too_long text)
+        go true l = (rw (number, l) refl, sym l)
+        go false l = absurd (contrary (eqb (run_refusal_number r) 0) (run_refusal_never_0 r) (eq-eqb _ 0 (number ∙ rw (l) refl)))
 
-    -- What is printed of an accepted run or of a refused one.
-    kept : (r : Result ℕ RunRefusal) → run_told r ≡ ran_of answer_width text (length out)
-        → kept_of run_refusal_number (given r) (output_left (by_device dev pins) s text out) ≡ printed_by (by_device dev pins) s text
-    kept (Ok lines) is = answered _ is refl
-    kept (Err refusal) is = refused _ is (never_0 refusal)
-
-  -- Of each device.
-  pub kept_by : (device : Which) (r : Result ℕ RunRefusal) → run_told r ≡ ran_of answer_width text (length out)
-      → kept_of run_refusal_number (given r) (output_by device text out) ≡ printed device text
+  pub answered : (device : Which) (lines : ℕ) → run_told (Ok lines) ≡ ran_of answer_width text (length out)
+      → (take (answer_width * lines) (output_by device text out) ≡ printed device text) × (false ≡ too_long text)
   unfolding printed
-  kept_by I8255A r is = kept chip.device chip_pins.pins_of (power_up_as Older all_high) r is
-  kept_by I82C55A r is = kept chip.device chip_pins.pins_of (power_up_as Newer all_high) r is
-  kept_by I8355 r is = kept i8355.device i8355_views.pins_of i8355_state.power_up r is
+  answered I8255A = answered_by chip.device chip_pins.pins_of (power_up_as Older all_high)
+  answered I82C55A = answered_by chip.device chip_pins.pins_of (power_up_as Newer all_high)
+  answered I8355 = answered_by i8355.device i8355_views.pins_of i8355_state.power_up
+
+  pub refused : (device : Which) (r : RunRefusal) → run_told (Err r) ≡ ran_of answer_width text (length out)
+      → (refusal_text (run_refusal_number r) ≡ printed device text) × (true ≡ too_long text)
+  unfolding printed
+  refused I8255A = refused_by chip.device chip_pins.pins_of (power_up_as Older all_high)
+  refused I82C55A = refused_by chip.device chip_pins.pins_of (power_up_as Newer all_high)
+  refused I8355 = refused_by i8355.device i8355_views.pins_of i8355_state.power_up

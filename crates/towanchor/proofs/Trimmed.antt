@@ -110,25 +110,27 @@ module _ (text : List ℕ) (short : length text ≤ 4096) where
       ap (take kept) (sym (accepted_words ws 0 255 255 255 (accepted all)))
       ∙ take_at (kept_from met ws) (replicate (length ws - length (kept_from met ws)) 0) kept (omega (arith, told, counted all))
 
-  pub of_accepted : (kept : ℕ) → answer_told (Ok kept) ≡ answer
-      → (word_lines (take kept (trimmed_words ws 0 255 255 255)) ≡ printed_trimmed text) × (false ≡ refuses_trimming text)
-  of_accepted kept told = go (all_frames ws) refl
-    where
-      go : (t : Bool) → all_frames ws ≡ t
-          → (word_lines (take kept (trimmed_words ws 0 255 255 255)) ≡ printed_trimmed text) × (false ≡ refuses_trimming text)
-      go true all = (ap word_lines (front all kept told) ∙ lines_printed all, refusing true all)
-      go false all = absurd (omega (arith, told, refused all))
-
   -- No refusal has a number that is a count.
   no_count : (r : TrimRefusal) (n : ℕ) → ¬ (refusal_number r ≡ 256 * n)
   no_count NoFrame n e = omega (arith, e)
   no_count TooLong n e = omega (arith, e)
   no_count NoEdition n e = omega (arith, e)
 
-  pub of_refused : (r : TrimRefusal) → answer_told (Err r) ≡ answer
-      → (refusal_text (refusal_number r) ≡ printed_trimmed text) × (true ≡ refuses_trimming text)
-  of_refused r told = go (all_frames ws) refl
-    where
-      go : (t : Bool) → all_frames ws ≡ t → (refusal_text (refusal_number r) ≡ printed_trimmed text) × (true ≡ refuses_trimming text)
-      go true all = absurd (no_count r _ (told ∙ sym (counted all)))
-      go false all = (ap refusal_text (told ∙ refused all) ∙ number_printed all, refusing false all)
+  -- What is printed of words that are those of the text, once they are trimmed.
+  module _ (log : List ℕ) (same : log ≡ ws) where
+    pub of_accepted : (kept : ℕ) → answer_told (Ok kept) ≡ trim_answer log 0 255 255 255
+        → (word_lines (take kept (trimmed_words log 0 255 255 255)) ≡ printed_trimmed text) × (false ≡ refuses_trimming text)
+    of_accepted kept told = rw same (go (all_frames ws) refl)
+      where
+        go : (t : Bool) → all_frames ws ≡ t
+            → (word_lines (take kept (trimmed_words ws 0 255 255 255)) ≡ printed_trimmed text) × (false ≡ refuses_trimming text)
+        go true all = (ap word_lines (front all kept (rw same at told)) ∙ lines_printed all, refusing true all)
+        go false all = absurd (omega (arith, rw same at told, refused all))
+
+    pub of_refused : (r : TrimRefusal) → answer_told (Err r) ≡ trim_answer log 0 255 255 255
+        → (refusal_text (refusal_number r) ≡ printed_trimmed text) × (true ≡ refuses_trimming text)
+    of_refused r told = go (all_frames ws) refl
+      where
+        go : (t : Bool) → all_frames ws ≡ t → (refusal_text (refusal_number r) ≡ printed_trimmed text) × (true ≡ refuses_trimming text)
+        go true all = absurd (no_count r _ (rw same at told ∙ sym (counted all)))
+        go false all = (ap refusal_text (rw same at told ∙ refused all) ∙ number_printed all, refusing false all)

@@ -1,2 +1,3 @@
-pub mod OfRun
+pub mod ByDevice
 pub mod Left
+pub mod Said

@@ -3,7 +3,7 @@ ghost use Rattle.std.specs.Prelude.{◌≡◌, IfOk, is_some, length};
 ghost use Rattle.script.specs.Answers.{answer_width};
 ghost use Rattle.script.specs.Run.{run_told, ran_of, too_long};
 ghost use Rattle.prints.specs.Printed.{printed};
-ghost use Rattle.towanchor.specs.OfRun.{output_by};
+ghost use Rattle.towanchor.specs.ByDevice.{output_by};
 
 use super::output::{self, Printed};
 use chip::Edition;
@@ -27,13 +27,14 @@ fn run(device: Device, text: &[u8], out: &mut [u8]) -> Result<usize, RunRefusal>
 }
 
 // The answers of that device; or the number of the refusal, where the text is too long.
+#[tactic(auto, using(crate::proofs::Answered::answered, crate::proofs::Answered::refused))]
 pub(super) fn answer(alloc: Global, device: Device, text: &[u8]) -> Result<Printed, AllocError>
     ensures text { IfOk result (λ answers. answers.text.items ≡ printed device text.now) }
     ensures refused { IfOk result (λ answers. is_some answers.refused ≡ too_long text.now) }
 {
-    // By a match and no `map`: that the product fits is known of the lines that the run has answered, and not of any number.
-    output::of_run(alloc, MOST_ROOM, |out| match run(device, text, out) {
-        Ok(lines) => Ok(ANSWER_WIDTH * lines),
-        Err(refusal) => Err(refusal),
-    })
+    let mut out = output::room(alloc, MOST_ROOM)?;
+    match run(device, text, &mut out) {
+        Ok(lines) => Ok(Printed::front(out, ANSWER_WIDTH * lines)),
+        Err(refusal) => output::refusal(alloc, refusal),
+    }
 }

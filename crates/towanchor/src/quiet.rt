@@ -1,10 +1,11 @@
 // What each group's INTR is doing after the last line of a script, and why, in plain words. include/towanchor.h has the same words for
 // hosts in C.
-ghost use Rattle.std.specs.Prelude.{◌≡◌, ◌++◌, IfOk, OnOk, is_some, string_bytes};
+ghost use Rattle.std.specs.Prelude.{◌≡◌, IfOk, OnOk, is_some, string_bytes};
 ghost use Rattle.script.specs.Run.{too_long};
 ghost use Rattle.prints.specs.Left.{left_of};
 ghost use Rattle.prints.specs.Quiet.{reason_words, group_name, side_name, half_line, group_lines, refused_line, said_of_left, printed_quiet};
 ghost use Rattle.towanchor.specs.Left.{told};
+ghost use Rattle.towanchor.specs.Said.{Says};
 
 use super::output::Printed;
 use super::refusals::TOO_LONG;
@@ -52,8 +53,7 @@ fn half_name(side: Side) -> &'static str
 // Says what a half is doing.
 #[tactic(auto, unfolding(prints::specs::Quiet::half_line))]
 fn say_half(said: &mut String, group: Group, side: Side, reason: Reason) -> Result<(), AllocError>
-    ensures { OnOk result
-        (string_bytes said.new ≡ string_bytes said.old ++ half_line group side reason) }
+    ensures { OnOk result (Says said.old said.new (half_line group side reason)) }
 {
     writeln!(
         said,
@@ -67,8 +67,7 @@ fn say_half(said: &mut String, group: Group, side: Side, reason: Reason) -> Resu
 // Says what a group's INTR is doing.
 #[tactic(auto, unfolding(prints::specs::Quiet::group_lines))]
 fn say_group(said: &mut String, group: Group, explained: Explained) -> Result<(), AllocError>
-    ensures { OnOk result
-        (string_bytes said.new ≡ string_bytes said.old ++ group_lines group explained) }
+    ensures { OnOk result (Says said.old said.new (group_lines group explained)) }
 {
     match explained {
         Explained::ModeZero => {
@@ -106,7 +105,7 @@ fn left_by(text: &[u8]) -> Result<Left, RunRefusal>
 // Says how many lines were refused, if any was: such a script may have left another chip than its writer had in mind.
 #[tactic(auto, unfolding(prints::specs::Quiet::refused_line))]
 fn say_refused(said: &mut String, count: usize) -> Result<(), AllocError>
-    ensures { OnOk result (string_bytes said.new ≡ string_bytes said.old ++ refused_line count) }
+    ensures { OnOk result (Says said.old said.new (refused_line count)) }
 {
     if count == 0 {
         return Ok(());

@@ -1,11 +1,10 @@
 // The lines of a text that are no frames, named on standard error.
-ghost use Rattle.std.specs.Prelude.{◌≡◌, ◌++◌, IfOk, OnOk, string_bytes};
-ghost use Rattle.text.specs.Answers.{line_of};
-ghost use Rattle.prints.specs.Strays.{stray_in, strays_of, stray_line, named, more_line, said_of_strays};
+ghost use Rattle.std.specs.Prelude.{◌≡◌, IfOk, OnOk, string_bytes};
+ghost use Rattle.prints.specs.Strays.{strays_of, stray_line, named, more_line, said_of_strays};
+ghost use Rattle.towanchor.specs.Said.{Says};
 
 use anyhow::Context;
 use std::alloc::{AllocError, Global};
-use text::line::Line;
 use text::lines::Lines;
 
 // How many of them are named. Of the others it is said how many they are.
@@ -13,14 +12,14 @@ const MOST_NAMED: usize = 10;
 
 #[tactic(auto, unfolding(prints::specs::Strays::stray_line))]
 fn say_line(said: &mut String, number: usize) -> Result<(), AllocError>
-    ensures { OnOk result (string_bytes said.new ≡ string_bytes said.old ++ stray_line number) }
+    ensures { OnOk result (Says said.old said.new (stray_line number)) }
 {
     writeln!(said, "line {number} is no frame")
 }
 
 #[tactic(auto, unfolding(prints::specs::Strays::more_line))]
 fn say_more(said: &mut String, count: usize) -> Result<(), AllocError>
-    ensures { OnOk result (string_bytes said.new ≡ string_bytes said.old ++ more_line count) }
+    ensures { OnOk result (Says said.old said.new (more_line count)) }
 {
     match count {
         0 => Ok(()),
@@ -29,23 +28,15 @@ fn say_more(said: &mut String, count: usize) -> Result<(), AllocError>
     }
 }
 
-// Notes the number of a line, if it is no frame.
-fn note(strays: &mut Vec<usize>, number: usize, line: Line<'_>) -> Result<(), AllocError>
-    ensures { OnOk result (strays.new.items ≡ strays.old.items ++ stray_in number (line_of line.entry)) }
-{
-    if line.event().is_none() {
-        strays.push(number)?;
-    }
-    Ok(())
-}
-
 // The numbers of such lines. Lines count from 1.
 fn strays_of(alloc: Global, text: &[u8]) -> Result<Vec<usize>, AllocError>
     ensures { IfOk result (λ strays. strays.items ≡ strays_of text.now) }
 {
     let mut strays = Vec::new(alloc);
     for (at, line) in Lines::new(text).enumerate() {
-        note(&mut strays, at + 1, line)?;
+        if line.event().is_none() {
+            strays.push(at + 1)?;
+        }
     }
     Ok(strays)
 }

@@ -1,29 +1,23 @@
 -- `towanchor::racks::answer`: what is kept of the output, or the number of the refusal, is what the program prints; and it is refused where the
--- rule says. Rests on AnsweredByRack and on script's RackRoom.
-use Rattle.std.proofs.Common.{rules, ◌∙◌, ◌≤◌, length, arith}
+-- rule says. Rests on AnsweredByRack.
+use Rattle.std.proofs.Common.{◌∙◌, ap, length, take, drop, take_at, arith}
 use Rattle.std.proofs.lemmas.Result.{IfOk-weaker}
-use Rattle.script.proofs.RackRoom.{most_room}
-use Rattle.towanchor.proofs.AnsweredByRack.{kept, refused_by_rule}
+use Rattle.towanchor.proofs.AnsweredByRack.{answered, refused}
 use Rattle.towanchor.proofs.racks.answer.Goals as goal
 
-pub returns-clause-text : goal.returns-clause-text
-returns-clause-text c =
-    IfOk-weaker c.of_run.result _ _
-    (λ printed e.
-    let enough : most_room ≤ length e.0 = omega (arith, e.3) in
-    let met = e.4.met in
-    let leaves = e.4.leaves in
-    let shows = e.4.shows in
-    e.5 ∙ search (rules, kept c.args.text.now e.0 enough))
-    c.of_run.ensures
+pub returns-in-Ok-clause-text : goal.returns-in-Ok-clause-text
+returns-in-Ok-clause-text c =
+    let left = c.run.new.out in
+    let whole = take_at left (drop (length left) c.in_ok-out.out.items) c.in_ok-out.out.len (omega arith) in
+    c.front.ensures.text ∙ ap (take c.in-Ok.ran.length) (whole ∙ c.run.ensures.output)
+    ∙ (answered c.args.text.now c.deref_mut.result.now (omega arith) c.in-Ok.ran c.in-Ok.ensures.told).0
 
-pub returns-clause-refused : goal.returns-clause-refused
-returns-clause-refused c =
-    IfOk-weaker c.of_run.result _ _
-    (λ printed e.
-    let enough : most_room ≤ length e.0 = omega (arith, e.3) in
-    let met = e.4.met in
-    let leaves = e.4.leaves in
-    let shows = e.4.shows in
-    e.6 ∙ search (rules, refused_by_rule c.args.text.now e.0 enough))
-    c.of_run.ensures
+pub returns-in-Ok-clause-refused : goal.returns-in-Ok-clause-refused
+returns-in-Ok-clause-refused c =
+    c.front.ensures.refused ∙ (answered c.args.text.now c.deref_mut.result.now (omega arith) c.in-Ok.ran c.in-Ok.ensures.told).1
+
+pub returns-in-Err-clause-refused : goal.returns-in-Err-clause-refused
+returns-in-Err-clause-refused c =
+    IfOk-weaker c.refusal.result _ _
+    (λ printed e. e ∙ (refused c.args.text.now c.deref_mut.result.now (omega arith) c.in-Err.refusal c.in-Err.ensures.told).1)
+    c.refusal.ensures.refused

@@ -11,7 +11,7 @@ loop-at-init-derived c =
       c.into_iter-at-iterator.ensures.into_iter_gives,
       c.enumerate-at-items.ensures.source,
       c.enumerate-at-items.ensures.count,
-      c.new-2.ensures,
+      c.new.ensures,
     ) ((tt, tt, inl (omega (arith, lines_at_most c.args.text.now))), tt)
 
 pub loop-at-init : goal.loop-at-init
@@ -21,6 +21,6 @@ loop-at-init c =
       c.into_iter-at-iterator.ensures.into_iter_gives,
       c.enumerate-at-items.ensures.source,
       c.enumerate-at-items.ensures.count,
-      c.new-2.ensures,
-      c.new.ensures.bytes,
+      c.new.ensures,
+      c.new-words.ensures.bytes,
     ) (refl, refl)

@@ -7,5 +7,5 @@ use Rattle.towanchor.proofs.mending.Said.of.Given as goal
 
 abbrev pub invariant-loop-at : goal.invariant-loop-at
 invariant-loop-at l =
-    (string_bytes l.all.words ++ said_from (l.at-iterator.count + 1) (lines_left l.at-iterator.iter) ≡ said_of_all l.text)
-    × ((l.all.unfit || list_any is_unfit (lines_left l.at-iterator.iter)) ≡ has_unfit l.text)
+    (string_bytes l.words ++ said_from (l.at-iterator.count + 1) (lines_left l.at-iterator.iter) ≡ said_of_all l.text)
+    × ((l.unfit || list_any is_unfit (lines_left l.at-iterator.iter)) ≡ has_unfit l.text)
