@@ -1,7 +1,9 @@
 -- The output while a text is answered into it: each line changes it, and what it will hold at the end stays the same.
 -- Rests on Filling and Levels.
-use Rattle.std.proofs.Common.{◌≡◌, ◌∙◌, ap, sym, List, [], ◌∷◌, ◌++◌, append_assoc, ℕ, suc, ◌+◌, ◌*◌, ◌-◌, ◌≤◌, add-zero, mul-zero, mul-suc, arith, length, take, drop, length-drop, take-append-drop}
+use Rattle.std.proofs.Common.{◌≡◌, ◌∙◌, ap, sym, List, [], ◌∷◌, ◌++◌, append_assoc, ℕ, suc, ◌+◌, ◌*◌, ◌-◌, ◌≤◌, add-zero, mul-zero, mul-suc, arith, length, take, drop, length-drop, take-append-drop, zero-add}
+use lib.Seq.{sets, sets-eq}
 use borrow.Author.Rules.{part_to_end}
+use Rattle.bus.specs.Device.{Given}
 use Rattle.text.specs.Lines.{Line}
 use Rattle.script.specs.Answers.{Answerer, line_after, answers_from, state_after, left_after}
 use Rattle.script.specs.Run.{width_of, filled}
@@ -42,25 +44,27 @@ module _ {S : Type 0} (a : Answerer S) where
     same_width : width_of a (a.takes s l).state ≡ width_of a start
     same_width = ap (λ n. 4 + 6 * n + 1) (a.cards_stay s l ∙ way.as_wide)
 
-    pub room_for_one : width_of a (a.takes s l).state ≤ length (take (length out - at) (drop at out))
-    room_for_one = rw (part_to_end out at, length-drop at out, same_width) (omega (arith, way.room, mul-suc (width_of a start) (length ls)))
+    module _ (given : Given S) (is : given ≡ a.takes s l) where
+      pub room_for_one : width_of a given.state ≤ length (take (length out - at) (drop at out))
+      room_for_one = rw (is, part_to_end out at, length-drop at out, same_width) (omega (arith, way.room, mul-suc (width_of a start) (length ls)))
 
-    pub goes_on_lem : (part : List ℕ)
-        → part ≡ line_after a (a.takes s l) ++ drop (width_of a (a.takes s l).state) (take (length out - at) (drop at out))
-        → UnderWay start text first (take at out ++ (part ++ drop (length out - at) (drop at out))) ls (a.takes s l).state (at + width_of a start)
-    goes_on_lem part written =
-        let w : ℕ = width_of a start in
-        let line : List ℕ = line_after a (a.takes s l) in
-        let wide : length line ≡ w = line_length a (a.takes s l) ∙ same_width in
-        let more : w * suc (length ls) ≡ w * length ls + w = mul-suc w (length ls) in
-        let same = back_length at w line out wide (omega (arith, way.room, more)) in
-        rw (written, same_width) (record {
-          as_wide = a.cards_stay s l ∙ way.as_wide;
-          long = same ∙ way.long;
-          room = omega (arith, way.room, same, more);
-          comes = one_answered w s l ls at out wide way.room ∙ way.comes;
-          leads = way.leads;
-        })
+      pub goes_on_lem : (part : List ℕ) → part ≡ sets (take (length out - at) (drop at out)) 0 (line_after a given)
+          → UnderWay start text first (take at out ++ (part ++ drop (length out - at) (drop at out))) ls given.state (at + width_of a start)
+      goes_on_lem part written =
+          let w : ℕ = width_of a start in
+          let line : List ℕ = line_after a (a.takes s l) in
+          let wide : length line ≡ w = line_length a (a.takes s l) ∙ same_width in
+          let more : w * suc (length ls) ≡ w * length ls + w = mul-suc w (length ls) in
+          let same = back_length at w line out wide (omega (arith, way.room, more)) in
+          let room : 0 + length line ≤ length (take (length out - at) (drop at out)) = omega (arith, wide, rw (is, same_width) at room_for_one) in
+          let first = rw (zero-add (length line), wide) at (sets-eq line (take (length out - at) (drop at out)) 0 room) in
+          rw (written, is, first) (record {
+            as_wide = a.cards_stay s l ∙ way.as_wide;
+            long = same ∙ way.long;
+            room = omega (arith, way.room, same, more);
+            comes = one_answered w s l ls at out wide way.room ∙ way.comes;
+            leads = way.leads;
+          })
 
   -- When no line is left the output holds all that it will.
   pub arrives : (start : S) (text first out : List ℕ) (s : S) (at : ℕ)

@@ -1,10 +1,8 @@
 -- The contract of each public function of script leaves no choice: of the output and the subject that a run was lent neither. Nor does that of a
 -- method by which a device or a rack answers scripts, or of a refusal made from another. What a run tells, no other answer tells.
 -- Rests on bits', bus' and rack's Determined.
-use Rattle.std.proofs.Common.{◌≡◌, ◌∙◌, refl, ap, ap₂, sym, cond, ℕ, eqb, Result, Ok, Err}
-use Rattle.bits.proofs.Determined.{Determines, equation_determines, equations_determine}
-use Rattle.bus.proofs.Determined.{answer_of, frame_of, frame_told_so}
-use Rattle.rack.proofs.Determined as racks
+use Rattle.std.proofs.Common.{◌≡◌, ◌∙◌, refl, ap, sym, cond, ℕ, eqb, Result, Ok, Err}
+use Rattle.bits.proofs.Determined.{Determines, equation_determines}
 use Rattle.script.specs.declared.RunRefusal.{RunRefusal}
 use Rattle.script.specs.declared.RunRefusal.TheVariants.{TooLong, NoRoom}
 use Rattle.script.specs.Run.{Ran, run_told}
@@ -37,9 +35,9 @@ pub line_width_determined : Determines script_says.line_width.ended script.line_
 line_width_determined c x y = equation_determines
 
 pub run_from_determined
-    : (S : _) (lS : _) (R : _) (lR : _) (copy : _) (G : _) (t : _) (H : _) (u : _) (K : _) (v : _)
-    → Determines (script_says.run_from.ended S R G t H u K v) (script.run_from.Reads.Learnt S R lS lR copy G t H u K v)
-run_from_determined S lS R lR copy G t H u K v c x y p q =
+    : (S : _) (lS : _) (G : _) (t : _)
+    → Determines (script_says.run_from.ended S G t) (script.run_from.Reads.Learnt S lS G t)
+run_from_determined S lS G t c x y p q =
     let result = told_so x.0 ∙ ap (λ (r : Ran). run_answer r.number r.lines) (p.0 ∙ sym q.0) ∙ sym (told_so y.0) in
     let out = p.1.0 ∙ sym q.1.0 in
     let subject = p.1.1 ∙ sym q.1.1 in
@@ -59,9 +57,9 @@ run_8355_determined c x y p q =
     λ i. (result i, (tt, (out i, tt)))
 
 pub take_all_determined
-    : (S : _) (lS : _) (R : _) (lR : _) (copy : _) (G : _) (t : _) (H : _) (u : _) (K : _) (v : _)
-    → Determines (script_says.left.take_all.ended S R G t H u K v) (script.left.take_all.Reads.Learnt S R lS lR copy G t H u K v)
-take_all_determined S lS R lR copy G t H u K v c x y p q =
+    : (S : _) (lS : _) (G : _) (t : _)
+    → Determines (script_says.left.take_all.ended S G t) (script.left.take_all.Reads.Learnt S lS G t)
+take_all_determined S lS G t c x y p q =
     let same = p ∙ sym q in
     let a = left_so x.0 x.1.0 in
     let b = left_so y.0 y.1.0 in
@@ -73,9 +71,8 @@ pub scripted_take_determined
     : (D : _) (lD : _) (G : _) (t : _)
     → Determines (script_says.devices.AnyScripted.take.ended D G t) (script.devices.AnyScripted.take.Reads.Learnt D lD G t)
 scripted_take_determined D lD G t c x y p q =
-    equations_determine
-    (frame_told_so x.0 ∙ ap₂ (answer_of frame_of) p.1.0 p.1.1, p.0)
-    (frame_told_so y.0 ∙ ap₂ (answer_of frame_of) q.1.0 q.1.1, q.0)
+    let same = p ∙ sym q in
+    λ i. (record { number = (same i).number; byte = (same i).byte }, ((same i).state, (tt, tt)))
 
 pub scripted_cards_determined
     : (D : _) (lD : _) (G : _) (t : _)
@@ -112,9 +109,8 @@ rack_run_determined c x y p q =
 
 pub rack_take_determined : Determines script_says.racks.answers.AnsweringScripted.take.ended script.racks.answers.AnsweringScripted.take.Reads.Learnt
 rack_take_determined c x y p q =
-    equations_determine
-    (racks.frame_told_so x.0 ∙ ap₂ (answer_of racks.frame_of) p.1.0 p.1.1, p.0)
-    (racks.frame_told_so y.0 ∙ ap₂ (answer_of racks.frame_of) q.1.0 q.1.1, q.0)
+    let same = p ∙ sym q in
+    λ i. (record { number = (same i).number; byte = (same i).byte }, ((same i).state, (tt, tt)))
 
 pub rack_cards_determined : Determines script_says.racks.answers.AnsweringScripted.cards.ended script.racks.answers.AnsweringScripted.cards.Reads.Learnt
 rack_cards_determined c x y = equation_determines

@@ -1,11 +1,12 @@
 -- What a script is answered, line by line ("Script and program").
 use Rattle.std.specs.Prelude.{◌≡◌, refl, List, [], ◌∷◌, ◌++◌, ℕ, zero, suc, ◌+◌, ◌*◌}
-use Rattle.bus.specs.Device.{Device, Given, step_in}
+use Rattle.bus.specs.Device.{Device, Given, gives, step_in}
 use Rattle.bus.specs.Cycles.{refused_in}
 use Rattle.bus.specs.declared.Pins.{Pins}
 use Rattle.text.specs.Digits.{in_digits}
 use Rattle.text.specs.Lines.{lf, Line, lines_of}
 use Rattle.text.specs.Frames.{Frame, Event, NoFrame, frame_in}
+use Rattle.script.specs.declared.Answer.{Answer}
 
 -- Whoever answers scripts, and has states S: what it makes of a line, how many cards there are, and the levels that a port of a card shows. The last
 -- field is a law: no line changes the number of cards, so that every answer line is as wide as the first.
@@ -14,6 +15,10 @@ pub record Answerer (S : Type 0) : Type 0 where
   pub cards : S → ℕ
   pub levels : S → ℕ → ℕ → ℕ
   pub cards_stay : (s : S) (l : Line) → cards (takes s l).state ≡ cards s
+
+-- What an answer says of an event, with the state that the event left.
+abbrev pub given_by : {S : Type 0} → S → Answer → Given S
+given_by s a = gives s a.number a.byte
 
 -- The number of a line that is no frame: that of an event of no kind.
 abbrev pub no_frame_number : ℕ

@@ -15,7 +15,7 @@ pub fn take_all<S: Scripted>(subject: &mut S, text: &[u8]) -> Result<usize, RunR
     // A loop and no chain of filters: each line changes the subject.
     let mut refused = 0;
     for line in Lines::new(text) {
-        if subject.take(line).is_err() {
+        if subject.take(line).number != 0 {
             refused += 1;
         }
     }

@@ -3,13 +3,13 @@
 #![tactic(auto)]
 
 ghost use Rattle.std.specs.Prelude.{◌≡◌, ◌≤◌, length};
-ghost use Rattle.bus.specs.Answers.{frame_number, number_told, byte_told};
+ghost use Rattle.bus.specs.Answers.{number_told, byte_told};
 ghost use Rattle.text.specs.Answers.{line_of};
-ghost use Rattle.script.specs.Answers.{Answerer, line_width, answer_width, left_after};
-ghost use Rattle.script.specs.Run.{run_refusal_number, run_refusal_never_0, run_told, room_for, ran_of, filled, output_left, subject_left};
+ghost use Rattle.script.specs.Answers.{Answerer, line_width, answer_width, left_after, given_by};
+ghost use Rattle.script.specs.Run.{run_refusal_number, run_refusal_never_0, run_told, room_for, ran_of, width_of, filled, output_left, subject_left};
 ghost use Rattle.script.specs.AtPowerUp.{output_by_chip, output_by_8355};
 
-use bus::refusals::{FrameRefusal, Numbered};
+use bus::refusals::{self, Numbered};
 use chip::{Chip, Edition, Levels};
 use i8355::Chip8355;
 use text::line::Line;
@@ -39,19 +39,36 @@ pub fn line_width(cards: u8) -> usize
     FRONT_DIGITS + CARD_DIGITS * usize::from(cards) + 1
 }
 
+/// What an answer line says of an event: its number, 00 if it was accepted; and its byte, 00 unless it is a read that was accepted.
+#[derive(Clone, Copy, Debug, PartialEq, Eq)]
+pub struct Answer {
+    pub number: u8,
+    pub byte: u8,
+}
+
+impl Answer {
+    // To a line that is no frame.
+    const NO_FRAME: Answer = Answer { number: 1, byte: 0 };
+
+    fn of<R: Numbered>(given: Result<u8, R>) -> Answer
+        ensures number { result.number ≡ number_told R.number_of given }
+        ensures byte { result.byte ≡ byte_told given }
+    {
+        Answer {
+            number: refusals::number(&given),
+            byte: given.unwrap_or(0),
+        }
+    }
+}
+
 /// Whoever answers scripts: some cards, each with ports A, B and C, whose levels stand in every answer line.
 pub trait Scripted {
-    /// Why an event of it is refused.
-    type Refusal: Numbered;
-
     /// What a line makes of it, and what an answer line shows of it.
     ghost answerer: { Answerer Self };
 
-    /// Takes a line, well formed or not: the byte of a read, and 00 of any other event; or why it is refused.
-    fn take(&mut self, line: Line<'_>) -> Result<u8, FrameRefusal<Self::Refusal>>
-        ensures state { self.new ≡ (answerer.takes self.old (line_of line.entry)).state }
-        ensures number { number_told (frame_number Self.Refusal.number_of) result ≡ (answerer.takes self.old (line_of line.entry)).number }
-        ensures byte { byte_told result ≡ (answerer.takes self.old (line_of line.entry)).byte };
+    /// Takes a line, well formed or not.
+    fn take(&mut self, line: Line<'_>) -> Answer
+        ensures { given_by self.new result ≡ answerer.takes self.old (line_of line.entry) };
 
     /// How many cards there are.
     fn cards(&self) -> u8
@@ -84,7 +101,7 @@ impl Numbered for RunRefusal {
 // Answers every line of a text, each from where the last answer stopped. By a cursor: after a loop over the lines and over chunks
 // of the output the prover does not know what was written.
 fn answer_all<S: Scripted>(subject: &mut S, text: &[u8], out: &mut [u8])
-    requires { room_for (line_width (S.answerer.cards subject.old)) text.now ≤ length out.old }
+    requires { room_for (width_of S.answerer subject.old) text.now ≤ length out.old }
     ensures output { out.new ≡ filled S.answerer subject.old text.now out.old }
     ensures subject { subject.new ≡ left_after S.answerer subject.old text.now }
 {
@@ -105,7 +122,7 @@ pub fn run_from<S: Scripted>(
     text: &[u8],
     out: &mut [u8],
 ) -> Result<usize, RunRefusal>
-    ensures told { run_told result ≡ ran_of (line_width (S.answerer.cards subject.old)) text.now (length out.old) }
+    ensures told { run_told result ≡ ran_of (width_of S.answerer subject.old) text.now (length out.old) }
     ensures output { out.new ≡ output_left S.answerer subject.old text.now out.old }
     ensures subject { subject.new ≡ subject_left S.answerer subject.old text.now (length out.old) }
 {

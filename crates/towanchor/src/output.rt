@@ -50,8 +50,8 @@ pub(super) fn refusal<R: Numbered + Into<Refused>>(
     alloc: Global,
     refusal: R,
 ) -> Result<Printed, AllocError>
-    ensures text { IfOk result (λ printed. printed.text.items ≡ refusal_text (R.number_of refusal)) }
-    ensures refused { IfOk result (λ printed. is_some printed.refused ≡ true) }
+    ensures text { IfOk result (λ line. line.text.items ≡ refusal_text (R.number_of refusal)) }
+    ensures refused { IfOk result (λ line. is_some line.refused ≡ true) }
 {
     let [high, low] = digits::of_byte(refusal.number());
     Ok(Printed {

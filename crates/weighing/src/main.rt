@@ -2,10 +2,10 @@
 //! writes it to port B for the printer, and the emulator asks why the printer's interrupt is quiet. Then it saves the chip, and restores it.
 #![tactic(auto)]
 
-ghost use Rattle.std.specs.Prelude.{◌≡◌, [], ◌∷◌, OnOk, OnErr};
-ghost use Rattle.bus.specs.Kinds.{begin_read, end_cycle};
-ghost use Rattle.bus.specs.Event.{event};
-ghost use Rattle.bus.specs.Device.{step_in, run_in};
+ghost use Rattle.std.specs.Prelude.{◌≡◌, ◌++◌, OnOk, OnErr};
+ghost use Rattle.bus.specs.Kinds.{begin_read};
+ghost use Rattle.bus.specs.Histories.{cycle_end, read_from};
+ghost use Rattle.bus.specs.Device.{number_in, step_in, run_in};
 ghost use Rattle.bus.specs.Answers.{refusal_number, number_told, byte_told};
 ghost use Rattle.chip.specs.Step.{device};
 
@@ -40,13 +40,13 @@ fn write(chip: &mut Chip, address: u8, byte: u8) -> Result<(), Refusal> {
 // A whole read of a port. The contract says by the definitions of `bus` what it answers and what it leaves, and that a beginning which is
 // accepted can be ended.
 #[tactic(auto, unfolding(bus::specs::Device::step_in, bus::specs::Refusals::number_of))]
-fn read(chip: &mut Chip, address: u8) -> Result<u8, Refusal>
-    ensures number { number_told refusal_number result ≡ (step_in device chip.old begin_read address 0).number }
-    ensures byte { byte_told result ≡ (step_in device chip.old begin_read address 0).byte }
-    ensures ended { OnOk result (chip.new ≡ run_in device chip.old (event begin_read address 0 ∷ event end_cycle 0 0 ∷ [])) }
+fn read(chip: &mut Chip, port: u8) -> Result<u8, Refusal>
+    ensures number { number_told refusal_number result ≡ number_in device chip.old begin_read port }
+    ensures byte { byte_told result ≡ (step_in device chip.old begin_read port 0).byte }
+    ensures ended { OnOk result (chip.new ≡ run_in device chip.old (read_from port ++ cycle_end)) }
     ensures refused { OnErr result (chip.new ≡ chip.old) }
 {
-    let byte = step(chip, Event::BeginRead(address))?;
+    let byte = step(chip, Event::BeginRead(port))?;
     step(chip, Event::EndCycle)?;
     Ok(byte)
 }

@@ -5,14 +5,13 @@ use Rattle.script.proofs.answer_all.Goals as goal
 
 pub write-requires : goal.write-requires
 write-requires g c =
-    rw (c.take-answer.ensures.state)
-    (room_for_one g.S.Scripted.answerer _ _ _ c.loop-line.out _ _ _ c.loop-line.at (rw c.in-Some.ensures.steps at c.loop-line.invariant))
+    room_for_one g.S.Scripted.answerer _ _ _ c.loop-line.out _ _ _ c.loop-line.at (rw c.in-Some.ensures.steps at c.loop-line.invariant) _ c.take-answer.ensures
 
 pub loop-line-preserved : goal.loop-line-preserved
 loop-line-preserved g c =
-    rw (c.line_width-width.ensures, c.cards.ensures, c.take-answer.ensures.state)
-    (goes_on_lem g.S.Scripted.answerer _ _ _ c.loop-line.out _ _ _ c.loop-line.at (rw c.in-Some.ensures.steps at c.loop-line.invariant) _
-    (rw (c.take-answer.ensures.number, c.take-answer.ensures.byte, c.take-answer.ensures.state) at c.write.ensures))
+    rw (c.line_width-width.ensures, c.cards.ensures)
+    (goes_on_lem g.S.Scripted.answerer _ _ _ c.loop-line.out _ _ _ c.loop-line.at (rw c.in-Some.ensures.steps at c.loop-line.invariant)
+    _ c.take-answer.ensures _ c.write.ensures)
 
 pub returns-clause-output : goal.returns-clause-output
 returns-clause-output g c = arrives g.S.Scripted.answerer _ _ _ _ _ _ (rw c.in-None.ensures.steps.0 at c.loop-line.invariant)

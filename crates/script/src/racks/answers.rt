@@ -2,10 +2,8 @@
 ghost use Rattle.std.specs.Prelude.{◌≡◌};
 
 use super::frames;
-use crate::Scripted;
-use bus::refusals::FrameRefusal;
+use crate::{Answer, Scripted};
 use rack::Rack;
-use rack::refusals::RackRefusal;
 use std::marker::Model;
 use text::line::Line;
 
@@ -25,13 +23,13 @@ impl Model for Answering {
 impl Scripted for Answering {
     ghost use Rattle.script.specs.RackAnswers.{answering};
 
-    type Refusal = RackRefusal;
-
     ghost answerer = { answering };
 
-    fn take(&mut self, line: Line<'_>) -> Result<u8, FrameRefusal<RackRefusal>> {
-        let event = frames::event(line).ok_or(FrameRefusal::NoSuchKind)?;
-        Ok(self.0.step(event)?)
+    fn take(&mut self, line: Line<'_>) -> Answer {
+        match frames::event(line) {
+            Some(event) => Answer::of(self.0.step(event)),
+            None => Answer::NO_FRAME,
+        }
     }
 
     fn cards(&self) -> u8 {
