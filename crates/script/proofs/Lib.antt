@@ -1,4 +1,3 @@
-pub mod Filling
 pub mod Stores
 pub mod Levels
 pub mod Answering

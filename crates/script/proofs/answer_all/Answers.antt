@@ -14,4 +14,4 @@ loop-line-preserved g c =
     _ c.take-answer.ensures _ c.write.ensures)
 
 pub returns-clause-output : goal.returns-clause-output
-returns-clause-output g c = arrives g.S.Scripted.answerer _ _ _ _ _ _ (rw c.in-None.ensures.steps.0 at c.loop-line.invariant)
+returns-clause-output g c = arrives g.S.Scripted.answerer _ _ _ _ _ _ c.requires (rw c.in-None.ensures.steps.0 at c.loop-line.invariant)
