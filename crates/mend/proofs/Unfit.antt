@@ -1,8 +1,7 @@
 -- Why a line is unfit: which of its codes are digits once they are raised, and whether two of them are the number of a kind.
 -- Rests on bits' Tested, the bus's ByKind and text's WrittenBack.
-use Rattle.std.proofs.Common.{◌≡◌, refl, ap, sym, Bool, true, false, cond, ◌&&◌, List, [], ◌∷◌, map, ℕ, ◌≤◌, arith, eqb, leb, ltb, get_or, drop, ltb-true, ltb-false, Option, Some, None, is_some, unwrap_or}
+use Rattle.std.proofs.Common.{◌≡◌, refl, ap, sym, Bool, true, false, ◌&&◌, List, [], ◌∷◌, map, ℕ, ◌≤◌, arith, eqb, leb, ltb, get_or, drop, ltb-true, ltb-false, Option, Some, None, is_some}
 use mathlib.Core.Bool.{and-false}
-use Rattle.std.proofs.lemmas.Option.{none-some}
 use Rattle.std.proofs.lemmas.Bool.{lt-leb}
 use Rattle.std.specs.List.{list_all}
 use Rattle.std.specs.Char.{is_ascii_hexdigit}
@@ -10,11 +9,9 @@ use Rattle.bits.proofs.Tested.{bits}
 use Rattle.bus.specs.Kinds.{is_kind}
 use Rattle.bus.specs.Answers.{kind_numbered}
 use Rattle.bus.specs.declared.kinds.Kind.{Kind}
-use Rattle.bus.proofs.ByKind.{kind_back, none_back, none_above}
-use Rattle.text.specs.Digits.{digits, digit_value, no_byte, pair_value}
+use Rattle.bus.proofs.ByKind.{kind_back, none_back}
+use Rattle.text.specs.Digits.{digits, digit_value}
 use Rattle.text.specs.Lines.{Line}
-use Rattle.text.specs.Frames.{leading_byte}
-use Rattle.text.specs.Answers.{if_below}
 use Rattle.text.proofs.WrittenBack.{no_place}
 use Rattle.mend.specs.Line.{bytes_of, without_cr, small_digits, raised, mended, unfit_sign, sign_of}
 use Rattle.mend.specs.Reason.{is_digit, all_digits, why, reason_of}
@@ -49,27 +46,6 @@ kind_found n = go (kind_numbered n) refl
     go : (o : Option Kind) → o ≡ kind_numbered n → is_some o ≡ is_kind n
     go (Some k) is = sym (kind_back n k is).1
     go None is = sym (none_back n is)
-
--- Two codes are the number of a kind where they write a byte, and that is one.
-module _ (high low : ℕ) where
-  abbrev written : Option ℕ
-  written = if_below no_byte (leading_byte (high ∷ low ∷ []))
-
-  pub number_written : (n : ℕ) → Some n ≡ written → n ≡ pair_value high low
-  unfolding leading_byte
-  number_written n is = go (ltb (pair_value high low) no_byte) refl is
-    where
-      go : (t : Bool) → ltb (pair_value high low) no_byte ≡ t → Some n ≡ cond t (Some (pair_value high low)) None → n ≡ pair_value high low
-      go true t is = ap (λ o. unwrap_or o 0) is
-      go false t is = absurd (none-some n (sym is))
-
-  pub none_written : None ≡ written → is_kind (pair_value high low) ≡ false
-  unfolding leading_byte
-  none_written is = go (ltb (pair_value high low) no_byte) refl is
-    where
-      go : (t : Bool) → ltb (pair_value high low) no_byte ≡ t → None ≡ cond t (Some (pair_value high low)) None → is_kind (pair_value high low) ≡ false
-      go true t is = absurd (none-some (pair_value high low) is)
-      go false t is = none_above (pair_value high low) (omega (arith, ltb-false (pair_value high low) no_byte t))
 
 -- The reason of a line by its sign.
 module _ (l : Line) where

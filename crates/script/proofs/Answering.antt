@@ -1,6 +1,6 @@
 -- The output while a text is answered into it: each line changes it, and what it will hold at the end stays the same.
 -- Rests on Stores, Levels and Pieces.
-use Rattle.std.proofs.Common.{◌≡◌, ◌∙◌, ap, List, [], ◌∷◌, ◌++◌, ℕ, suc, ◌+◌, ◌*◌, ◌-◌, ◌≤◌, mul-suc, arith, length, take, drop, length-drop}
+use Rattle.std.proofs.Common.{◌≡◌, ◌∙◌, ap, List, [], ◌∷◌, ◌++◌, ℕ, ◌+◌, ◌*◌, ◌-◌, ◌≤◌, mul-suc, arith, length, take, drop, length-drop}
 use lib.Seq.{sets, length-sets}
 use borrow.Author.Rules.{part_to_end}
 use Rattle.bus.specs.Device.{Given}

@@ -10,7 +10,6 @@ pub mod RackNaming
 pub mod RackLeading
 pub mod RackPlacing
 pub mod RackSaid
-pub mod RackFirstLine
 pub mod RackRoom
 pub mod RackOpened
 pub mod RackEnough

@@ -1,5 +1,5 @@
 -- What stands behind the first line of a text, where that is a rack, is given to the run of one who answers scripts: what that run tells and
--- leaves is what the rack's run does. Rests on Numbers and RackFirstLine.
+-- leaves is what the rack's run does. Rests on text's LineCount and Numbers.
 use Rattle.std.proofs.Common.{◌≡◌, ◌∙◌, refl, ap, sym, List, ◌∷◌, ℕ, ◌*◌, ◌≤◌, arith, length, le-ltb, Result, Ok, Err, IsErrAnd}
 use Rattle.rack.specs.declared.Rack.{Rack}
 use Rattle.script.specs.Run as scripts
@@ -8,13 +8,13 @@ use Rattle.script.specs.declared.RunRefusal.{RunRefusal}
 use Rattle.script.specs.declared.RunRefusal.TheVariants.{TooLong, NoRoom}
 use Rattle.script.proofs.Numbers.{number_given, has_room_lem}
 use Rattle.text.specs.Lines.{Line, lines_of, line_count}
+use Rattle.text.proofs.LineCount.{no_longer}
 use Rattle.script.specs.declared.racks.Ran as counts
 use Rattle.script.specs.declared.racks.RackRunRefusal.{RackRunRefusal}
 use Rattle.script.specs.declared.racks.RackRunRefusal.TheVariants.{Run}
 use Rattle.script.specs.RackBases.{rack_of_line, rack_for, further_lines}
 use Rattle.script.specs.RackAnswers.{answering}
 use Rattle.script.specs.RackRun.{to_answer, run_number, run_refusal_number, run_told, refused_run, ran_of, output_left}
-use Rattle.script.proofs.RackFirstLine.{no_longer}
 
 -- What an error tells that was made of the refusal of a run.
 pub told_as : (r : Result counts.Ran RackRunRefusal) (why : RunRefusal) → IsErrAnd r (λ given. given ≡ Run why)

@@ -2,7 +2,6 @@ pub mod Determined
 pub mod Said
 pub mod Leading
 pub mod Written
-pub mod FirstLength
 pub mod FirstLine
 pub mod LineCount
 pub mod Pieces

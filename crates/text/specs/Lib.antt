@@ -1,6 +1,5 @@
 pub mod Digits
 pub mod Lines
-pub mod LineEnds
 pub mod Frames
 pub mod Answers
 pub mod History
