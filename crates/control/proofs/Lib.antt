@@ -8,3 +8,4 @@ pub mod ByBits
 pub mod RoleWords
 pub mod PinByMasks
 pub mod Determined
+pub mod Charted

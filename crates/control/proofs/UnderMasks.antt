@@ -4,6 +4,7 @@ use Rattle.std.proofs.Common.{◌≡◌, Bool, cond, not, ◌||◌, ℕ, ◌-◌
 use lib.Bits.{bit_and, bit_or}
 use Rattle.bits.specs.Bit.{bit_of, value_of}
 use Rattle.bits.proofs.Tested.{bits, numbers}
+use Rattle.control.specs.declared.Group.{Group}
 use Rattle.control.specs.declared.Group.TheVariants.{A, B}
 use Rattle.control.specs.Mode.{mode_of, input_of, upper_input, lower_input, strobed_input, strobed_output, output_of}
 use Rattle.control.specs.Role.{uses_of, free_role, role_of}
@@ -15,6 +16,19 @@ under mask value w = eqb (bit_and w mask) value
 
 abbrev two_or_under : ℕ → ℕ → ℕ → Bool
 two_or_under mask value w = under 0x40 0x40 w || under mask value w
+
+-- The mode of group A by two bits, of which the value 3 is mode 2 as well, and of group B by one.
+abbrev by_bits : Group → ℕ → ℕ
+by_bits A w = cond (eqb (bit_and (w / 32) 3) 0) 0 (cond (eqb (bit_and (w / 32) 3) 1) 1 2)
+by_bits B w = cond (eqb (bit_and (w / 4) 1) 0) 0 1
+
+pub a_mode_by_mask : (w : ℕ) (g : Group) → g ≡ A → w < 256 → by_bits A w ≡ mode_of w g
+unfolding mode_of
+a_mode_by_mask w g is below = rw is (numbers 256 (by_bits A) (λ w. mode_of w A) tt w below)
+
+pub b_mode_by_mask : (w : ℕ) (g : Group) → g ≡ B → w < 256 → by_bits B w ≡ mode_of w g
+unfolding mode_of
+b_mode_by_mask w g is below = rw is (numbers 256 (by_bits B) (λ w. mode_of w B) tt w below)
 
 pub a_takes_by_mask : (w : ℕ) → w < 256 → ltb 0x20 (bit_and w 0x70) ≡ strobed_input w A
 unfolding strobed_input mode_of input_of bit_of

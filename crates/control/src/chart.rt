@@ -29,6 +29,7 @@ const CHART: [[bool; 4]; 16] = [
 ];
 
 /// The chart's row for a mode word. Data sheet: Mode 0 Port Definition.
+#[tactic(auto, using(crate::proofs::Charted::index_below, crate::proofs::Charted::listed))]
 pub fn row(word: u8) -> Directions
     ensures { result ≡ directions_of word }
 {

@@ -32,6 +32,7 @@ fn handshake_role(word: u8, pin: u8) -> Role
 
 impl Role {
     /// The role of a pin of port C under a mode word; `None` for a word below 128 or a pin above 7. Data sheet: Mode Definition Summary.
+    #[tactic(auto, using(crate::proofs::PinByMasks::lookup_by_masks))]
     pub fn of(word: u8, pin: u8) -> Option<Role>
         ensures { number_told result ≡ lookup_of word pin }
     {

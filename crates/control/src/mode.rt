@@ -16,7 +16,7 @@ pub enum Mode {
 
 impl Mode {
     /// The mode that the word sets the group to. Data sheet: Mode Definition Format.
-    #[tactic(auto, unfolding(crate::specs::Mode::mode_of))]
+    #[tactic(auto, using(crate::proofs::UnderMasks::a_mode_by_mask, crate::proofs::UnderMasks::b_mode_by_mask))]
     pub fn of(word: u8, group: Group) -> Mode
         ensures { mode_number result ≡ mode_of word group }
     {
