@@ -3,4 +3,4 @@ pub mod AnsweredByRack
 pub mod CleanScript
 pub mod Explained
 pub mod Trimmed
-pub mod NamedStrays
+pub mod OneMore

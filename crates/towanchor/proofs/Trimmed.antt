@@ -1,9 +1,7 @@
 -- A word as a line, put together; and what the trim keeps of a text's words, as lines.
 -- Rests on the bus's ByKind, text's LineCount and journal's Trimming.
-use Rattle.std.proofs.Common.{◌≡◌, ◌∙◌, refl, sym, ap, Some, None, Ok, Err, Bool, true, false, not, List, [], ◌∷◌, ◌++◌, append_assoc, append-nil, ℕ, zero, suc, ◌+◌, ◌-◌, ◌*◌, ◌/◌, ◌%◌, ◌<◌, ◌≤◌, arith, length, take, take_at, get_or, replicate, le-ltb, lt-ltb}
-use mathlib.Core.List.{flat_map}
-use Rattle.std.proofs.lemmas.Grind.{flat_map-append}
-use Rattle.std.proofs.lemmas.List.{length-map, take_more}
+use Rattle.std.proofs.Common.{◌≡◌, ◌∙◌, refl, sym, ap, Some, None, Ok, Err, Bool, true, false, not, List, [], ◌∷◌, ◌++◌, append_assoc, ℕ, zero, suc, ◌-◌, ◌*◌, ◌/◌, ◌%◌, ◌<◌, ◌≤◌, arith, length, take, take_at, get_or, replicate, le-ltb, lt-ltb}
+use Rattle.std.proofs.lemmas.List.{length-map}
 use Rattle.bus.specs.Kinds.{is_kind, no_kind, operands_of}
 use Rattle.bus.specs.declared.kinds.Kind.{Kind}
 use Rattle.bus.specs.Answers.{kind_number, kind_numbered}
@@ -56,14 +54,6 @@ line_put before w =
     rw (lowest_byte (w / 65536))
     (ap (λ l. l ++ (lf ∷ [])) (append_assoc before (in_digits (w / 65536)) operands)
     ∙ append_assoc before (in_digits (w / 65536) ++ operands) (lf ∷ []))
-
--- One word more, as one line more.
-pub one_more : (ws : List ℕ) (i d : ℕ) → i < length ws → word_lines (take (i + 1) ws) ≡ word_lines (take i ws) ++ word_line (get_or ws i d)
-unfolding flat_map
-one_more ws i d inside =
-    ap word_lines (take_more ws i d inside)
-    ∙ flat_map-append word_line (take i ws) (get_or ws i d ∷ [])
-    ∙ ap (λ l. word_lines (take i ws) ++ l) (append-nil (word_line (get_or ws i d)))
 
 -- A text that is too long is refused.
 pub long_refused : (text : List ℕ) → 4096 < length text → (refusal_text too_long_number ≡ printed_trimmed text) × (true ≡ refuses_trimming text)

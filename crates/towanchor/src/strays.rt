@@ -42,7 +42,7 @@ fn strays_of(alloc: Global, text: &[u8]) -> Result<Vec<usize>, AllocError>
 }
 
 // Lines by their numbers.
-#[tactic(auto, using(crate::proofs::NamedStrays::one_more))]
+#[tactic(auto, using(crate::proofs::OneMore::none, crate::proofs::OneMore::one_more))]
 fn named(alloc: Global, numbers: &[usize]) -> Result<String, AllocError>
     ensures { IfOk result (λ said. string_bytes said ≡ named numbers.now) }
 {

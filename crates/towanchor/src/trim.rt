@@ -46,6 +46,7 @@ fn put_byte(out: &mut Vec<u8>, byte: u8) -> Result<(), AllocError>
 }
 
 // How many operands a kind has. A kind that there is not has none.
+#[tactic(auto, using(crate::proofs::Trimmed::operands_told, crate::proofs::Trimmed::no_operands))]
 fn operands_of(kind: u16) -> u8
     ensures { result ≡ operands_of kind }
 {
@@ -83,7 +84,7 @@ fn put_line(out: &mut Vec<u8>, word: u32) -> Result<(), AllocError>
 }
 
 // Some words as lines.
-#[tactic(auto, using(crate::proofs::Trimmed::one_more))]
+#[tactic(auto, using(crate::proofs::OneMore::none, crate::proofs::OneMore::one_more))]
 fn lines(alloc: Global, words: &[u32]) -> Result<Vec<u8>, AllocError>
     ensures { IfOk result (λ out. out.items ≡ word_lines words.now) }
 {
