@@ -12,14 +12,10 @@ pub mod WritesAfter
 pub mod LevelsAfter
 pub mod ByReason
 pub mod ByMode
-pub mod LinesByMasks
+pub mod LinesInForce
 pub mod Strobed
 pub mod Ends
 pub mod Outcome
 pub mod Editions
-pub mod OneSideOfB
-pub mod OwnCycle
-pub mod Requests
-pub mod StatusByRequests
 pub mod Fallen
 pub mod NoneWaits

@@ -10,8 +10,8 @@ pub mod Read
 pub mod Write
 pub mod Levels
 pub mod Status
-pub mod Requests
 pub mod Reasons
 pub mod Reads
 pub mod Pins
+pub mod InForce
 pub mod Step

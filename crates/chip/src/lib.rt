@@ -11,6 +11,7 @@ pub mod cycles;
 mod device;
 pub mod handshakes;
 pub mod holder;
+mod in_force;
 pub mod outside;
 pub mod pins;
 pub mod reads;

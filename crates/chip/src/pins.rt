@@ -1,13 +1,14 @@
 //! What the processor reads of a port, and what the outside sees of it.
 ghost use Rattle.std.specs.Prelude.{◌≡◌};
 ghost use Rattle.chip.specs.State.{port_of};
+ghost use Rattle.chip.specs.InForce.{half_of};
 ghost use Rattle.chip.specs.Reads.{read_port, read_lines, read_control, read_of};
 ghost use Rattle.chip.specs.Pins.{drives_port, pins_of_port, pins_of_lines, pins_of};
 
 use super::channel::Side;
 use super::handshakes::{ACK_A, LINE_B, STB_A};
 use super::holder::Holder;
-use super::status::status;
+use super::in_force::in_force;
 use super::{CONTROL, PORT_A, PORT_B, PORT_C};
 use bus::Pins;
 use control::mode::Mode;
@@ -18,6 +19,11 @@ const MODE_BIT: u8 = 7;
 
 // Of the handshakes' pins on port C those that the chip drives: all but STB and ACK.
 const SIGNALS: u8 = !(1 << STB_A | 1 << ACK_A | 1 << LINE_B);
+
+// The halves of port C, each with a direction of its own.
+const UPPER_HALF: u8 = 0xf0;
+
+const LOWER_HALF: u8 = 0x0f;
 
 #[tactic(auto, unfolding(crate::specs::Reads::read_port))]
 pub(super) fn read_port<Home, H: Holder<Home>>(holder: &H, group: Group) -> u8
@@ -72,15 +78,29 @@ fn read_control(word: u8) -> u8
     bits::with_bit(word, MODE_BIT, true)
 }
 
-// Port C, all pins at once: the status word on the pins of the handshakes, the latch on free outputs, the levels elsewhere.
+// Levels of port C with one half as it is where no handshake has a pin: an input has what is outside there, and an output is left as it is.
 #[inline(always)]
-#[tactic(auto, using(crate::proofs::LinesByMasks::lines_by_masks))]
+fn half<Home, H: Holder<Home>>(holder: &H, input: bool, pins: u8, levels: u8) -> u8
+    ensures { result ≡ half_of (H.chip holder.now) input pins levels }
+{
+    if input {
+        bits::blend(pins, holder.outside_c(), levels)
+    } else {
+        levels
+    }
+}
+
+// Port C, all pins at once: what the handshakes tell on their pins; elsewhere an input half has what is outside, and an output half the latch.
+#[inline(always)]
+#[tactic(auto, using(crate::proofs::LinesInForce::lines_in_force))]
 fn read_lines<Home, H: Holder<Home>>(holder: &H) -> u8
     ensures { result ≡ read_lines (H.chip holder.now) }
 {
-    let word = holder.word();
-    let free = bits::blend(roles::outputs(word), holder.latch_c(), holder.outside_c());
-    bits::blend(roles::handshake(word), status(holder), free)
+    let handshakes = in_force(holder);
+    let inputs = mode::directions(holder.word());
+    let upper = half(holder, inputs.upper, UPPER_HALF, holder.latch_c());
+    let free = half(holder, inputs.lower, LOWER_HALF, upper);
+    bits::blend(handshakes.pins, handshakes.told, free)
 }
 
 /// What a read at the address answers: one of the ports A, B and C, or control, and 00 where there is neither.
@@ -99,14 +119,13 @@ pub fn read<Home, H: Holder<Home>>(holder: &H, address: u8) -> u8
 }
 
 // Port C: its free outputs and the signals of its handshakes are driven.
-#[tactic(auto, using(crate::proofs::LinesByMasks::pins_by_masks))]
+#[tactic(auto, using(crate::proofs::LinesInForce::pins_in_force))]
 fn pins_of_lines<Home, H: Holder<Home>>(holder: &H) -> Pins
     ensures { result ≡ pins_of_lines (H.chip holder.now) }
 {
-    let word = holder.word();
-    let used = roles::handshake(word);
-    let driven = bits::blend(used, SIGNALS, roles::outputs(word));
-    let shown = bits::blend(used, status(holder), holder.latch_c());
+    let handshakes = in_force(holder);
+    let driven = bits::blend(handshakes.pins, SIGNALS, roles::outputs(holder.word()));
+    let shown = bits::blend(handshakes.pins, handshakes.told, holder.latch_c());
     Pins {
         levels: bits::blend(driven, shown, holder.outside_c()),
         driven,

@@ -1,17 +1,13 @@
-//! The interrupt requests and the status word: what port C tells of both handshakes.
+//! The interrupt requests and the status word.
 ghost use Rattle.std.specs.Prelude.{◌≡◌};
-ghost use Rattle.chip.specs.Status.{flag_at, flag_of_b, status_of};
-ghost use Rattle.chip.specs.Requests.{flags_and_enables_of, own_cycle_of, requests_of};
+ghost use Rattle.chip.specs.Status.{flag_at, flag_of_b, intr_of, status_of};
+ghost use Rattle.chip.specs.InForce.{asks_of};
 
 use super::channel::Side;
-use super::handshakes::{ACK_A, LINE_B, STB_A};
+use super::handshakes::{line_pin, strobes};
 use super::holder::Holder;
 use super::settings::side_of_b;
-use bus::Phase;
-use control::{Group, roles};
-
-// The lines of group A's two channels.
-const LINES_OF_A: u8 = 1 << STB_A | 1 << ACK_A;
+use control::Group;
 
 // IBF or OBF of the channel.
 pub(super) fn flag<Home, H: Holder<Home>>(holder: &H, group: Group, side: Side) -> bool
@@ -20,8 +16,28 @@ pub(super) fn flag<Home, H: Holder<Home>>(holder: &H, group: Group, side: Side) 
     holder.channel(group, side).fill.flag(side)
 }
 
-// Group B's flag: its two channels share the pin.
+// Whether the channel, if it is strobed, asks for an interrupt.
 #[inline(always)]
+pub(super) fn asks<Home, H: Holder<Home>>(holder: &H, group: Group, side: Side) -> bool
+    ensures { result ≡ asks_of (H.chip holder.now) group side }
+{
+    holder.enables().enables(group, side)
+        && flag(holder, group, side)
+        && bits::bit(holder.outside_c(), line_pin(group, side))
+        && !holder.runs(group, side)
+}
+
+// INTR of the group: a strobed channel of it asks.
+#[tactic(auto, unfolding(crate::specs::Status::request_of, crate::specs::Status::intr_of))]
+fn intr<Home, H: Holder<Home>>(holder: &H, group: Group) -> bool
+    ensures { result ≡ intr_of (H.chip holder.now) group }
+{
+    let word = holder.word();
+    strobes(word, group, Side::Input) && asks(holder, group, Side::Input)
+        || strobes(word, group, Side::Output) && asks(holder, group, Side::Output)
+}
+
+// Group B's flag: its two channels share the pin.
 fn flag_of_b<Home, H: Holder<Home>>(holder: &H) -> bool
     ensures { result ≡ flag_of_b (H.chip holder.now).core }
 {
@@ -31,11 +47,11 @@ fn flag_of_b<Home, H: Holder<Home>>(holder: &H) -> bool
     }
 }
 
-// The status word with both INTR low. An enable stands on the pin of its channel's line.
-#[inline(always)]
-#[tactic(auto, unfolding(crate::specs::Requests::flags_and_enables_of))]
-fn flags_and_enables<Home, H: Holder<Home>>(holder: &H) -> u8
-    ensures { result ≡ flags_and_enables_of (H.chip holder.now).core }
+/// The status word, whole: every flag, enable and request on the pin of port C that tells it where a handshake has that pin. Data sheet: Reading
+/// Port C Status.
+#[tactic(auto, unfolding(crate::specs::Status::status_of))]
+pub fn status<Home, H: Holder<Home>>(holder: &H) -> u8
+    ensures { result ≡ status_of (H.chip holder.now) }
 {
     let enables = holder.enables();
     bits::byte(
@@ -43,58 +59,9 @@ fn flags_and_enables<Home, H: Holder<Home>>(holder: &H) -> u8
         enables.output,
         flag(holder, Group::A, Side::Input),
         enables.input,
-        false,
+        intr(holder, Group::A),
         enables.b,
         flag_of_b(holder),
-        false,
+        intr(holder, Group::B),
     )
-}
-
-// A one on the pin of the line whose channel's own cycle runs. Of group B the side is asked that its flag belongs to. There is one at most.
-#[inline(always)]
-#[tactic(auto, using(crate::proofs::OwnCycle::none_runs), unfolding(crate::specs::Requests::own_cycle_of))]
-fn own_cycle<Home, H: Holder<Home>>(holder: &H) -> u8
-    ensures { result ≡ own_cycle_of (H.chip holder.now) }
-{
-    if let Phase::Idle = holder.phase() {
-        0
-    } else if holder.runs(Group::A, Side::Input) {
-        1 << STB_A
-    } else if holder.runs(Group::A, Side::Output) {
-        1 << ACK_A
-    } else if holder.runs(Group::B, side_of_b(holder.word())) {
-        1 << LINE_B
-    } else {
-        0
-    }
-}
-
-// The channels that ask for an interrupt, each on the pin of its line: a handshake has the pin, the enable is set, the flag is up, the line is at
-// rest, and the channel's own cycle does not run. All are asked at once, for which the flags of group A go down by one pin and that of B up by one.
-// Whose cycle runs is looked at only where that matters.
-#[inline(always)]
-#[tactic(auto, using(crate::proofs::Requests::none_asks, crate::proofs::Requests::requests_by_masks))]
-fn requests<Home, H: Holder<Home>>(holder: &H, flags_and_enables: u8) -> u8
-    requires { flags_and_enables ≡ flags_and_enables_of (H.chip holder.now).core }
-    ensures { result ≡ requests_of (H.chip holder.now) }
-{
-    let flags = (flags_and_enables >> 1) & LINES_OF_A | (flags_and_enables << 1) & (1 << LINE_B);
-    let asking = roles::handshake(holder.word()) & flags_and_enables & flags & holder.outside_c();
-    if asking == 0 {
-        return 0;
-    }
-    asking & !own_cycle(holder)
-}
-
-/// The status word: every flag, enable and request on the pin of port C that tells it. Data sheet: Reading Port C Status.
-#[inline(always)]
-#[tactic(auto, using(crate::proofs::StatusByRequests::with_requests))]
-pub fn status<Home, H: Holder<Home>>(holder: &H) -> u8
-    ensures { result ≡ status_of (H.chip holder.now) }
-{
-    let flags_and_enables = flags_and_enables(holder);
-    let requests = requests(holder, flags_and_enables);
-    let intr_a = requests & LINES_OF_A != 0;
-    let intr_b = bits::bit(requests, LINE_B);
-    flags_and_enables | bits::byte(false, false, false, false, intr_a, false, false, intr_b)
 }
