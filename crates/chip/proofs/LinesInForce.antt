@@ -1,6 +1,6 @@
 -- Port C put together from what the handshakes in force have of it is port C pin by pin ("Reads and pins").
 -- Rests on bits' laws of bytes and masks, and on control's PinByMasks and ByBits.
-use Rattle.std.proofs.Common.{◌≡◌, ◌∙◌, refl, ap, ap₂, sym, Bool, true, false, cond, not, ◌&&◌, ◌||◌, List, [], ◌∷◌, ℕ, zero, suc, ◌<◌, arith, eqb, get_or}
+use Rattle.std.proofs.Common.{◌≡◌, ◌∙◌, refl, ap, ap₂, sym, Bool, true, false, cond, not, ◌&&◌, ◌||◌, [], ℕ, zero, suc, ◌<◌, arith, eqb}
 use mathlib.Core.Bool.{or-false, and-false, and-true, and_assoc}
 use lib.Bits.{bit_or}
 use Rattle.bits.specs.Bit.{bit_of, value_of, assembled, blend_of}
@@ -18,7 +18,7 @@ use Rattle.chip.specs.declared.channel.Side.{Side}
 use Rattle.chip.specs.declared.channel.Side.TheVariants.{Input, Output}
 use Rattle.chip.specs.declared.Chip.{Chip}
 use Rattle.chip.specs.declared.in_force.Handshake.{Handshake}
-use Rattle.chip.specs.Handshakes.{strobed, line_pin, enable_of, running}
+use Rattle.chip.specs.Handshakes.{strobed}
 use Rattle.chip.specs.Status.{flag_at, request_of, intr_of}
 use Rattle.chip.specs.Reads.{read_as, read_lines}
 use Rattle.chip.specs.Pins.{is_driven, level_as, pins_of_lines}
@@ -73,11 +73,12 @@ module _ (part : Handshake → ℕ) (parts : (one other : Handshake) → part (j
   unfolding in_force
   channels_at = both (of_group c A) (of_group c B) ∙ rw (group_at A, group_at B)
 
+-- A request is that of a strobed channel.
 request_asked : (c : Chip) (g : Group) (s : Side) → request_of c g s ≡ (strobed c.core.word g s && asks_of c g s)
 unfolding request_of
 request_asked c g s = simp and_assoc
 
--- What a strobed channel tells stands on its pins alone.
+-- What is told on condition, where the same is asked again.
 masked : (on told else : Bool) → cond on (on && told) else ≡ cond on told else
 masked true told else = refl
 masked false told else = refl
@@ -92,6 +93,7 @@ one_of_b told true true else = or-false (told true)
 one_of_b told true false else = refl
 one_of_b told false taking else = refl
 
+-- The two halves, and a blend by its bits.
 lower_half : (n : ℕ) → n < 8 → bit_of 0x0f n ≡ in_lower_half n
 unfolding bit_of
 lower_half = bits 8 (bit_of 0x0f) in_lower_half tt
@@ -113,7 +115,7 @@ unfolding bit_of
 driven_in_handshake true = bits 8 (λ n. is_driven (handshake_role true n)) (bit_of driven_pins) tt
 driven_in_handshake false = bits 8 (λ n. is_driven (handshake_role false n)) (bit_of driven_pins) tt
 
--- A pin in the role r that a handshake gives it, or in that of its half. Where it is free it is driven as an output.
+-- A pin in the role r that a handshake gives it, or free, in that of its half. A free pin is driven where it is an output.
 abbrev taken : Bool → Role → Bool → Role
 taken used r half = cond used r (cond half input output)
 
