@@ -1,51 +1,74 @@
--- Operations on the bits of numbers work on each byte by itself.
--- Rests on Zeros.
-use Rattle.std.proofs.Common.{◌≡◌, ◌∙◌, ap, ap₂, sym, List, [], ◌∷◌, ℕ, ◌+◌, ◌*◌, ◌/◌, ◌%◌, ◌^◌, ◌<◌, lt_of_le_of_lt, arith, length}
-use lib.Bits.{bit_and, bit_or, and_le_l, and_mod, or_mod, and_shr, or_shr, or_lt}
-use lib.Lanes.{zip2}
-use Rattle.image.specs.Good.{Bytes}
-use Rattle.image.proofs.Zeros.{value}
+-- Numbers that are judged as one, byte by byte: what differs from another number is joined with the number that much above it, and masked.
+-- Rests on bits' Tested.
+use Rattle.std.proofs.Common.{◌≡◌, Bool, true, not, ◌&&◌, ◌||◌, ℕ, ◌+◌, ◌*◌, ◌/◌, ◌%◌, ◌^◌, ◌<◌, lt_of_le_of_lt, lit<, arith, T, eqb, ltb, eqb→eq}
+use Rattle.std.proofs.Math.Nat.{mul_assoc}
+use lib.Bits.{bit_and, bit_or, bit_xor, and_block, or_block, xor_block, or_lt, xor_lt, and_le_r}
+use Rattle.std.proofs.lemmas.Bool.Decides.{nat_tests}
+use Rattle.bits.proofs.Tested.{left as first, right as second, all, each, same, same_is}
 
--- The lowest byte, with what stands above it.
-pub lowest_first : (b v : ℕ) → b + 256 * v ≡ v * 2 ^ 8 + b
-lowest_first b v = omega arith
+-- What is left of a number, with what is carried to it from below.
+abbrev pub left : (n other above mask carry : ℕ) → ℕ
+left n other above mask carry = bit_and (bit_or (bit_xor n other) (bit_xor n other + above + carry)) mask
 
-module _ (op : ℕ → ℕ → ℕ) (none : op 0 0 ≡ 0)
-    (block : (k a b r s : ℕ) → r < 2 ^ k → s < 2 ^ k → op (a * 2 ^ k + r) (b * 2 ^ k + s) ≡ op a b * 2 ^ k + op r s) where
-  pub byte_by_byte : (xs ys : List ℕ) → length xs ≡ length ys → Bytes xs → Bytes ys → op (value xs) (value ys) ≡ value (zip2 op xs ys)
-  byte_by_byte [] [] same fits fit = none
-  byte_by_byte [] (y ∷ ys) same fits fit = absurd (omega (arith, same))
-  byte_by_byte (x ∷ xs) [] same fits fit = absurd (omega (arith, same))
-  byte_by_byte (x ∷ xs) (y ∷ ys) same fits fit =
-      ap₂ op (lowest_first x (value xs)) (lowest_first y (value ys))
-      ∙ block 8 (value xs) (value ys) x y fits.0 fit.0
-      ∙ sym (lowest_first (op x y) (op (value xs) (value ys)))
-      ∙ ap (λ (v : ℕ). op x y + 256 * v) (byte_by_byte xs ys (omega (arith, same)) fits.1 fit.1)
+-- The same of a byte, to which nothing is carried.
+abbrev byte_left : (b other above mask : ℕ) → ℕ
+byte_left b other above mask = bit_and (bit_or (bit_xor b other) ((bit_xor b other + above) % 256)) mask
 
--- What they make of bytes are bytes.
-pub joined : (xs ys : List ℕ) → Bytes xs → Bytes ys → Bytes (zip2 bit_or xs ys)
-joined [] ys fits fit = tt
-joined (x ∷ xs) [] fits fit = tt
-joined (x ∷ xs) (y ∷ ys) fits fit = (or_lt 8 x y fits.0 fit.0, joined xs ys fits.1 fit.1)
+-- Nothing is left of a byte exactly where it fits, and then it carries nothing: by a test at every byte.
+pub record ToldByByte (other above mask : ℕ) (fits : ℕ → Bool) : Type 0 where
+  pub small : T (ltb other 256 && ltb mask 256)
+  pub told : T (all 256 (λ b. same (eqb (byte_left b other above mask) 0) (fits b)))
+  pub carries : T (all 256 (λ b. not (fits b) || eqb ((bit_xor b other + above) / 256) 0))
 
-pub masked : (xs ys : List ℕ) → Bytes xs → Bytes (zip2 bit_and xs ys)
-masked [] ys fits = tt
-masked (x ∷ xs) [] fits = tt
-masked (x ∷ xs) (y ∷ ys) fits = (lt_of_le_of_lt (and_le_l x y) fits.0, masked xs ys fits.1)
+-- What is left of a number is a multiple exactly where its lowest bytes fit, and tells then what is left of those above them.
+pub record Number (n other above mask multiple : ℕ) (fits : Bool) (upper : ℕ) : Type 0 where
+  pub all_fit : fits ≡ true → left n other above mask 0 ≡ multiple * upper
+  pub none_left : (m : ℕ) → left n other above mask 0 ≡ multiple * m → fits ≡ true
 
--- The lowest byte and the third of two numbers that are joined and masked.
-pub lowest : (x y m : ℕ) → bit_and (bit_or x y) m % 256 ≡ bit_and (bit_or (x % 256) (y % 256)) (m % 256)
-lowest x y m = and_mod (bit_or x y) m 8 ∙ ap (λ (n : ℕ). bit_and n (m % 256)) (or_mod x y 8)
+-- An operation on bits works on the lowest byte by itself.
+lowest_apart : (op : ℕ → ℕ → ℕ) → ((k a b r s : ℕ) → r < 2 ^ k → s < 2 ^ k → op (a * 2 ^ k + r) (b * 2 ^ k + s) ≡ op a b * 2 ^ k + op r s)
+    → (a b m n : ℕ) → a < 256 → b < 256 → op (a + 256 * m) (b + 256 * n) ≡ op a b + 256 * op m n
+lowest_apart op block a b m n a_below b_below = grind (arith, block 8 m n a b a_below b_below)
 
-pub third : (x y m : ℕ) → bit_and (bit_or x y) m / 2 ^ 16 % 256 ≡ bit_and (bit_or (x / 2 ^ 16 % 256) (y / 2 ^ 16 % 256)) (m / 2 ^ 16 % 256)
-third x y m =
-    ap (λ (n : ℕ). n % 256) (and_shr (bit_or x y) m 16 ∙ ap (λ (n : ℕ). bit_and n (m / 2 ^ 16)) (or_shr x y 16))
-    ∙ lowest (x / 2 ^ 16) (y / 2 ^ 16) (m / 2 ^ 16)
+module _ {other above mask : ℕ} {fits : ℕ → Bool} (asked : ToldByByte other above mask fits) (b : ℕ) (below : b < 256)
+    {n others aboves masks multiple upper : ℕ} {rest : Bool} (number : Number n others aboves masks multiple rest upper) where
+  abbrev whole : ℕ
+  whole = left (b + 256 * n) (other + 256 * others) (above + 256 * aboves) (mask + 256 * masks) 0
 
--- Eight bytes as one number are the lowest six and the highest two.
-module _ (a b c d e f g h : ℕ) (fits : Bytes (a ∷ b ∷ c ∷ d ∷ e ∷ f ∷ g ∷ h ∷ [])) where
-  pub six : value (a ∷ b ∷ c ∷ d ∷ e ∷ f ∷ g ∷ h ∷ []) % 2 ^ 48 ≡ value (a ∷ b ∷ c ∷ d ∷ e ∷ f ∷ [])
-  six = omega (arith, fits.0, fits.1.0, fits.1.1.0, fits.1.1.1.0, fits.1.1.1.1.0, fits.1.1.1.1.1.0)
+  abbrev lower : ℕ
+  lower = byte_left b other above mask
 
-  pub two : value (a ∷ b ∷ c ∷ d ∷ e ∷ f ∷ g ∷ h ∷ []) / 2 ^ 48 ≡ g + 256 * h
-  two = omega (arith, fits.0, fits.1.0, fits.1.1.0, fits.1.1.1.0, fits.1.1.1.1.0, fits.1.1.1.1.1.0)
+  abbrev carry : ℕ
+  carry = (bit_xor b other + above) / 256
+
+  mask_below : mask < 256
+  mask_below = lit< (second (ltb other 256) (ltb mask 256) asked.small)
+
+  apart : whole ≡ lower + 256 * left n others aboves masks carry
+  apart =
+      let x = bit_xor b other in
+      let y = bit_xor n others in
+      let sum = (x + above) % 256 in
+      let other_below : other < 256 = lit< (first (ltb other 256) (ltb mask 256) asked.small) in
+      let x_below : x < 256 = xor_lt 8 b other below other_below in
+      let sum_below : sum < 256 = omega arith in
+      grind (
+        arith,
+        lowest_apart bit_xor xor_block b other n others below other_below,
+        lowest_apart bit_or or_block x sum y (y + aboves + carry) x_below sum_below,
+        lowest_apart bit_and and_block (bit_or x sum) mask (bit_or y (y + aboves + carry)) masks (or_lt 8 x sum x_below sum_below) mask_below,
+      )
+
+  told : eqb lower 0 ≡ fits b
+  told = same_is (eqb lower 0) (fits b) (each 256 (λ b. same (eqb (byte_left b other above mask) 0) (fits b)) asked.told b below)
+
+  none_carried : fits b ≡ true → carry ≡ 0
+  none_carried is = eqb→eq carry 0 (rw is at (each 256 (λ b. not (fits b) || eqb ((bit_xor b other + above) / 256) 0) asked.carries b below))
+
+  pub with_lowest : Number (b + 256 * n) (other + 256 * others) (above + 256 * aboves) (mask + 256 * masks) (256 * multiple) (fits b && rest) upper
+  with_lowest = record {
+    all_fit = λ is. grind (arith, nat_tests, apart, told, none_carried, number.all_fit, mul_assoc 256 multiple upper);
+    none_left = λ m is.
+        let small : lower < 256 = lt_of_le_of_lt (and_le_r (bit_or (bit_xor b other) ((bit_xor b other + above) % 256)) mask) mask_below in
+        grind (arith, nat_tests, apart, told, none_carried, number.none_left m, mul_assoc 256 multiple m, small);
+  }

@@ -1,6 +1,7 @@
 -- A state that has an image comes back from it.
 -- Rests on bits' Logic.
-use Rattle.std.proofs.Common.{◌≡◌, refl, ap, Bool, true, false, ◌&&◌, ℕ, ◌+◌, ◌*◌, ◌/◌, ◌%◌, ◌<◌, arith, ltb-true, lt-ltb, le-ltb}
+use Rattle.std.proofs.Common.{◌≡◌, refl, true, ◌&&◌, ℕ, ◌+◌, ◌*◌, ◌/◌, ◌%◌, arith}
+use Rattle.std.proofs.lemmas.Bool.Decides.{nat_tests}
 use Rattle.bits.specs.Bit.{bit_of, value_of}
 use Rattle.bits.proofs.Logic.{both}
 use Rattle.bus.specs.declared.Phase.{Phase}
@@ -12,10 +13,9 @@ use Rattle.chip.specs.declared.Enables.{Enables}
 use Rattle.chip.specs.declared.Edition.{Edition}
 use Rattle.chip.specs.declared.Edition.TheVariants.{Older, Newer}
 use Rattle.chip.specs.declared.Chip.{Chip}
-use Rattle.image.specs.Places as places
 use Rattle.image.specs.Layout.{tally_bytes, fill_byte, enables_byte, bus_byte, written_byte, edition_byte, image_of}
 use Rattle.image.specs.Loaded.{tally_at, fill_as, enables_as, phase_as, edition_as, state_of}
-use Rattle.image.specs.Good.{can_be_read, names_its_place, has_image}
+use Rattle.image.specs.Good.{names_its_place, has_image}
 
 -- A tally from its two bytes.
 two_bytes : (n : ℕ) → n % 256 + 256 * (n / 256) ≡ n
@@ -26,20 +26,11 @@ fill_back Empty = refl
 fill_back Waiting = refl
 fill_back Fetching = refl
 
--- Only addresses can be read.
-an_address : (ed : Edition) (p : ℕ) → can_be_read ed p ≡ true → p < 4
-an_address Older p can = omega (arith, ltb-true p 3 can)
-an_address Newer p can = ltb-true p 4 can
-
 pub phase_back : (ed : Edition) (ph : Phase) → names_its_place ed ph ≡ true → phase_as (bus_byte ph) (written_byte ph) ≡ ph
 phase_back ed Idle names = refl
-phase_back ed (Reading p) names =
-    let below = an_address ed p names in
-    rw (lt-ltb p 4 below, lt-ltb p places.writes below) (ap Reading (omega (arith, below)))
-phase_back ed (Writing a d) names =
-    let below = ltb-true a 4 names in
-    rw (names, le-ltb (places.writes + a) places.writes (omega arith), lt-ltb (places.writes + a) places.idle (omega (arith, below)))
-    (ap (λ (x : ℕ). Writing x d) (omega (arith, below)))
+phase_back Older (Reading p) names = grind (arith, nat_tests)
+phase_back Newer (Reading p) names = grind (arith, nat_tests)
+phase_back ed (Writing a d) names = grind (arith, nat_tests)
 
 edition_back : (ed : Edition) → edition_as (edition_byte ed) ≡ ed
 edition_back Older = refl
@@ -47,18 +38,7 @@ edition_back Newer = refl
 
 pub enables_back : (e : Enables) → enables_as (enables_byte e) ≡ e
 unfolding bit_of value_of
-enables_back e = go e.input e.output e.b
-  where
-    go : (i o b : Bool)
-        → enables_as (enables_byte (record { input = i; output = o; b = b })) ≡ record { input = i; output = o; b = b }
-    go true true true = refl
-    go true true false = refl
-    go true false true = refl
-    go true false false = refl
-    go false true true = refl
-    go false true false = refl
-    go false false true = refl
-    go false false false = refl
+enables_back e = grind (arith, nat_tests)
 
 -- A channel, of which every layout has the condition, the latch and five tallies; of the other two it is asked what they are told as.
 pub channel_back : (ch : Channel) (planted struck : ℕ) → planted ≡ ch.tally.planted → struck ≡ ch.tally.struck →

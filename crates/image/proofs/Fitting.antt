@@ -1,8 +1,8 @@
 -- The bytes of a state are an image exactly where the state has one.
--- Rests on ComesBack and Zeros.
-use Rattle.std.proofs.Common.{◌≡◌, ◌∙◌, refl, ap, sym, Bool, true, false, cond, not, ◌&&◌, ℕ, ◌+◌, arith, eqb, ltb, eqb-true, ltb-true, ltb-false, lt-ltb, le-ltb, eq-eqb, ne_eqb}
-use mathlib.Core.Bool.{and-true, and-false}
-use borrow.Author.Tests.{eqb-false}
+-- Rests on ComesBack.
+use Rattle.std.proofs.Common.{◌≡◌, ◌∙◌, refl, ap, sym, Bool, true, false, ◌&&◌, arith, eq-eqb}
+use Rattle.std.proofs.lemmas.Bool.Decides.{nat_tests}
+use mathlib.Core.Bool.{and-true}
 use Rattle.bits.specs.Bit.{bit_of}
 use Rattle.bus.specs.declared.Phase.{Phase}
 use Rattle.bus.specs.declared.Phase.TheVariants.{Idle, Reading, Writing}
@@ -16,51 +16,20 @@ use Rattle.chip.specs.declared.Edition.{Edition}
 use Rattle.chip.specs.declared.Edition.TheVariants.{Older, Newer}
 use Rattle.chip.specs.declared.Core.{Core}
 use Rattle.chip.specs.declared.Chip.{Chip}
-use Rattle.chip.specs.Addresses.{control}
 use Rattle.chip.specs.Handshakes.{strobed}
-use Rattle.image.specs.Places as places
 use Rattle.image.specs.Layout.{fill_byte, enables_byte, bus_byte, written_byte, core_bytes, edition_byte, image_of}
 use Rattle.image.specs.Loaded.{byte_at}
-use Rattle.image.specs.Good.{can_be_read, names_its_place, allowed, allowed_at, has_image, cycle_fits, edition_fits, enables_fit, fill_fits, core_fits, is_image}
-use Rattle.image.proofs.Zeros.{and_assoc}
+use Rattle.image.specs.Good.{names_its_place, allowed, allowed_at, has_image, cycle_fits, edition_fits, enables_fit, fill_fits, core_fits, is_image}
+use Rattle.std.proofs.Math.Bool.{and_assoc}
 use Rattle.image.proofs.ComesBack.{enables_back}
 
--- What can be read are the addresses, but for control in the older edition.
-not_control : (p : ℕ) (below : Bool) → ltb p 4 ≡ below → (below && not (eqb p control)) ≡ ltb p 3
-not_control p true is = go (eqb p control) refl
-  where
-    go : (b : Bool) → eqb p control ≡ b → not b ≡ ltb p 3
-    go true at = sym (le-ltb p 3 (omega (arith, eqb-true p control at)))
-    go false other = sym (lt-ltb p 3 (omega (arith, ltb-true p 4 is, eqb-false p control other)))
-not_control p false is = sym (le-ltb p 3 (omega (arith, ltb-false p 4 is)))
-
-read_where : (ed : Edition) (p : ℕ) → (ltb p 4 && not (eqb (edition_byte ed) places.older && eqb p control)) ≡ can_be_read ed p
-read_where Older p = not_control p (ltb p 4) refl
-read_where Newer p = and-true (ltb p 4)
-
-read_fits : (edition p : ℕ) (b : Bool) → ltb p 4 ≡ b
-    → cycle_fits edition (cond b p places.nowhere) 0 ≡ (b && not (eqb edition places.older && eqb p control))
-read_fits edition p true is =
-    let below = ltb-true p 4 is in
-    rw (le-ltb places.idle p (omega (arith, below)), is) (and-true (not (eqb edition places.older && eqb p control)))
-read_fits edition p false is = refl
-
-write_fits : (edition a d : ℕ) (b : Bool) → ltb a 4 ≡ b → cycle_fits edition (cond b (places.writes + a) places.nowhere) d ≡ b
-write_fits edition a d true is =
-    let below = ltb-true a 4 is in
-    rw (
-      le-ltb places.idle (places.writes + a) (omega (arith, below)),
-      ne_eqb (places.writes + a) control (λ e. omega (arith, e)),
-      and-false (eqb edition places.older),
-      le-ltb (places.writes + a) places.writes (omega arith),
-      lt-ltb (places.writes + a) places.idle (omega (arith, below)),
-    )
-write_fits edition a d false is = refl
-
 cycle_fits_lem : (ed : Edition) (ph : Phase) → cycle_fits (edition_byte ed) (bus_byte ph) (written_byte ph) ≡ names_its_place ed ph
-cycle_fits_lem ed Idle = rw (and-false (eqb (edition_byte ed) places.older))
-cycle_fits_lem ed (Reading p) = read_fits (edition_byte ed) p (ltb p 4) refl ∙ read_where ed p
-cycle_fits_lem ed (Writing a d) = write_fits (edition_byte ed) a d (ltb a 4) refl
+cycle_fits_lem Older Idle = refl
+cycle_fits_lem Newer Idle = refl
+cycle_fits_lem Older (Reading p) = grind (arith, nat_tests)
+cycle_fits_lem Newer (Reading p) = grind (arith, nat_tests)
+cycle_fits_lem Older (Writing a d) = grind (arith, nat_tests)
+cycle_fits_lem Newer (Writing a d) = grind (arith, nat_tests)
 
 edition_fits_lem : (ed : Edition) → edition_fits (edition_byte ed) ≡ true
 edition_fits_lem Older = refl

@@ -1,10 +1,7 @@
 pub mod Copied
-pub mod Cycle
 pub mod Zeros
 pub mod ByByte
-pub mod Left
-pub mod SixBytes
-pub mod Together
+pub mod Judged
 pub mod Running
 pub mod Long
 pub mod ComesBack

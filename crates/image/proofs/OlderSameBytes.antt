@@ -1,8 +1,9 @@
 -- An older image is that of the state that it tells, byte for byte.
 -- Rests on bits' Logic, and on SameBytes and OlderLong.
-use Rattle.std.proofs.Common.{◌≡◌, ◌∙◌, refl, sym, true, ◌&&◌, List, [], ◌∷◌, ◌++◌, ℕ, zero, suc, ◌-◌, ◌<◌, arith, eqb, ltb, length, eqb-true, ne_eqb}
+use Rattle.std.proofs.Common.{◌≡◌, ◌∙◌, true, ◌&&◌, List, [], ◌∷◌, ◌++◌, ℕ, ◌-◌, arith, eqb, length}
+use Rattle.std.proofs.lemmas.Bool.Decides.{nat_tests}
 use Rattle.bits.specs.Table.{from}
-use Rattle.bits.proofs.Logic.{contrary, both}
+use Rattle.bits.proofs.Logic.{both}
 use Rattle.image.specs.Layout.{written_byte}
 use Rattle.image.specs.Loaded.{byte_at}
 use Rattle.image.specs.Good.{core_fits, Bytes}
@@ -18,22 +19,17 @@ abbrev bus_again : ℕ → ℕ → ℕ → List ℕ
 bus_again bus place byte =
     bus_byte (phase_as bus place byte) ∷ address_byte (phase_as bus place byte) ∷ written_byte (phase_as bus place byte) ∷ []
 
-no_bus : (bus place byte : ℕ) → 2 < bus → ¬ (cycle_fits bus place byte ≡ true)
-no_bus bus place byte h =
-    let zero : ¬ (bus ≡ 0) = λ e. omega (arith, h, e) in
-    let one : ¬ (bus ≡ 1) = λ e. omega (arith, h, e) in
-    let two : ¬ (bus ≡ 2) = λ e. omega (arith, h, e) in
-    contrary (cycle_fits bus place byte) (rw (ne_eqb bus 0 zero, ne_eqb bus 1 one, ne_eqb bus 2 two))
+same_lower : (bus place byte : ℕ) → cycle_fits bus place byte ≡ true → bus_byte (phase_as bus place byte) ≡ bus
+same_lower bus place byte fits = grind (arith, nat_tests)
+
+same_place : (bus place byte : ℕ) → cycle_fits bus place byte ≡ true → address_byte (phase_as bus place byte) ≡ place
+same_place bus place byte fits = grind (arith, nat_tests)
+
+same_upper : (bus place byte : ℕ) → cycle_fits bus place byte ≡ true → written_byte (phase_as bus place byte) ≡ byte
+same_upper bus place byte fits = grind (arith, nat_tests)
 
 same_bus : (bus place byte : ℕ) → cycle_fits bus place byte ≡ true → bus_again bus place byte ≡ bus ∷ place ∷ byte ∷ []
-same_bus zero place byte fits =
-    let is = both (eqb place 0) (eqb byte 0) fits in
-    λ i. 0 ∷ sym (eqb-true place 0 is.0) i ∷ sym (eqb-true byte 0 is.1) i ∷ []
-same_bus (suc zero) place byte fits =
-    let is = both (ltb place 3) (eqb byte 0) fits in
-    λ i. 1 ∷ place ∷ sym (eqb-true byte 0 is.1) i ∷ []
-same_bus (suc (suc zero)) place byte fits = refl
-same_bus (suc (suc (suc bus))) place byte fits = absurd (no_bus (suc (suc (suc bus))) place byte (omega arith) fits)
+same_bus bus place byte fits = λ i. same_lower bus place byte fits i ∷ same_place bus place byte fits i ∷ same_upper bus place byte fits i ∷ []
 
 pub same_bytes_lem : (l : List ℕ) → Bytes l → is_older l ≡ true → older_of (older_state l) ≡ l
 unfolding older_of older_state is_older

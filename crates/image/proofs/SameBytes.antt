@@ -1,8 +1,7 @@
 -- An image is the image of the state that it tells, byte for byte.
--- Rests on Cycle and Long, and on bits' Logic and Tabled.
-use Rattle.std.proofs.Common.{◌≡◌, ◌∙◌, refl, ap, sym, Bool, true, false, ◌&&◌, List, [], ◌∷◌, ◌++◌, ℕ, zero, suc, ◌+◌, ◌-◌, ◌*◌, ◌/◌, ◌%◌, ◌<◌, arith, w8, Fits, eqb, ltb, length, ext_get_or, eqb-true, ltb-true, ltb-false}
-use borrow.Author.Tests.{not-true}
-use Rattle.bits.specs.Bit.{bit_of}
+-- Rests on Long, and on bits' Logic and Tabled.
+use Rattle.std.proofs.Common.{◌≡◌, ◌∙◌, refl, ap, sym, Bool, true, false, ◌&&◌, List, [], ◌∷◌, ◌++◌, ℕ, zero, suc, ◌+◌, ◌-◌, ◌*◌, ◌/◌, ◌%◌, ◌<◌, arith, w8, Fits, eqb, length, ext_get_or, eqb-true}
+use Rattle.std.proofs.lemmas.Bool.Decides.{nat_tests}
 use Rattle.bits.specs.Table.{from}
 use Rattle.bits.proofs.Logic.{both}
 use Rattle.bits.proofs.Tabled.{table_at}
@@ -12,11 +11,10 @@ use Rattle.chip.specs.declared.channel.Side.TheVariants.{Input, Output}
 use Rattle.chip.specs.declared.channel.Tally.{Tally}
 use Rattle.chip.specs.Handshakes.{strobed}
 use Rattle.image.specs.Places as places
-use Rattle.image.specs.Layout.{fill_byte, enables_byte, port_bytes, edition_byte, image_of}
-use Rattle.image.specs.Loaded.{byte_at, fill_as, enables_as, core_by, channel_tally, edition_as, state_of}
-use Rattle.image.specs.Good.{cycle_fits, edition_fits, enables_fit, fill_fits, channel_fits, fills_fit, core_fits, all_zero, unused_zero, end_fits, bytes_fit, is_image, Told, Bytes}
+use Rattle.image.specs.Layout.{fill_byte, enables_byte, port_bytes, bus_byte, written_byte, edition_byte, image_of}
+use Rattle.image.specs.Loaded.{byte_at, fill_as, enables_as, core_by, channel_tally, phase_as, edition_as, state_of}
+use Rattle.image.specs.Good.{cycle_fits, edition_fits, enables_fit, fill_fits, channel_fits, core_fits, all_zero, unused_zero, end_fits, bytes_fit, is_image, Told, Bytes}
 use Rattle.image.proofs.Long.{is_long}
-use Rattle.image.proofs.Cycle.{same_bus}
 
 length_from : (f : ℕ → ℕ) (i n : ℕ) → length (from f i n) ≡ n
 length_from f i zero = refl
@@ -54,19 +52,19 @@ module _ (f : ℕ → ℕ) (below : (i : ℕ) → f i < 256) where
   same_pairs i (suc n) = λ j. low (f i) (f (suc i)) (below i) j ∷ high (f i) (f (suc i)) (below i) j ∷ same_pairs (suc (suc i)) n j
 
 same_fill : (on : Bool) (s : Side) (b : ℕ) → fill_fits on s b ≡ true → fill_byte (fill_as b) ≡ b
-same_fill on s zero fits = refl
-same_fill on s (suc zero) fits = refl
-same_fill on s (suc (suc zero)) fits = refl
-same_fill true Input (suc (suc (suc b))) fits = absurd (omega (arith, ltb-true (suc (suc (suc b))) 3 fits))
-same_fill true Output (suc (suc (suc b))) fits = absurd (omega (arith, ltb-true (suc (suc (suc b))) 2 fits))
-same_fill false Input (suc (suc (suc b))) fits = absurd (omega (arith, ltb-true (suc (suc (suc b))) 1 fits))
-same_fill false Output (suc (suc (suc b))) fits = absurd (omega (arith, ltb-true (suc (suc (suc b))) 1 fits))
+same_fill true Input b fits = grind (arith, nat_tests)
+same_fill true Output b fits = grind (arith, nat_tests)
+same_fill false Input b fits = grind (arith, nat_tests)
+same_fill false Output b fits = grind (arith, nat_tests)
+
+same_bus : (edition bus byte : ℕ) → cycle_fits edition bus byte ≡ true → bus_byte (phase_as bus byte) ≡ bus
+same_bus edition bus byte fits = grind (arith, nat_tests)
+
+same_written : (edition bus byte : ℕ) → cycle_fits edition bus byte ≡ true → written_byte (phase_as bus byte) ≡ byte
+same_written edition bus byte fits = grind (arith, nat_tests)
 
 same_edition : (b : ℕ) → edition_fits b ≡ true → edition_byte (edition_as b) ≡ b
-same_edition zero fits = refl
-same_edition (suc zero) fits = refl
-same_edition (suc (suc b)) fits =
-    absurd (omega (arith, ltb-false places.newer (suc (suc b)) (not-true (ltb places.newer (suc (suc b))) fits)))
+same_edition b fits = grind (arith, nat_tests)
 
 -- As many zeros as there are bytes.
 abbrev pub zeros : List ℕ → List ℕ
@@ -88,17 +86,13 @@ record Parts (byte : ℕ → ℕ) : Type 0 where
   enables : enables_fit (byte places.enables) ≡ true
 
 parts : (byte : ℕ → ℕ) → core_fits byte ≡ true → Parts byte
-parts byte fits =
-    let set = bit_of (byte places.word) 7 in
-    let a = channel_fits byte A Input 0 in
-    let b = channel_fits byte A Output 1 in
-    let c = channel_fits byte B Input 2 in
-    let d = channel_fits byte B Output 3 in
-    let to_enables = both (set && fills_fit byte) (enables_fit (byte places.enables)) fits in
-    let three = both (a && b && c) d (both set (fills_fit byte) to_enables.0).1 in
-    let two = both (a && b) c three.0 in
-    let one = both a b two.0 in
-    record { a_input = one.0; a_output = one.1; b_input = two.1; b_output = three.1; enables = to_enables.1 }
+parts byte fits = record {
+  a_input = grind (arith, nat_tests);
+  a_output = grind (arith, nat_tests);
+  b_input = grind (arith, nat_tests);
+  b_output = grind (arith, nat_tests);
+  enables = grind (arith, nat_tests);
+}
 
 -- Those fourteen bytes, by the byte at each place, whatever the tallies are.
 pub same_core : (byte : ℕ → ℕ) (tally : ℕ → Tally) → core_fits byte ≡ true
@@ -122,14 +116,15 @@ unfolding image_of state_of is_image
 same_bytes_lem l bytes good =
     let fits = both (end_fits l) (core_fits (byte_at l)) (both (eqb (length l) places.length) (bytes_fit l) good).1 in
     let edition = byte_at l places.edition in
-    let cycle = cycle_fits edition (byte_at l places.bus) (byte_at l places.written) in
+    let bus = byte_at l places.bus in
+    let written = byte_at l places.written in
+    let cycle = cycle_fits edition bus written in
     let end = both cycle (edition_fits edition && unused_zero l) fits.0 in
     let behind = both (edition_fits edition) (unused_zero l) end.1 in
-    let bus = same_bus edition (byte_at l places.bus) (byte_at l places.written) end.0 in
     (λ i.
     same_pairs (byte_at l) (small l bytes) places.tallies 28 i
     ++ same_core (byte_at l) (channel_tally l) fits.1 i
-    ++ (bus.0 i ∷ bus.1 i ∷ same_edition edition behind.0 i ∷ [])
+    ++ (same_bus edition bus written end.0 i ∷ same_written edition bus written end.0 i ∷ same_edition edition behind.0 i ∷ [])
     ++ same_zeros (from (byte_at l) places.unused (places.length - places.unused)) behind.1 i)
     ∙ spelled l places.length (is_long l good)
 

@@ -1,5 +1,6 @@
-//! Whether bytes are the image of a state.
-ghost use Rattle.std.specs.Prelude.{◌≡◌, ◌+◌, ◌/◌, ◌%◌, ◌^◌, ◌<◌, ◌&&◌, true, eqb, ltb};
+//! Whether bytes are the image of a state. The eight bytes from the conditions to the bus are judged together, as one number, by bits that must be as
+//! in a chip at rest. The mode word tells which these are.
+ghost use Rattle.std.specs.Prelude.{◌≡◌, ◌+◌, ◌/◌, ◌%◌, ◌^◌, ◌<◌, ◌&&◌, ltb};
 ghost use Rattle.std.specs.Int.RustNames.{bit_xor};
 ghost use Rattle.image.specs.Places as places;
 ghost use Rattle.image.specs.Loaded.{byte_at, wide_at, eight_at};
@@ -9,50 +10,52 @@ ghost use Rattle.image.specs.Masks.{masks_of};
 use super::places::{CONDITIONS, EDITION, IDLE, LENGTH, NEWER, OLDER, WORD, WRITES};
 use chip::CONTROL;
 
-// Above all that the byte of the edition can be.
-const BEYOND_THE_EDITION: u64 = NEWER as u64 + 1;
+// The number of these bytes in a chip at rest: its channels are empty, of the mode word bit 7 alone is set, and nothing runs on the bus.
+const AT_REST: u64 = (IDLE as u64) << 48 | 0x80 << 32;
 
-// The eight bytes from the conditions on are judged as one number: the conditions, the mode word, the enables and the bus. A test of each took
-// four times the instructions. First the bits are turned that are set in an image on an idle bus: bit 7 of the word, and that of IDLE.
-const TURNED: u64 = (IDLE as u64) << 48 | 0x80 << 32;
-
-// Then the condition of each input is joined by `|` with the next number: 0, 1 and 2 become 1, 3 and 3, and all others have a bit above these.
+// The condition of an input is joined by `|` with the next number: 0, 1 and 2 become 1, 3 and 3, and any other has a bit above these.
 const NEXT_OF_INPUTS: u64 = 0x1_0001;
 
-// Then these bits are left, which are 0 where all fits. There is a row for each way that the bytes of group A go, and in it a number for each of
-// group B's, by bits 2 and 1 of the mode word. From its highest byte on a number has all bits of the bus; the five of the enables that are not
-// used; bit 7 of the word; and of the conditions B out, B in, A out and A in. Of an output 0xff leaves the first condition alone and 0xfe the first
-// two; of an input 0xfe leaves the first alone and 0xfc all three.
-const NO_HANDSHAKE: [u64; 4] = [
-    0xffff_ab80_fffe_fffe,
-    0xffff_ab80_fffe_fffe,
-    0xffff_ab80_fefe_fffe,
-    0xffff_ab80_fffc_fffe,
-];
+// The bits that must be as at rest where the word strobes no channel. From the highest byte on: all of the bus; the five of the enables that are not
+// used; bit 7 of the word; and of the conditions, B out, B in, A out and A in, all but bit 0 of an input, for 0 becomes 1 there.
+const FIXED: u64 = 0xffff_ab80_fffe_fffe;
+
+// The bit besides that may differ in the condition of a channel that the word strobes: an output may be 1, and an input 1 or 2, which become 3.
+const A_IN: u64 = 0x02;
+
+const A_OUT: u64 = 0x01 << 8;
+
+const B_IN: u64 = 0x02 << 16;
+
+const B_OUT: u64 = 0x01 << 24;
+
+// A row for each way that the bytes of group A go, and in it a number for each way of group B: none, twice, for an output and an input in mode 0;
+// out; and in.
+const NO_HANDSHAKE: [u64; 4] = [FIXED, FIXED, FIXED & !B_OUT, FIXED & !B_IN];
 
 const OUTPUT: [u64; 4] = [
-    0xffff_ab80_fffe_fefe,
-    0xffff_ab80_fffe_fefe,
-    0xffff_ab80_fefe_fefe,
-    0xffff_ab80_fffc_fefe,
+    FIXED & !A_OUT,
+    FIXED & !A_OUT,
+    FIXED & !(A_OUT | B_OUT),
+    FIXED & !(A_OUT | B_IN),
 ];
 
 const INPUT: [u64; 4] = [
-    0xffff_ab80_fffe_fffc,
-    0xffff_ab80_fffe_fffc,
-    0xffff_ab80_fefe_fffc,
-    0xffff_ab80_fffc_fffc,
+    FIXED & !A_IN,
+    FIXED & !A_IN,
+    FIXED & !(A_IN | B_OUT),
+    FIXED & !(A_IN | B_IN),
 ];
 
 const BOTH_WAYS: [u64; 4] = [
-    0xffff_ab80_fffe_fefc,
-    0xffff_ab80_fffe_fefc,
-    0xffff_ab80_fefe_fefc,
-    0xffff_ab80_fffc_fefc,
+    FIXED & !(A_IN | A_OUT),
+    FIXED & !(A_IN | A_OUT),
+    FIXED & !(A_IN | A_OUT | B_OUT),
+    FIXED & !(A_IN | A_OUT | B_IN),
 ];
 
-// The rows by bits 6 to 3 of the mode word: the mode and the direction of group A, and the direction of upper C, which says nothing here. As a
-// static they are read from memory in any build.
+// The rows by bits 6 to 3 of the mode word: the mode and the direction of group A, and the direction of upper C, which says nothing here. A static
+// is read from memory in any build.
 static MASKS: [[u64; 4]; 16] = [
     NO_HANDSHAKE,
     NO_HANDSHAKE,
@@ -72,10 +75,7 @@ static MASKS: [[u64; 4]; 16] = [
     BOTH_WAYS,
 ];
 
-// In the two bytes of the bus as one number: the address, and the byte that is written.
-const ADDRESS_AND_BYTE: u64 = 0xff03;
-
-// The number of the eight bytes from a place on.
+// The number of the eight bytes from a place on, the lowest first.
 fn eight(image: &[u8; LENGTH], at: usize) -> u64
     requires { at + 7 < places.length }
     ensures { result ≡ eight_at image.now at }
@@ -96,63 +96,59 @@ fn eight(image: &[u8; LENGTH], at: usize) -> u64
 fn masks(word: u8) -> u64
     ensures { result ≡ masks_of word }
 {
-    MASKS.as_flattened()[((word >> 1) & 0x3f) as usize]
+    MASKS.as_flattened()[(word >> 1 & 0x3f) as usize]
 }
 
-// The bits that are not as in an image on an idle bus. Where the core fits, there are none in the lowest six bytes, and the highest two are the
-// bus, turned.
-#[tactic(auto, using(crate::proofs::Together::core_judged, crate::proofs::Together::bus_judged))]
+// The bits that are not as in an image on an idle bus. The rotation puts those of the bus lowest. Above them stands what is wrong in the core: if it
+// fits, nothing.
+#[tactic(auto, using(crate::proofs::Judged::core_lowest, crate::proofs::Judged::bus_lowest))]
 fn wrong_bits(image: &[u8; LENGTH]) -> u64
-    ensures core { eqb (result % 2 ^ 48) 0 ≡ core_fits (byte_at image.now) }
-    ensures bus { core_fits (byte_at image.now) ≡ true → result / 2 ^ 48 ≡ bit_xor (wide_at image.now places.bus) places.idle }
+    ensures core { ltb result (2 ^ 16) ≡ core_fits (byte_at image.now) }
+    ensures bus { result < 2 ^ 16 → result ≡ bit_xor (wide_at image.now places.bus) places.idle }
 {
     let masks = masks(image[WORD]);
-    let turned = eight(image, CONDITIONS) ^ TURNED;
-    (turned | turned.wrapping_add(NEXT_OF_INPUTS)) & masks
+    let differing = eight(image, CONDITIONS) ^ AT_REST;
+    let wrong = (differing | differing.wrapping_add(NEXT_OF_INPUTS)) & masks;
+    wrong.rotate_left(16)
 }
 
-// Whether the number is that of a bus on which a write runs. A number of more than two bytes is none's.
+// Whether the number is that of a bus on which a write runs. The two lowest bits are the address, and the upper byte is what is written.
 #[tactic(auto, using(crate::proofs::Running::write_asked))]
 fn writes(bus: u64) -> bool
     ensures { result ≡ (ltb bus (2 ^ 16) && writes (bus % 256)) }
 {
-    bus & !ADDRESS_AND_BYTE == WRITES as u64
+    bus < 0x1_0000 && bus & 0xfc == WRITES as u64
 }
 
-// Whether the number is that of a bus that fits. The edition is read here, and not before the call, since only a read of control needs it.
-fn cycle(image: &[u8; LENGTH], bus: u64) -> bool
-    ensures { result ≡ (ltb bus (2 ^ 16) && cycle_fits (byte_at image.now places.edition) (bus % 256) (bus / 256)) }
+// Whether the number is that of a bus that fits. The edition is lent, so that it is looked at for a read of control alone.
+fn cycle_fits(edition: &u8, bus: u64) -> bool
+    ensures { result ≡ (ltb bus (2 ^ 16) && cycle_fits edition.now (bus % 256) (bus / 256)) }
 {
     bus == IDLE as u64
         || bus < CONTROL as u64
         || writes(bus)
-        || bus == CONTROL as u64 && image[EDITION] != OLDER
+        || bus == CONTROL as u64 && *edition != OLDER
 }
 
-// Mostly nothing is wrong, and the bus is idle. Otherwise the bus is taken lowest and turned back: what is wrong in the core stands above it,
-// and then the number is no bus's.
-fn core_and_cycle(image: &[u8; LENGTH]) -> bool
-    ensures { result ≡ (core_fits (byte_at image.now) && cycle_fits (byte_at image.now places.edition) (byte_at image.now places.bus) (byte_at image.now places.written)) }
-{
-    let wrong = wrong_bits(image);
-    wrong == 0 || cycle(image, wrong.rotate_left(16) ^ IDLE as u64)
-}
-
-// The edition, and what is not used behind it, which is 0. Of eight bytes as one number the edition is the lowest, and that number is below 2
-// where the edition is and the other seven are 0.
-#[tactic(auto, using(crate::proofs::Zeros::all_fit))]
-fn behind(image: &[u8; LENGTH]) -> bool
+// The edition, and what is not used behind it, which is 0: eight bytes of which the edition is the lowest, and sixteen.
+#[tactic(auto, using(crate::proofs::Zeros::all_fit, crate::proofs::Zeros::up_to_newer))]
+fn rest_fits(image: &[u8; LENGTH]) -> bool
     ensures { result ≡ (edition_fits (byte_at image.now places.edition) && unused_zero image.now) }
 {
-    eight(image, EDITION) < BEYOND_THE_EDITION
-        && (eight(image, EDITION + 8) == 0) & (eight(image, EDITION + 16) == 0)
+    eight(image, EDITION) <= NEWER as u64
+        && (eight(image, EDITION + 8) | eight(image, EDITION + 16)) == 0
 }
 
-#[tactic(auto, using(crate::proofs::Running::in_parts))]
+// Mostly nothing is wrong: the core fits, and the bus is idle. Otherwise the bus is made of the bits in which it differs from an idle one; where the
+// core does not fit, that number is no bus's.
 fn fits(image: &[u8; LENGTH]) -> bool
     ensures { result ≡ bytes_fit image.now }
 {
-    core_and_cycle(image) && behind(image)
+    let wrong = wrong_bits(image);
+    if wrong == 0 {
+        return rest_fits(image);
+    }
+    cycle_fits(&image[EDITION], wrong ^ IDLE as u64) && rest_fits(image)
 }
 
 /// Whether the bytes are the image of a state. Those of another length are none.
