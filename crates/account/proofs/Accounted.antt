@@ -49,7 +49,7 @@ module _ (c : Chip) (a : Account) (k : Agrees c a) where
 -- Over a history. The 8355 has an induction of its own: `run` and `over` are other functions there, and no fold that both share.
 pub agrees_over : (es : List Event) (c : Chip) (a : Account) → Agrees c a → Agrees (run c es) (over a es)
 agrees_over [] c a k = k
-agrees_over (e ∷ es) c a k = agrees_over es (stepped c e).chip (account_next a e) (agrees_next c a e k)
+agrees_over (e ∷ es) c a k = agrees_over es (stepped c e).state (account_next a e) (agrees_next c a e k)
 
 pub accounted : (c : Chip) (a : Account) (es : List Event) → Agrees c a → Accounted c a es
 accounted c a es start =

@@ -38,10 +38,10 @@ pub record Agrees (c : Chip) (a : Account) : Type 0 where
   pub even : Even a
 
 -- The surroundings, with bit 7 of the word counted as set.
-here_next : (c : Chip) (e : Event) → surroundings_here (stepped c e).chip ≡ surroundings_next (surroundings_here c) e
+here_next : (c : Chip) (e : Event) → surroundings_here (stepped c e).state ≡ surroundings_next (surroundings_here c) e
 here_next c e = ap seven (surroundings_next_lem c e) ∙ seven_next (surroundings_of c) e
 
-pub agrees_next : (c : Chip) (a : Account) (e : Event) → Agrees c a → Agrees (stepped c e).chip (account_next a e)
+pub agrees_next : (c : Chip) (a : Account) (e : Event) → Agrees c a → Agrees (stepped c e).state (account_next a e)
 agrees_next c a e k = record {
   surroundings = rw k.surroundings (sym (here_next c e));
   bit = λ n hn. rw (k.surroundings, k.bit n hn) (bit_next c n hn e);

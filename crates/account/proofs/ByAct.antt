@@ -75,7 +75,7 @@ module _ (P : Core → Act → Type 0) (c : Chip) (shown : CoreAfterEachAct P c.
       (λ k none ok. absurd (no_kind_accepted c.edition c.phase k x d none ok))
       k
 
-  pub by_act : (e : Event) → P (stepped c e).chip.core (act (surroundings_of c) e)
+  pub by_act : (e : Event) → P (stepped c e).state.core (act (surroundings_of c) e)
   by_act e =
       by_outcome (λ c' ok. P c'.core (cond ok (act_of c.phase (kind_of e)) nothing)) c e
       (accepted_act e.kind e.first e.second) shown.at_rest

@@ -17,10 +17,10 @@ use Rattle.account.proofs.Accounted.{number_told_lem, byte_told_lem}
 line_is : (c : Chip) (a : Account) (e : Event) → Agrees c a → line_after (by_device device pins_of) (given_in device c e) ≡ line_by a e
 unfolding step_of levels_from
 line_is c a e k =
-    let levels = levels_shown_lem (stepped c e).chip (account_next a e) (agrees_next c a e k) in
+    let levels = levels_shown_lem (stepped c e).state (account_next a e) (agrees_next c a e k) in
     cc (number_told_lem c a k e, byte_told_lem c a k e, levels 0, levels 1, levels 2)
 
 pub lines_are : (es : List Event) (c : Chip) (a : Account) → Agrees c a → answers_to device pins_of c es ≡ lines_by a es
 unfolding step_of
 lines_are [] c a k = refl
-lines_are (e ∷ es) c a k = cc (line_is c a e k, lines_are es (stepped c e).chip (account_next a e) (agrees_next c a e k))
+lines_are (e ∷ es) c a k = cc (line_is c a e k, lines_are es (stepped c e).state (account_next a e) (agrees_next c a e k))

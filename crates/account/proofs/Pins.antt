@@ -137,7 +137,7 @@ module _ (c : Chip) (n : ℕ) (hn : n < 8) where
       })
       w hn refl)
 
-  pub bit_next : (e : Event) → Goes (stepped c e).chip.core (bit_after (surroundings_here c) n now (act (surroundings_here c) e))
+  pub bit_next : (e : Event) → Goes (stepped c e).state.core (bit_after (surroundings_here c) n now (act (surroundings_here c) e))
   bit_next =
       by_act (λ c' t. Goes c' (bit_after (surroundings_here c) n now t)) c (record {
         at_rest = refl;

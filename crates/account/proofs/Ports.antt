@@ -78,7 +78,7 @@ module _ (c : Chip) (g : Group) where
   storing d g p = stored_by p w g d
 
   pub output_next : (e : Event)
-      → (channel_of (stepped c e).chip.core g Output).latch ≡ output_after (surroundings_here c) g (channel_of core g Output).latch (act (surroundings_here c) e)
+      → (channel_of (stepped c e).state.core g Output).latch ≡ output_after (surroundings_here c) g (channel_of core g Output).latch (act (surroundings_here c) e)
   unfolding stored_by
   output_next =
       by_act (λ c' t. (channel_of c' g Output).latch ≡ output_after (surroundings_here c) g (channel_of core g Output).latch t) c (record {
@@ -95,7 +95,7 @@ module _ (c : Chip) (g : Group) where
       })
 
   pub obf_next : (e : Event)
-      → vacant (channel_of (stepped c e).chip.core g Output) ≡ obf_after (surroundings_here c) g (vacant (channel_of core g Output)) (act (surroundings_here c) e)
+      → vacant (channel_of (stepped c e).state.core g Output) ≡ obf_after (surroundings_here c) g (vacant (channel_of core g Output)) (act (surroundings_here c) e)
   unfolding stored_by fallen
   obf_next =
       by_act (λ c' t. vacant (channel_of c' g Output) ≡ obf_after (surroundings_here c) g (vacant (channel_of core g Output)) t) c (record {
@@ -114,7 +114,7 @@ module _ (c : Chip) (g : Group) where
       })
 
   pub input_next : (e : Event)
-      → (channel_of (stepped c e).chip.core g Input).latch ≡ input_after (surroundings_here c) g (channel_of core g Input).latch (act (surroundings_here c) e)
+      → (channel_of (stepped c e).state.core g Input).latch ≡ input_after (surroundings_here c) g (channel_of core g Input).latch (act (surroundings_here c) e)
   unfolding stored_by fallen
   input_next =
       by_act (λ c' t. (channel_of c' g Input).latch ≡ input_after (surroundings_here c) g (channel_of core g Input).latch t) c (record {
@@ -133,7 +133,7 @@ module _ (c : Chip) (g : Group) where
       })
 
   pub ibf_next : (e : Event)
-      → full (channel_of (stepped c e).chip.core g Input)
+      → full (channel_of (stepped c e).state.core g Input)
       ≡ ibf_after (surroundings_here c) g (full (channel_of core g Input)) (given (channel_of core g Input)) (act (surroundings_here c) e)
   unfolding stored_by fallen
   ibf_next =
@@ -154,7 +154,7 @@ module _ (c : Chip) (g : Group) where
 
   -- Event by event the channel is the one that `ibf_next` finds. What follows of it is by other laws, and no row can be left out.
   pub given_next : (e : Event)
-      → given (channel_of (stepped c e).chip.core g Input)
+      → given (channel_of (stepped c e).state.core g Input)
       ≡ given_after (surroundings_here c) g (full (channel_of core g Input)) (given (channel_of core g Input)) (act (surroundings_here c) e)
   unfolding stored_by fallen
   given_next =

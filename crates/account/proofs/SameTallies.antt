@@ -80,7 +80,7 @@ counts_by_waiting Fetching Fetching d t same = refl
 
 -- The tallies after one event, by what the account has around the chip.
 counted_by : (c : Chip) (a : Account) → Agrees c a → (g : Group) (s : Side) (e : Event)
-    → tally_of (stepped c e).chip g s ≡ tally_after s (channel_of c.core g s).fill (shape_of (effect g s a.surroundings e)) (tally_of c g s)
+    → tally_of (stepped c e).state g s ≡ tally_after s (channel_of c.core g s).fill (shape_of (effect g s a.surroundings e)) (tally_of c g s)
 counted_by c a k g s e =
     (follows c g s e).tally
     ∙ ap (λ ch. ch.tally) (moved_so s (channel_of c.core g s) (effect g s (surroundings_of c) e))
@@ -98,7 +98,7 @@ module _ (g : Group) where
 
   -- After an event, and over a history.
   same_next : (s : Side) (c c' : Chip) (a : Account) → Agrees c a → Agrees c' a → (e : Event) → tally_of c g s ≡ tally_of c' g s
-      → tally_of (stepped c e).chip g s ≡ tally_of (stepped c' e).chip g s
+      → tally_of (stepped c e).state g s ≡ tally_of (stepped c' e).state g s
   same_next s c c' a k k' e same =
       let d = shape_of (effect g s a.surroundings e) in
       counted_by c a k g s e
@@ -110,4 +110,4 @@ module _ (g : Group) where
       → tally_of (run c es) g s ≡ tally_of (run c' es) g s
   same_tallies s [] c c' a k k' same = same
   same_tallies s (e ∷ es) c c' a k k' same =
-      same_tallies s es (stepped c e).chip (stepped c' e).chip (account_next a e) (agrees_next c a e k) (agrees_next c' a e k') (same_next s c c' a k k' e same)
+      same_tallies s es (stepped c e).state (stepped c' e).state (account_next a e) (agrees_next c a e k) (agrees_next c' a e k') (same_next s c c' a k k' e same)

@@ -1,6 +1,6 @@
 -- A contract determines what comes of a call: two outcomes that it allows are equal. It is said of what Rattle makes of a function, its
 -- signature `ended` and `Reads.Learnt`, what its clauses tell a caller, and of no copy of these: a weaker clause breaks it. Rests on nothing.
-use Rattle.std.proofs.Common.{◌≡◌, ◌∙◌, refl, ap, ap₂, sym}
+use Rattle.std.proofs.Common.{◌≡◌, ◌∙◌, ap, ap₂, sym}
 use contract.Lifetimes.{Lfts}
 use denote.Triple.Entry.{Args, Res}
 use denote.Triple.Clauses.{Ended, Lasts, AtExit, at_exit}
@@ -39,12 +39,3 @@ equation_determines {rest} p q = ap (λ r. (r, rest)) (p ∙ sym q)
 pub equations_determine : {R F L : Type 0} {r s answer : R} {f g left : F} {rest : L}
     → (r ≡ answer) × (f ≡ left) → (s ≡ answer) × (g ≡ left) → ◌≡◌ {A = R × (F × L)} (r, (f, rest)) (s, (g, rest))
 equations_determine {rest} p q = ap₂ (λ r f. (r, (f, rest))) (p.0 ∙ sym q.0) (p.1 ∙ sym q.1)
-
--- And where it says what the result is, what the first parameter tells at exit, and that it is whole then if it was whole before: of two that
--- are whole and tell the same a law says that they are equal.
-pub whole_determines : {R F T L : Type 0} {Whole : F → Type 0} {told : F → T} {r s answer : R} {before f g : F} {left : T} {rest : L}
-    → ((f g : F) → Whole f → Whole g → told f ≡ told g → f ≡ g) → Whole before
-    → (r ≡ answer) × ((told f ≡ left) × (Whole before → Whole f)) → (s ≡ answer) × ((told g ≡ left) × (Whole before → Whole g))
-    → ◌≡◌ {A = R × (F × L)} (r, (f, rest)) (s, (g, rest))
-whole_determines {f} {g} law whole p q =
-    equations_determine (p.0 ∙ sym q.0, law f g (p.1.1 whole) (q.1.1 whole) (p.1.0 ∙ sym q.1.0)) (refl, refl)

@@ -1,8 +1,9 @@
 -- The contract of each public function of the bus leaves no choice. Those of `judge` and of the steps say the number and the byte that an answer
 -- tells, and no two answers tell the same. Rests on bits' Determined.
-use Rattle.std.proofs.Common.{◌≡◌, ◌∙◌, refl, ap, ap₂, cond, ℕ, eqb, Result, Ok, Err}
+use Rattle.std.proofs.Common.{◌≡◌, ◌∙◌, refl, ap, cond, ℕ, eqb, Result, Ok, Err}
 use Rattle.bits.proofs.Determined.{Determines, equation_determines, equations_determine}
-use Rattle.bus.specs.Answers.{refusal_number, frame_number, number_told, byte_told}
+use Rattle.bus.specs.Device.{Given}
+use Rattle.bus.specs.Answers.{refusal_number, frame_number, number_told, byte_told, given_by}
 use Rattle.bus.specs.declared.refusals.Refusal.{Refusal}
 use Rattle.bus.specs.declared.refusals.Refusal.TheVariants.{OutOfRange, NotReadable, CycleRuns, NoCycleRuns}
 use Rattle.bus.specs.declared.refusals.FrameRefusal.{FrameRefusal}
@@ -42,6 +43,12 @@ frame_told_so (Err (Event NotReadable)) = refl
 frame_told_so (Err (Event CycleRuns)) = refl
 frame_told_so (Err (Event NoCycleRuns)) = refl
 
+-- What is given tells the answer and the state, if each answer is told by its number and its byte.
+pub given_so
+    : {S R : Type 0} (n : R → ℕ) (refusal : ℕ → R) → ((r : Result ℕ R) → r ≡ answer_of refusal (number_told n r) (byte_told r))
+    → {r : Result ℕ R} {s : S} {o : Given S} → given_by n s r ≡ o → (r ≡ answer_of refusal o.number o.byte) × (s ≡ o.state)
+given_so n refusal told {r = r} p = (told r ∙ ap (λ o. answer_of refusal o.number o.byte) p, ap (λ o. o.state) p)
+
 pub kind_numbered_determined : Determines bus_says.kinds.Kind.numbered.ended bus.kinds.Kind.numbered.Reads.Learnt
 kind_numbered_determined c x y = equation_determines
 
@@ -78,17 +85,11 @@ judge_determined c x y p q =
     (judged_so y.0 ∙ ap (λ n. answer_of refusal_of n tt) q)
 
 pub step_determined : (D : _) (lD : _) (G : _) (t : _) → Determines (bus_says.devices.step.ended D G t) (bus.devices.step.Reads.Learnt D lD G t)
-step_determined D lD G t c x y p q =
-    equations_determine
-    (told_so x.0 ∙ ap₂ (answer_of refusal_of) p.1.0 p.1.1, p.0)
-    (told_so y.0 ∙ ap₂ (answer_of refusal_of) q.1.0 q.1.1, q.0)
+step_determined D lD G t c x y p q = equations_determine (given_so _ refusal_of told_so p) (given_so _ refusal_of told_so q)
 
 pub step_numbers_determined
     : (D : _) (lD : _) (G : _) (t : _) → Determines (bus_says.devices.step_numbers.ended D G t) (bus.devices.step_numbers.Reads.Learnt D lD G t)
-step_numbers_determined D lD G t c x y p q =
-    equations_determine
-    (frame_told_so x.0 ∙ ap₂ (answer_of frame_of) p.1.0 p.1.1, p.0)
-    (frame_told_so y.0 ∙ ap₂ (answer_of frame_of) q.1.0 q.1.1, q.0)
+step_numbers_determined D lD G t c x y p q = equations_determine (given_so _ frame_of frame_told_so p) (given_so _ frame_of frame_told_so q)
 
 pub facts_determined
     : (D : _) (lD : _) (G : _) (t : _) → Determines (bus_says.devices.facts_about_cycles.ended D G t) (bus.devices.facts_about_cycles.Reads.Learnt D lD G t)

@@ -1,6 +1,7 @@
 pub mod ByKind
 pub mod Outcomes
 pub mod Numbering
+pub mod Named
 pub mod ByPhase
 pub mod Places
 pub mod Beginnings

@@ -3,7 +3,7 @@ use Rattle.std.specs.Prelude.{cond, ℕ, eqb, Option, Some, None, Result, Ok, Er
 use Rattle.bus.specs.Kinds as kinds
 use Rattle.bus.specs.Event as frames
 use Rattle.bus.specs.Device as rules
-use Rattle.bus.specs.Device.{Given, step_in}
+use Rattle.bus.specs.Device.{Given, gives, after_in, byte_in, step_in}
 use Rattle.bus.specs.declared.kinds.Kind as kind
 use Rattle.bus.specs.declared.kinds.Kind.{Kind}
 use Rattle.bus.specs.declared.events.Event.{Event}
@@ -70,6 +70,17 @@ number_told n (Err r) = n r
 abbrev pub byte_told : {E : Type 0} → Result ℕ E → ℕ
 byte_told (Ok b) = b
 byte_told (Err r) = 0
+
+-- What is given by an answer and the state that it leaves, by the numbers of its refusals.
+abbrev pub given_by : {S R : Type 0} → (R → ℕ) → S → Result ℕ R → Given S
+given_by n s r = gives s (number_told n r) (byte_told r)
+
+-- What an accepted event makes of a device, and the byte that it gives.
+abbrev pub after_event : {S R : Type 0} → rules.Device S R → Event → S → S
+after_event dev e s = after_in dev s (raw e).kind (raw e).first (raw e).second
+
+abbrev pub byte_of : {S R : Type 0} → rules.Device S R → Event → S → ℕ
+byte_of dev e s = byte_in dev s (raw e).kind (raw e).first
 
 -- What a device gives for an event.
 abbrev pub given_for : {S R : Type 0} → rules.Device S R → S → Event → Given S

@@ -1,5 +1,6 @@
 pub mod HostStep
 pub mod Converted
+pub mod Rewritten
 pub mod Determined
 pub mod Counted
-pub mod Rewritten
+pub mod OnChecked

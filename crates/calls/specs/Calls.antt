@@ -3,6 +3,8 @@
 use Rattle.std.specs.Prelude.{Bool, cond, ◌&&◌, ◌||◌, List, ℕ, ◌+◌, ◌*◌, ◌%◌, eqb, ltb, length}
 use Rattle.control.specs.declared.Group.{Group}
 use Rattle.control.specs.declared.Group.TheVariants.{A, B}
+use Rattle.bus.specs.Device.{Given}
+use Rattle.chip.specs.declared.Chip.{Chip}
 use Rattle.chip.specs.declared.channel.Side.{Side}
 use Rattle.chip.specs.declared.channel.Side.TheVariants.{Input, Output}
 use Rattle.chip.specs.declared.channel.Tally.{Tally}
@@ -10,7 +12,6 @@ use Rattle.chip.specs.State.{levels_by, power_up_as, power_up_with, power_up, ta
 use Rattle.chip.specs.Reasons.{Numbers, explained_of, numbers_of}
 use Rattle.bus.specs.declared.Pins.{Pins}
 use Rattle.chip.specs.Pins.{pins_of}
-use Rattle.chip.specs.Step.{Stepped}
 use Rattle.chip.specs.Step.{step_of}
 use Rattle.image.specs.Places as places
 use Rattle.image.specs.Layout.{image_of}
@@ -79,7 +80,7 @@ unfoldable pub convert_image : List ℕ → List ℕ → List ℕ
 convert_image o l = cond (is_older o) (saved_in l (older_state o)) l
 
 -- The step of the state that the image tells.
-abbrev pub step_on : List ℕ → ℕ → ℕ → ℕ → Stepped
+abbrev pub step_on : List ℕ → ℕ → ℕ → ℕ → Given Chip
 step_on l k x d = step_of (state_of l) k x d
 
 -- Its number, and the byte of an accepted read.
@@ -88,7 +89,7 @@ step_answer l k x d = or_bad l (packed (step_on l k x d).number (step_on l k x d
 
 -- The image of the state after an accepted event. A refusal writes nothing.
 unfoldable pub step_image : List ℕ → ℕ → ℕ → ℕ → List ℕ
-step_image l k x d = cond (is_image l && eqb (step_on l k x d).number 0) (image_of (step_on l k x d).chip) l
+step_image l k x d = cond (is_image l && eqb (step_on l k x d).number 0) (image_of (step_on l k x d).state) l
 
 -- The levels of a port's pins, and above them the mask of those that the chip drives.
 abbrev pub pins_given : Pins → ℕ

@@ -17,7 +17,7 @@ mod written;
 /// The chip at power-up, under the default levels. 8 where there are more or fewer bytes than an image has.
 pub fn towanchor_power_up(image: &mut [u8]) -> u32
     ensures value { result ≡ power_up_answer image.old }
-    ensures image_after { image.new ≡ power_up_image image.old }
+    ensures after { image.new ≡ power_up_image image.old }
 {
     let chip = Chip::default();
     answer(written::start(image, &chip))
@@ -31,7 +31,7 @@ pub fn towanchor_power_up_with_levels(
     levels_c: u8,
 ) -> u32
     ensures value { result ≡ power_up_answer image.old }
-    ensures image_after { image.new ≡ power_up_image_with image.old levels_a levels_b levels_c }
+    ensures after { image.new ≡ power_up_image_with image.old levels_a levels_b levels_c }
 {
     let levels = Levels {
         a: levels_a,
@@ -51,7 +51,7 @@ pub fn towanchor_power_up_as(
     levels_c: u8,
 ) -> u32
     ensures value { result ≡ power_up_as_answer image.old edition }
-    ensures image_after { image.new ≡ power_up_as_image image.old edition levels_a levels_b levels_c }
+    ensures after { image.new ≡ power_up_as_image image.old edition levels_a levels_b levels_c }
 {
     let levels = Levels {
         a: levels_a,
@@ -64,16 +64,16 @@ pub fn towanchor_power_up_as(
 /// An older image made the image of the same state. 8 where the bytes are no older image, or where there is not the room of an image.
 pub fn towanchor_convert(older: &[u8], image: &mut [u8]) -> u32
     ensures value { result ≡ convert_answer older.now image.old }
-    ensures image_after { image.new ≡ convert_image older.now image.old }
+    ensures after { image.new ≡ convert_image older.now image.old }
 {
     answer(written::convert(older, image))
 }
 
 /// One event, with its number and the byte of an accepted read. 8 where the bytes are no image, before any other refusal.
-#[tactic(auto, using(image::proofs::Long::is_long), unfolding(crate::specs::Calls::step_answer, crate::specs::Calls::step_image))]
+#[tactic(auto, using(crate::proofs::OnChecked::by_length))]
 pub fn towanchor_step(image: &mut [u8], kind: u8, first: u8, second: u8) -> u32
     ensures value { result ≡ step_answer image.old kind first second }
-    ensures image_after { image.new ≡ step_image image.old kind first second }
+    ensures after { image.new ≡ step_image image.old kind first second }
 {
     match image.as_mut_array() {
         Some(image) => events::step(image, kind, first, second),

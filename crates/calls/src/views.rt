@@ -1,9 +1,8 @@
 //! What is seen of the chip that an image tells: the pins of a port, a tally, and why an INTR is low.
-ghost use Rattle.std.specs.Prelude.{◌≡◌, true, false, MatchResult};
+ghost use Rattle.std.specs.Prelude.{◌≡◌, true, false, IfSome, IfNone};
 ghost use Rattle.chip.specs.Pins.{pins_of};
 ghost use Rattle.image.specs.Good.{is_image};
 ghost use Rattle.image.specs.Loaded.{state_of};
-ghost use Rattle.calls.specs.declared.refusals.CallRefusal.TheVariants as refusals;
 ghost use Rattle.calls.specs.Answers.{answered};
 ghost use Rattle.calls.specs.Calls.{pins_given, pins_answer, tally_answer, explain_answer};
 
@@ -17,16 +16,18 @@ const LAST_CHANNEL: u8 = 3;
 
 const LAST_TALLY: u8 = 6;
 
-// The bytes, where they are an image.
+// The bytes, if they are an image.
 #[inline(always)]
 #[tactic(auto, using(image::proofs::Long::is_long))]
-fn checked(image: &[u8]) -> Result<&[u8; LENGTH], CallRefusal>
-    ensures { MatchResult result (λ checked. (is_image image.now ≡ true) × (checked.now ≡ image.now)) (λ refusal. (is_image image.now ≡ false) × (refusal ≡ refusals.NoState)) }
+fn checked(image: &[u8]) -> Option<&[u8; LENGTH]>
+    ensures image { IfSome result (λ bytes. (is_image image.now ≡ true) × (bytes.now ≡ image.now)) }
+    ensures none { IfNone result (is_image image.now ≡ false) }
 {
-    if !image::check::good(image) {
-        return Err(CallRefusal::NoState);
+    if image::check::good(image) {
+        image.as_array()
+    } else {
+        None
     }
-    image.as_array().ok_or(CallRefusal::NoState)
 }
 
 // The view of a port, in the final number.
@@ -52,23 +53,23 @@ pub(super) fn pins(image: &[u8], port: u8) -> u32
     ensures { result ≡ pins_answer image.now port }
 {
     match checked(image) {
-        Ok(image) => match port {
+        Some(image) => match port {
             PORT_A => seen(image, PORT_A),
             PORT_B => seen(image, PORT_B),
             PORT_C => seen_of_c(image),
             _ => answer(Err(CallRefusal::OutOfRange)),
         },
-        Err(refusal) => answer(Err(refusal)),
+        None => answer(Err(CallRefusal::NoState)),
     }
 }
 
 // C numbers channels and tallies in the order in which an image has them, so that the two numbers tell where the two bytes stand. Behind the
 // check nothing is read but these two.
-#[tactic(auto, using(image::proofs::Long::is_long, crate::proofs::Counted::counted), unfolding(crate::specs::Calls::tally_answer))]
+#[tactic(auto, using(crate::proofs::Counted::counted), unfolding(crate::specs::Calls::tally_answer))]
 pub(super) fn tally(image: &[u8], channel: u8, number: u8) -> Result<u16, CallRefusal>
     ensures { answered result ≡ tally_answer image.now channel number }
 {
-    let image = checked(image)?;
+    let image = checked(image).ok_or(CallRefusal::NoState)?;
     if LAST_CHANNEL < channel || LAST_TALLY < number {
         return Err(CallRefusal::OutOfRange);
     }
@@ -80,7 +81,7 @@ pub(super) fn tally(image: &[u8], channel: u8, number: u8) -> Result<u16, CallRe
 pub(super) fn explain(image: &[u8], group: u8) -> Result<u16, CallRefusal>
     ensures { answered result ≡ explain_answer image.now group }
 {
-    let image = checked(image)?;
+    let image = checked(image).ok_or(CallRefusal::NoState)?;
     // Each group has a call of its own, so that the compiler loads no more than is asked of that group.
     let explained = match Group::numbered(group).ok_or(CallRefusal::OutOfRange)? {
         Group::A => reasons::explain(image, Group::A),

@@ -13,7 +13,7 @@ use image::places::LENGTH;
 #[tactic(auto, unfolding(image::specs::Slices::saved_in))]
 pub(super) fn start(image: &mut [u8], chip: &Chip) -> Result<u16, CallRefusal>
     ensures value { answered result ≡ power_up_answer image.old }
-    ensures image_after { image.new ≡ saved_in image.old chip.now }
+    ensures after { image.new ≡ saved_in image.old chip.now }
 {
     if image.len() != LENGTH {
         return Err(CallRefusal::NoState);
@@ -23,19 +23,19 @@ pub(super) fn start(image: &mut [u8], chip: &Chip) -> Result<u16, CallRefusal>
 }
 
 // The same of a chip of the edition that has the number.
-#[tactic(auto, using(chip::proofs::Editions::edition_tested), unfolding(crate::specs::Calls::power_up_as_answer, crate::specs::Calls::power_up_as_image))]
+#[tactic(auto, using(crate::proofs::Rewritten::by_edition))]
 pub(super) fn start_as(image: &mut [u8], number: u8, levels: Levels) -> Result<u16, CallRefusal>
     ensures value { answered result ≡ power_up_as_answer image.old number }
-    ensures image_after { image.new ≡ power_up_as_image image.old number levels.a levels.b levels.c }
+    ensures after { image.new ≡ power_up_as_image image.old number levels.a levels.b levels.c }
 {
     let edition = Edition::numbered(number).ok_or(CallRefusal::NoEdition)?;
     start(image, &Chip::new(edition, levels))
 }
 
-#[tactic(auto, using(crate::proofs::Converted::converted_so), unfolding(crate::specs::Calls::convert_answer, crate::specs::Calls::convert_image, image::specs::Slices::saved_in))]
+#[tactic(auto, using(crate::proofs::Rewritten::from_older))]
 pub(super) fn convert(older: &[u8], image: &mut [u8]) -> Result<u16, CallRefusal>
     ensures value { answered result ≡ convert_answer older.now image.old }
-    ensures image_after { image.new ≡ convert_image older.now image.old }
+    ensures after { image.new ≡ convert_image older.now image.old }
 {
     if !older::good(older) {
         return Err(CallRefusal::NoState);

@@ -9,7 +9,7 @@ ghost use Rattle.calls.specs.Calls.{power_up_answer, power_up_image, power_up_im
 #[unsafe(no_mangle)]
 pub extern "C" fn towanchor_power_up(image: &mut [u8]) -> u32
     ensures value { result ≡ power_up_answer image.old }
-    ensures image_after { image.new ≡ power_up_image image.old }
+    ensures after { image.new ≡ power_up_image image.old }
 {
     calls::towanchor_power_up(image)
 }
@@ -23,7 +23,7 @@ pub extern "C" fn towanchor_power_up_with_levels(
     levels_c: u8,
 ) -> u32
     ensures value { result ≡ power_up_answer image.old }
-    ensures image_after { image.new ≡ power_up_image_with image.old levels_a levels_b levels_c }
+    ensures after { image.new ≡ power_up_image_with image.old levels_a levels_b levels_c }
 {
     calls::towanchor_power_up_with_levels(image, levels_a, levels_b, levels_c)
 }
@@ -39,7 +39,7 @@ pub extern "C" fn towanchor_power_up_as(
     levels_c: u8,
 ) -> u32
     ensures value { result ≡ power_up_as_answer image.old edition }
-    ensures image_after { image.new ≡ power_up_as_image image.old edition levels_a levels_b levels_c }
+    ensures after { image.new ≡ power_up_as_image image.old edition levels_a levels_b levels_c }
 {
     calls::towanchor_power_up_as(image, edition, levels_a, levels_b, levels_c)
 }
@@ -48,7 +48,7 @@ pub extern "C" fn towanchor_power_up_as(
 #[unsafe(no_mangle)]
 pub extern "C" fn towanchor_convert(older: &[u8], image: &mut [u8]) -> u32
     ensures value { result ≡ convert_answer older.now image.old }
-    ensures image_after { image.new ≡ convert_image older.now image.old }
+    ensures after { image.new ≡ convert_image older.now image.old }
 {
     calls::towanchor_convert(older, image)
 }
@@ -57,7 +57,7 @@ pub extern "C" fn towanchor_convert(older: &[u8], image: &mut [u8]) -> u32
 #[unsafe(no_mangle)]
 pub extern "C" fn towanchor_step(image: &mut [u8], kind: u8, first: u8, second: u8) -> u32
     ensures value { result ≡ step_answer image.old kind first second }
-    ensures image_after { image.new ≡ step_image image.old kind first second }
+    ensures after { image.new ≡ step_image image.old kind first second }
 {
     calls::towanchor_step(image, kind, first, second)
 }

@@ -6,7 +6,7 @@ use Rattle.chip.specs.declared.Edition.{Edition}
 use Rattle.chip.specs.declared.Edition.TheVariants.{Older, Newer}
 use Rattle.chip.specs.State.{edition_number, edition_numbered}
 
-none_above : (n : ℕ) → edition_numbered (suc (suc n)) ≡ None
+pub none_above : (n : ℕ) → edition_numbered (suc (suc n)) ≡ None
 none_above n = rw (ne_eqb (suc (suc n)) 0 (λ e. omega (arith, e)), ne_eqb (suc (suc n)) 1 (λ e. omega (arith, e)))
 
 pub edition_tested : (n : ℕ) → edition_numbered n ≡ cond (not (ltb 1 n)) (Some (cond (eqb n 0) Older Newer)) None

@@ -7,6 +7,8 @@ pub mod Flags
 pub mod PinByMasks
 pub mod SettingsAfter
 pub mod ReadsAfter
+pub mod AtAddress
+pub mod Held
 pub mod ByMasks
 pub mod WritesAfter
 pub mod LevelsAfter

@@ -73,12 +73,11 @@ module _ (part : Handshake → ℕ) (parts : (one other : Handshake) → part (j
   unfolding in_force
   channels_at = both (of_group c A) (of_group c B) ∙ rw (group_at A, group_at B)
 
--- A request is that of a strobed channel.
 request_asked : (c : Chip) (g : Group) (s : Side) → request_of c g s ≡ (strobed c.core.word g s && asks_of c g s)
 unfolding request_of
 request_asked c g s = simp and_assoc
 
--- What is told on condition, where the same is asked again.
+-- What a strobed channel tells stands on its pins alone.
 masked : (on told else : Bool) → cond on (on && told) else ≡ cond on told else
 masked true told else = refl
 masked false told else = refl
@@ -93,7 +92,6 @@ one_of_b told true true else = or-false (told true)
 one_of_b told true false else = refl
 one_of_b told false taking else = refl
 
--- The two halves, and a blend by its bits.
 lower_half : (n : ℕ) → n < 8 → bit_of 0x0f n ≡ in_lower_half n
 unfolding bit_of
 lower_half = bits 8 (bit_of 0x0f) in_lower_half tt
@@ -115,7 +113,7 @@ unfolding bit_of
 driven_in_handshake true = bits 8 (λ n. is_driven (handshake_role true n)) (bit_of driven_pins) tt
 driven_in_handshake false = bits 8 (λ n. is_driven (handshake_role false n)) (bit_of driven_pins) tt
 
--- A pin in the role r that a handshake gives it, or free, in that of its half. A free pin is driven where it is an output.
+-- A pin in the role r that a handshake gives it, or in that of its half. Where it is free it is driven as an output.
 abbrev taken : Bool → Role → Bool → Role
 taken used r half = cond used r (cond half input output)
 

@@ -5,11 +5,13 @@ use Rattle.bits.specs.Bit.{bit_of, with_bit}
 use Rattle.control.specs.declared.Group.TheVariants.{B}
 use Rattle.control.specs.Mode.{strobed_input}
 use Rattle.control.specs.Pins.{handshake_pins, output_pins, handshake_role}
+use Rattle.control.specs.Word.{control_of}
+pub use Rattle.control.proofs.PinNamed.{pin_named_lem}
 use Rattle.control.proofs.PinByMasks.{sorted, role_by_masks}
 use Rattle.chip.specs.declared.channel.Side.TheVariants.{Input, Output}
 use Rattle.chip.specs.declared.Core.{Core}
 use Rattle.chip.specs.State.{with_latch, with_enables}
-use Rattle.chip.specs.ControlWord.{enabled, flag_put, set_as, pin_set}
+use Rattle.chip.specs.ControlWord.{enabled, flag_put, set_as, pin_set, obeyed, after_control_word}
 
 -- The two pins of group B that go by its side: the line of its channel stands for the one enable, and the flag is that channel's.
 pub line_of_b : (c : Core) (v taking : Bool) → set_as c 2 v (handshake_role taking 2) ≡ with_enables c (enabled c.inte B Input v)
@@ -47,3 +49,12 @@ module _ (c : Core) (n : ℕ) (v : Bool) (hw : c.word < 256) (hn : n < 8) where
 
   pub set_input : bit_of (handshake_pins c.word) n ≡ false → bit_of (output_pins c.word) n ≡ false → pin_set c n v ≡ c
   set_input unused no_out = pin_by_masks c n v hw hn ∙ rw (unused, no_out)
+
+-- A byte for control is obeyed as what it says, and names one of the eight pins.
+pub obeyed_so : (c : Core) (d : ℕ) → after_control_word c d ≡ obeyed c (control_of d)
+unfolding after_control_word
+obeyed_so c d = refl
+
+pub ruleset commanded = (obeyed_so, pin_named_lem)
+
+pub ruleset set_by_masks = (set_in_handshake, set_output, set_input)

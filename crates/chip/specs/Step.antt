@@ -5,7 +5,7 @@ use Rattle.bus.specs.declared.Phase.{Phase}
 use Rattle.bus.specs.declared.Phase.TheVariants.{Idle, Reading, Writing}
 use Rattle.bus.specs.declared.Limits.{Limits}
 use Rattle.bus.specs.Refusals.{limits_of}
-use Rattle.bus.specs.Device.{Device, Given, step_in}
+use Rattle.bus.specs.Device.{Device, Given, gives, step_in}
 use Rattle.chip.specs.declared.Core.{Core}
 use Rattle.chip.specs.declared.Edition.{Edition}
 use Rattle.chip.specs.declared.Edition.TheVariants.{Older, Newer}
@@ -68,27 +68,18 @@ device = record {
   levels_limits = λ r x d. refl;
 }
 
--- What an event gives: the chip, the number and the byte.
-pub record Stepped : Type 0 where
-  pub chip : Chip
-  pub number : ℕ
-  pub byte : ℕ
-
-abbrev pub as_stepped : Given Chip → Stepped
-as_stepped o = record { chip = o.state; number = o.number; byte = o.byte }
-
 -- One event, of kind k with operands x and d: the step of that device.
-unfoldable pub step_of : Chip → ℕ → ℕ → ℕ → Stepped
-step_of c k x d = as_stepped (step_in device c k x d)
+unfoldable pub step_of : Chip → ℕ → ℕ → ℕ → Given Chip
+step_of c k x d = step_in device c k x d
 
 -- What the step makes of an event.
-abbrev pub stepped : Chip → Event → Stepped
+abbrev pub stepped : Chip → Event → Given Chip
 stepped c e = step_of c e.kind e.first e.second
 
 -- A refusal gives its number, and the state back as it was.
-abbrev pub refused : Chip → ℕ → Stepped
-refused c n = record { chip = c; number = n; byte = 0 }
+abbrev pub refused : Chip → ℕ → Given Chip
+refused c n = gives c n 0
 
 -- An accepted event has the number 0.
-abbrev pub accepted : Chip → ℕ → Stepped
-accepted c b = record { chip = c; number = 0; byte = b }
+abbrev pub accepted : Chip → ℕ → Given Chip
+accepted c b = gives c 0 b

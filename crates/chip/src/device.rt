@@ -1,10 +1,12 @@
-//! The chip as a device on the bus: its limits, and what an accepted event of each kind makes of it.
+//! The chip as a device on the bus: its limits, what it shows, and what an accepted event makes of it.
 ghost use Rattle.std.specs.Prelude.{◌≡◌};
 ghost use Rattle.chip.specs.Step as sheet;
 ghost use Rattle.chip.specs.Pins.{pins_of};
+ghost use Rattle.chip.specs.Reads.{read_of};
 
-use super::{Chip, Edition, POWER_UP_WORD, cycles, outside, pins, reads, settings};
+use super::{Chip, Edition, accept, pins};
 use bus::devices::Device;
+use bus::events::Event;
 use bus::{Limits, Phase, Pins};
 
 impl Edition {
@@ -38,36 +40,21 @@ impl Device for Chip {
         self.edition.limits()
     }
 
-    fn answer(&self, address: u8) -> u8 {
-        pins::read(self, address)
-    }
-
     fn pins(&self, port: u8) -> Pins {
         pins::pins(self, port)
     }
 
-    fn reset(&mut self) {
-        self.phase = Phase::Idle;
-        settings::renew(self, POWER_UP_WORD);
+    #[tactic(auto, using(crate::proofs::Held::begins_any))]
+    fn accept(&mut self, event: Event) -> u8 {
+        accept::accept(self, event)
     }
+}
 
-    fn begin_read(&mut self, address: u8) {
-        self.phase = Phase::Reading(address);
-        reads::begin_read(self, address);
-    }
-
-    fn end_cycle(&mut self) {
-        cycles::end_cycle(self);
-        self.phase = Phase::Idle;
-    }
-
-    // The byte takes effect at the end.
-    fn begin_write(&mut self, address: u8, byte: u8) {
-        self.phase = Phase::Writing(address, byte);
-    }
-
-    // Levels leave the bus as it is.
-    fn put_levels(&mut self, port: u8, levels: u8) {
-        outside::put_levels(self, port, levels);
+impl Chip {
+    /// What a read at the address would answer; it begins none. It is asked whether or not the read would be accepted.
+    pub fn answer(&self, address: u8) -> u8
+        ensures { result ≡ read_of self.now address }
+    {
+        pins::read(self, address)
     }
 }

@@ -45,7 +45,7 @@ fn on_pins(group: Group, side: Side, enable: bool, flag: bool, intr: bool) -> Ha
 #[inline(always)]
 #[tactic(auto, using(crate::proofs::LinesInForce::flag_down), unfolding(crate::specs::InForce::of_channel))]
 fn of_channel<Home, H: Holder<Home>>(holder: &H, group: Group, side: Side) -> Handshake
-    ensures { result ≡ of_channel (H.chip holder.now) group side }
+    ensures { result ≡ of_channel (H.way.chip holder.now) group side }
 {
     let enable = holder.enables().enables(group, side);
     if flag(holder, group, side) {
@@ -68,7 +68,7 @@ fn joined(one: Handshake, other: Handshake) -> Handshake
 #[inline(always)]
 #[tactic(auto, unfolding(crate::specs::InForce::of_group))]
 fn of_group<Home, H: Holder<Home>>(holder: &H, group: Group) -> Handshake
-    ensures { result ≡ of_group (H.chip holder.now) group }
+    ensures { result ≡ of_group (H.way.chip holder.now) group }
 {
     let word = holder.word();
     if Mode::of(word, group) == Mode::Two {
@@ -89,7 +89,7 @@ fn of_group<Home, H: Holder<Home>>(holder: &H, group: Group) -> Handshake
 #[inline(always)]
 #[tactic(auto, unfolding(crate::specs::InForce::in_force))]
 pub(super) fn in_force<Home, H: Holder<Home>>(holder: &H) -> Handshake
-    ensures { result ≡ in_force (H.chip holder.now) }
+    ensures { result ≡ in_force (H.way.chip holder.now) }
 {
     joined(of_group(holder, Group::A), of_group(holder, Group::B))
 }

@@ -6,19 +6,19 @@
 ghost use Rattle.std.specs.Prelude.{◌≡◌};
 ghost use Rattle.chip.specs.State.{edition_numbered, fresh_port, power_up_as, power_up, port_of, side_of, channel_of, tally_of};
 
+pub mod accept;
 pub mod channel;
-pub mod cycles;
 mod device;
 pub mod handshakes;
 pub mod holder;
 mod in_force;
-pub mod outside;
+mod outside;
 pub mod pins;
-pub mod reads;
+mod reads;
 pub mod reasons;
-pub mod settings;
+mod settings;
 pub mod status;
-pub mod writes;
+mod writes;
 
 use bus::Phase;
 use channel::{Channel, Side, Tally};

@@ -1,9 +1,9 @@
 //! What the processor reads of a port, and what the outside sees of it.
 ghost use Rattle.std.specs.Prelude.{◌≡◌};
-ghost use Rattle.chip.specs.State.{port_of};
+ghost use Rattle.chip.specs.Held.{address_of};
 ghost use Rattle.chip.specs.InForce.{half_of};
-ghost use Rattle.chip.specs.Reads.{read_port, read_lines, read_control, read_of};
-ghost use Rattle.chip.specs.Pins.{drives_port, pins_of_port, pins_of_lines, pins_of};
+ghost use Rattle.chip.specs.Reads.{read_lines, read_control, read_of};
+ghost use Rattle.chip.specs.Pins.{drives_port, pins_of_lines, pins_of};
 
 use super::channel::Side;
 use super::handshakes::{ACK_A, LINE_B, STB_A};
@@ -25,9 +25,9 @@ const UPPER_HALF: u8 = 0xf0;
 
 const LOWER_HALF: u8 = 0x0f;
 
-#[tactic(auto, unfolding(crate::specs::Reads::read_port))]
+#[tactic(auto, using(crate::proofs::AtAddress::read_there), unfolding(crate::specs::Reads::read_port))]
 pub(super) fn read_port<Home, H: Holder<Home>>(holder: &H, group: Group) -> u8
-    ensures { result ≡ read_port (H.chip holder.now).core.word group (port_of (H.chip holder.now).core group) }
+    ensures { result ≡ read_of (H.way.chip holder.now) (address_of group) }
 {
     let word = holder.word();
     if mode::strobed_input(word, group) {
@@ -39,9 +39,9 @@ pub(super) fn read_port<Home, H: Holder<Home>>(holder: &H, group: Group) -> u8
     }
 }
 
-#[tactic(auto, unfolding(crate::specs::Pins::pins_of_port))]
+#[tactic(auto, using(crate::proofs::AtAddress::pins_there), unfolding(crate::specs::Pins::pins_of_port))]
 fn pins_of_port<Home, H: Holder<Home>>(holder: &H, group: Group) -> Pins
-    ensures { result ≡ pins_of_port (port_of (H.chip holder.now).core group) (drives_port (H.chip holder.now).core group) }
+    ensures { result ≡ pins_of (H.way.chip holder.now) (address_of group) }
 {
     if drives(holder, group) {
         Pins {
@@ -59,7 +59,7 @@ fn pins_of_port<Home, H: Holder<Home>>(holder: &H, group: Group) -> Pins
 // Whether the chip drives port A or B.
 #[tactic(auto, unfolding(crate::specs::Pins::drives_port))]
 fn drives<Home, H: Holder<Home>>(holder: &H, group: Group) -> bool
-    ensures { result ≡ drives_port (H.chip holder.now).core group }
+    ensures { result ≡ drives_port (H.way.chip holder.now).core group }
 {
     let word = holder.word();
     match group {
@@ -81,7 +81,7 @@ fn read_control(word: u8) -> u8
 // Levels of port C with one half as it is where no handshake has a pin: an input has what is outside there, and an output is left as it is.
 #[inline(always)]
 fn half<Home, H: Holder<Home>>(holder: &H, input: bool, pins: u8, levels: u8) -> u8
-    ensures { result ≡ half_of (H.chip holder.now) input pins levels }
+    ensures { result ≡ half_of (H.way.chip holder.now) input pins levels }
 {
     if input {
         bits::blend(pins, holder.outside_c(), levels)
@@ -94,7 +94,7 @@ fn half<Home, H: Holder<Home>>(holder: &H, input: bool, pins: u8, levels: u8) ->
 #[inline(always)]
 #[tactic(auto, using(crate::proofs::LinesInForce::lines_in_force))]
 fn read_lines<Home, H: Holder<Home>>(holder: &H) -> u8
-    ensures { result ≡ read_lines (H.chip holder.now) }
+    ensures { result ≡ read_lines (H.way.chip holder.now) }
 {
     let handshakes = in_force(holder);
     let inputs = mode::directions(holder.word());
@@ -107,7 +107,7 @@ fn read_lines<Home, H: Holder<Home>>(holder: &H) -> u8
 #[inline(always)]
 #[tactic(auto, unfolding(crate::specs::Reads::read_of))]
 pub fn read<Home, H: Holder<Home>>(holder: &H, address: u8) -> u8
-    ensures { result ≡ read_of (H.chip holder.now) address }
+    ensures { result ≡ read_of (H.way.chip holder.now) address }
 {
     match address {
         PORT_A => read_port(holder, Group::A),
@@ -121,7 +121,7 @@ pub fn read<Home, H: Holder<Home>>(holder: &H, address: u8) -> u8
 // Port C: its free outputs and the signals of its handshakes are driven.
 #[tactic(auto, using(crate::proofs::LinesInForce::pins_in_force))]
 fn pins_of_lines<Home, H: Holder<Home>>(holder: &H) -> Pins
-    ensures { result ≡ pins_of_lines (H.chip holder.now) }
+    ensures { result ≡ pins_of_lines (H.way.chip holder.now) }
 {
     let handshakes = in_force(holder);
     let driven = bits::blend(handshakes.pins, SIGNALS, roles::outputs(holder.word()));
@@ -136,7 +136,7 @@ fn pins_of_lines<Home, H: Holder<Home>>(holder: &H) -> Pins
 #[inline(always)]
 #[tactic(auto, unfolding(crate::specs::Pins::pins_of))]
 pub fn pins<Home, H: Holder<Home>>(holder: &H, port: u8) -> Pins
-    ensures { result ≡ pins_of (H.chip holder.now) port }
+    ensures { result ≡ pins_of (H.way.chip holder.now) port }
 {
     match port {
         PORT_A => pins_of_port(holder, Group::A),

@@ -1,15 +1,13 @@
 //! A read, which begins and ends: it hands over the byte of a strobed input, and then empties the channel.
 ghost use Rattle.std.specs.Prelude.{◌≡◌};
-ghost use Rattle.control.specs.Mode.{strobed_input};
 ghost use Rattle.chip.specs.Moves.{after_hand_over};
-ghost use Rattle.chip.specs.State.{port_of, channel_of, with_port, with_channel};
-ghost use Rattle.chip.specs.Held.{core_put};
-ghost use Rattle.chip.specs.Reads.{read_port, read_of};
-ghost use Rattle.chip.specs.Read.{fetched_from, done_with, after_read_begins, after_read_ends};
+ghost use Rattle.chip.specs.Held.{Leaves, address_of, on_channel};
+ghost use Rattle.chip.specs.Reads.{read_of};
+ghost use Rattle.chip.specs.Read.{after_read_begins, after_read_ends};
 
 use super::channel::{Fill, Side};
 use super::holder::Holder;
-use super::pins::{read, read_port};
+use super::pins::read;
 use super::{PORT_A, PORT_B};
 use control::{Group, mode};
 
@@ -17,8 +15,7 @@ use control::{Group, mode};
 #[inline(always)]
 #[tactic(auto, using(crate::proofs::NoneWaits::none_handed_over))]
 pub(super) fn hand_over<Home, H: Holder<Home>>(holder: &mut H, group: Group, side: Side, left: Fill)
-    ensures held { H.chip holder.new ≡ core_put (H.chip holder.old) (with_channel (H.chip holder.old).core group side (after_hand_over (channel_of (H.chip holder.old).core group side) left)) }
-    ensures whole { H.whole holder.old → H.whole holder.new }
+    ensures { Leaves H.way holder.old holder.new (λ c. on_channel c group side (λ ch. after_hand_over ch left)) }
 {
     let mut channel = holder.channel(group, side);
     if channel.fill.is_waiting() {
@@ -27,23 +24,21 @@ pub(super) fn hand_over<Home, H: Holder<Home>>(holder: &mut H, group: Group, sid
     }
 }
 
+// A strobed input hands over the byte that waits in it, and is fetching.
 #[inline(always)]
-fn fetch<Home, H: Holder<Home>>(holder: &mut H, group: Group) -> u8
-    ensures value { result ≡ read_port (H.chip holder.old).core.word group (port_of (H.chip holder.old).core group) }
-    ensures held { H.chip holder.new ≡ core_put (H.chip holder.old) (with_port (H.chip holder.old).core group (fetched_from (port_of (H.chip holder.old).core group) (strobed_input (H.chip holder.old).core.word group))) }
-    ensures whole { H.whole holder.old → H.whole holder.new }
+#[tactic(auto, using(crate::proofs::AtAddress::read_begins_there))]
+fn fetch_from<Home, H: Holder<Home>>(holder: &mut H, group: Group)
+    ensures { Leaves H.way holder.old holder.new (λ c. after_read_begins c (address_of group)) }
 {
-    let byte = read_port(holder, group);
     if mode::strobed_input(holder.word(), group) {
         hand_over(holder, group, Side::Input, Fill::Fetching);
     }
-    byte
 }
 
 #[inline(always)]
+#[tactic(auto, using(crate::proofs::AtAddress::read_ends_there))]
 fn finish<Home, H: Holder<Home>>(holder: &mut H, group: Group)
-    ensures held { H.chip holder.new ≡ core_put (H.chip holder.old) (with_port (H.chip holder.old).core group (done_with (port_of (H.chip holder.old).core group) (strobed_input (H.chip holder.old).core.word group))) }
-    ensures whole { H.whole holder.old → H.whole holder.new }
+    ensures { Leaves H.way holder.old holder.new (λ c. after_read_ends c (address_of group)) }
 {
     if mode::strobed_input(holder.word(), group) {
         let mut input = holder.channel(group, Side::Input);
@@ -52,28 +47,28 @@ fn finish<Home, H: Holder<Home>>(holder: &mut H, group: Group)
     }
 }
 
-/// A read at the address begins, and answers: a strobed input hands over the byte that waits in it, and is fetching. Where there is neither a
-/// port nor control the answer is 00. Data sheet: Input Control Signal Definition (INTR).
+// A read at the address begins, and answers: a strobed input hands over the byte that waits in it, and is fetching. Where there is neither a
+// port nor control the answer is 00. Data sheet: Input Control Signal Definition (INTR).
 #[inline(always)]
 #[tactic(auto, unfolding(crate::specs::Reads::read_of, crate::specs::Read::after_read_begins))]
-pub fn begin_read<Home, H: Holder<Home>>(holder: &mut H, address: u8) -> u8
-    ensures value { result ≡ read_of (H.chip holder.old) address }
-    ensures held { H.chip holder.new ≡ core_put (H.chip holder.old) (after_read_begins (H.chip holder.old).core address) }
-    ensures whole { H.whole holder.old → H.whole holder.new }
+pub(super) fn fetch<Home, H: Holder<Home>>(holder: &mut H, address: u8) -> u8
+    ensures value { result ≡ read_of (H.way.chip holder.old) address }
+    ensures left { Leaves H.way holder.old holder.new (λ c. after_read_begins c address) }
 {
+    let byte = read(holder, address);
     match address {
-        PORT_A => fetch(holder, Group::A),
-        PORT_B => fetch(holder, Group::B),
-        _ => read(holder, address),
+        PORT_A => fetch_from(holder, Group::A),
+        PORT_B => fetch_from(holder, Group::B),
+        _ => {}
     }
+    byte
 }
 
-/// A read at the address ends: a strobed input is empty, and a byte that still waits in it is swallowed. Data sheet: Input Control Signal
-/// Definition (IBF).
+// A read at the address ends: a strobed input is empty, and a byte that still waits in it is swallowed. Data sheet: Input Control Signal
+// Definition (IBF).
 #[tactic(auto, unfolding(crate::specs::Read::after_read_ends))]
-pub fn end_read<Home, H: Holder<Home>>(holder: &mut H, address: u8)
-    ensures held { H.chip holder.new ≡ core_put (H.chip holder.old) (after_read_ends (H.chip holder.old).core address) }
-    ensures whole { H.whole holder.old → H.whole holder.new }
+pub(super) fn end_read<Home, H: Holder<Home>>(holder: &mut H, address: u8)
+    ensures { Leaves H.way holder.old holder.new (λ c. after_read_ends c address) }
 {
     match address {
         PORT_A => finish(holder, Group::A),

@@ -79,7 +79,7 @@ impl Explained {
 #[inline(always)]
 #[tactic(auto, unfolding(crate::specs::Reasons::reason_of))]
 fn first_reason<Home, H: Holder<Home>>(holder: &H, group: Group, side: Side) -> Reason
-    ensures { result ≡ reason_of (H.chip holder.now) group side }
+    ensures { result ≡ reason_of (H.way.chip holder.now) group side }
 {
     if !holder.enables().enables(group, side) {
         Reason::EnableOff
@@ -97,7 +97,7 @@ fn first_reason<Home, H: Holder<Home>>(holder: &H, group: Group, side: Side) -> 
 // In mode 1 a port goes one way.
 #[inline(always)]
 fn one_way<Home, H: Holder<Home>>(holder: &H, group: Group) -> Explained
-    ensures { result ≡ one_way (H.chip holder.now) group }
+    ensures { result ≡ one_way (H.way.chip holder.now) group }
 {
     if mode::output(holder.word(), group) {
         Explained::OutputHalf(first_reason(holder, group, Side::Output))
@@ -110,7 +110,7 @@ fn one_way<Home, H: Holder<Home>>(holder: &H, group: Group) -> Explained
 #[inline(always)]
 #[tactic(auto, unfolding(crate::specs::Reasons::explained_in))]
 pub fn explain<Home, H: Holder<Home>>(holder: &H, group: Group) -> Explained
-    ensures { result ≡ explained_in (H.chip holder.now) group }
+    ensures { result ≡ explained_in (H.way.chip holder.now) group }
 {
     match Mode::of(holder.word(), group) {
         Mode::Zero => Explained::ModeZero,

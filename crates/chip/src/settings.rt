@@ -7,8 +7,7 @@ ghost use Rattle.control.specs.Mode.{strobed_input};
 ghost use Rattle.control.specs.declared.Group.TheVariants.{B};
 ghost use Rattle.control.specs.Pins.{handshake_role};
 ghost use Rattle.chip.specs.Moves.{after_clear};
-ghost use Rattle.chip.specs.State.{channel_of, with_channel};
-ghost use Rattle.chip.specs.Held.{core_put};
+ghost use Rattle.chip.specs.Held.{Leaves, on_channel};
 
 use super::Enables;
 use super::channel::Side;
@@ -18,8 +17,7 @@ use control::word::Control;
 use control::{Group, mode, roles};
 
 fn clear<Home, H: Holder<Home>>(holder: &mut H, group: Group, side: Side)
-    ensures held { H.chip holder.new ≡ core_put (H.chip holder.old) (with_channel (H.chip holder.old).core group side (after_clear (channel_of (H.chip holder.old).core group side))) }
-    ensures whole { H.whole holder.old → H.whole holder.new }
+    ensures { Leaves H.way holder.old holder.new (λ c. on_channel c group side after_clear) }
 {
     let mut channel = holder.channel(group, side);
     channel.clear();
@@ -28,8 +26,7 @@ fn clear<Home, H: Holder<Home>>(holder: &mut H, group: Group, side: Side)
 
 // The flag of a channel is forced.
 fn force<Home, H: Holder<Home>>(holder: &mut H, group: Group, side: Side, on: bool)
-    ensures held { H.chip holder.new ≡ core_put (H.chip holder.old) (flag_put (H.chip holder.old).core group side on) }
-    ensures whole { H.whole holder.old → H.whole holder.new }
+    ensures { Leaves H.way holder.old holder.new (λ c. flag_put c group side on) }
 {
     let mut channel = holder.channel(group, side);
     channel.force(side, on);
@@ -47,11 +44,10 @@ pub(super) fn side_of_b(word: u8) -> Side
     }
 }
 
-/// The chip under a mode word: latches and enables zero, channels empty. The outside levels stay. Data sheet: Mode Selection.
+// The chip under a mode word: latches and enables zero, channels empty. The outside levels stay. Data sheet: Mode Selection.
 #[tactic(auto, unfolding(crate::specs::ModeWord::after_mode_word, crate::specs::ModeWord::cleared_port))]
-pub fn renew<Home, H: Holder<Home>>(holder: &mut H, word: u8)
-    ensures held { H.chip holder.new ≡ core_put (H.chip holder.old) (after_mode_word (H.chip holder.old).core word) }
-    ensures whole { H.whole holder.old → H.whole holder.new }
+pub(super) fn renew<Home, H: Holder<Home>>(holder: &mut H, word: u8)
+    ensures { Leaves H.way holder.old holder.new (λ c. after_mode_word c word) }
 {
     clear(holder, Group::A, Side::Input);
     clear(holder, Group::A, Side::Output);
@@ -67,8 +63,7 @@ pub fn renew<Home, H: Holder<Home>>(holder: &mut H, word: u8)
 #[tactic(auto, using(crate::proofs::PinByMasks::line_of_b, crate::proofs::PinByMasks::flag_of_b))]
 fn set_line<Home, H: Holder<Home>>(holder: &mut H, pin: u8, on: bool)
     requires { pin < 8 }
-    ensures held { H.chip holder.new ≡ core_put (H.chip holder.old) (set_as (H.chip holder.old).core pin on (handshake_role (strobed_input (H.chip holder.old).core.word B) pin)) }
-    ensures whole { H.whole holder.old → H.whole holder.new }
+    ensures { Leaves H.way holder.old holder.new (λ c. set_as c pin on (handshake_role (strobed_input c.word B) pin)) }
 {
     let enables = holder.enables();
     match pin {
@@ -93,11 +88,10 @@ fn set_line<Home, H: Holder<Home>>(holder: &mut H, pin: u8, on: bool)
 }
 
 // One pin of port C set or reset: the latch of a free output, or what a handshake has there.
-#[tactic(auto, using(crate::proofs::PinByMasks::set_in_handshake, crate::proofs::PinByMasks::set_output, crate::proofs::PinByMasks::set_input))]
+#[tactic(auto, using(crate::proofs::PinByMasks::set_by_masks))]
 fn set_pin<Home, H: Holder<Home>>(holder: &mut H, pin: u8, on: bool)
     requires { pin < 8 }
-    ensures held { H.chip holder.new ≡ core_put (H.chip holder.old) (pin_set (H.chip holder.old).core pin on) }
-    ensures whole { H.whole holder.old → H.whole holder.new }
+    ensures { Leaves H.way holder.old holder.new (λ c. pin_set c pin on) }
 {
     let word = holder.word();
     if bits::bit(roles::handshake(word), pin) {
@@ -107,13 +101,12 @@ fn set_pin<Home, H: Holder<Home>>(holder: &mut H, pin: u8, on: bool)
     }
 }
 
-/// The end of a write to the control address: a mode word, or a bit set/reset, which puts the latch of a free output, or the enable behind STB or
-/// ACK, or forces a flag. Data sheet: Mode Selection, Single Bit Set/Reset Feature, Interrupt Control Functions.
+// The end of a write to the control address: a mode word, or a bit set/reset, which puts the latch of a free output, or the enable behind STB or
+// ACK, or forces a flag. Data sheet: Mode Selection, Single Bit Set/Reset Feature, Interrupt Control Functions.
 #[inline(never)]
-#[tactic(auto, using(control::proofs::PinNamed::pin_named_lem), unfolding(crate::specs::ControlWord::after_control_word))]
-pub fn command<Home, H: Holder<Home>>(holder: &mut H, byte: u8)
-    ensures held { H.chip holder.new ≡ core_put (H.chip holder.old) (after_control_word (H.chip holder.old).core byte) }
-    ensures whole { H.whole holder.old → H.whole holder.new }
+#[tactic(auto, using(crate::proofs::PinByMasks::commanded))]
+pub(super) fn command<Home, H: Holder<Home>>(holder: &mut H, byte: u8)
+    ensures { Leaves H.way holder.old holder.new (λ c. after_control_word c byte) }
 {
     match Control::of(byte) {
         Control::Mode(word) => renew(holder, word),

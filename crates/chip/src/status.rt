@@ -11,7 +11,7 @@ use control::Group;
 
 // IBF or OBF of the channel.
 pub(super) fn flag<Home, H: Holder<Home>>(holder: &H, group: Group, side: Side) -> bool
-    ensures { result ≡ flag_at (H.chip holder.now).core group side }
+    ensures { result ≡ flag_at (H.way.chip holder.now).core group side }
 {
     holder.channel(group, side).fill.flag(side)
 }
@@ -19,7 +19,7 @@ pub(super) fn flag<Home, H: Holder<Home>>(holder: &H, group: Group, side: Side) 
 // Whether the channel, if it is strobed, asks for an interrupt.
 #[inline(always)]
 pub(super) fn asks<Home, H: Holder<Home>>(holder: &H, group: Group, side: Side) -> bool
-    ensures { result ≡ asks_of (H.chip holder.now) group side }
+    ensures { result ≡ asks_of (H.way.chip holder.now) group side }
 {
     holder.enables().enables(group, side)
         && flag(holder, group, side)
@@ -30,7 +30,7 @@ pub(super) fn asks<Home, H: Holder<Home>>(holder: &H, group: Group, side: Side) 
 // INTR of the group: a strobed channel of it asks.
 #[tactic(auto, unfolding(crate::specs::Status::request_of, crate::specs::Status::intr_of))]
 fn intr<Home, H: Holder<Home>>(holder: &H, group: Group) -> bool
-    ensures { result ≡ intr_of (H.chip holder.now) group }
+    ensures { result ≡ intr_of (H.way.chip holder.now) group }
 {
     let word = holder.word();
     strobes(word, group, Side::Input) && asks(holder, group, Side::Input)
@@ -39,7 +39,7 @@ fn intr<Home, H: Holder<Home>>(holder: &H, group: Group) -> bool
 
 // Group B's flag: its two channels share the pin.
 fn flag_of_b<Home, H: Holder<Home>>(holder: &H) -> bool
-    ensures { result ≡ flag_of_b (H.chip holder.now).core }
+    ensures { result ≡ flag_of_b (H.way.chip holder.now).core }
 {
     match side_of_b(holder.word()) {
         Side::Input => flag(holder, Group::B, Side::Input),
@@ -51,7 +51,7 @@ fn flag_of_b<Home, H: Holder<Home>>(holder: &H) -> bool
 /// Port C Status.
 #[tactic(auto, unfolding(crate::specs::Status::status_of))]
 pub fn status<Home, H: Holder<Home>>(holder: &H) -> u8
-    ensures { result ≡ status_of (H.chip holder.now) }
+    ensures { result ≡ status_of (H.way.chip holder.now) }
 {
     let enables = holder.enables();
     bits::byte(

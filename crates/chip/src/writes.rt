@@ -1,9 +1,8 @@
 //! The end of a write, when the byte takes effect.
 ghost use Rattle.std.specs.Prelude.{◌≡◌, cond, eqb};
 ghost use Rattle.control.specs.Mode.{mode_number};
-ghost use Rattle.chip.specs.State.{port_of, with_port};
-ghost use Rattle.chip.specs.Held.{core_put};
-ghost use Rattle.chip.specs.Write.{stored_by, latch_written, after_write_ends};
+ghost use Rattle.chip.specs.Held.{Leaves, address_of};
+ghost use Rattle.chip.specs.Write.{latch_written, after_write_ends};
 
 use super::channel::Side;
 use super::holder::Holder;
@@ -15,10 +14,9 @@ use control::{Group, mode, roles};
 // A write to port A or B: nothing happens where the port is no output. The byte is offered where ACK takes the bytes, and otherwise only
 // stored.
 #[inline(always)]
-#[tactic(auto, unfolding(crate::specs::Write::stored_by))]
+#[tactic(auto, using(crate::proofs::AtAddress::write_ends_there), unfolding(crate::specs::Write::stored_by))]
 fn store<Home, H: Holder<Home>>(holder: &mut H, group: Group, byte: u8)
-    ensures held { H.chip holder.new ≡ core_put (H.chip holder.old) (with_port (H.chip holder.old).core group (stored_by (port_of (H.chip holder.old).core group) (H.chip holder.old).core.word group byte)) }
-    ensures whole { H.whole holder.old → H.whole holder.new }
+    ensures { Leaves H.way holder.old holder.new (λ c. after_write_ends c (address_of group) byte) }
 {
     let word = holder.word();
     if mode::output(word, group) {
@@ -52,14 +50,13 @@ fn latch(word: u8, before: u8, byte: u8) -> u8
     bits::blend(mask, byte, before)
 }
 
-/// A write of the byte to the address ends: a port that is an output stores it, and offers it where it is strobed; of port C the free
-/// outputs that the write reaches take it; at the control address it is a command. Data sheet: Mode 0 (Basic Input/Output), Output Control
-/// Signal Definition (OBF).
+// A write of the byte to the address ends: a port that is an output stores it, and offers it where it is strobed; of port C the free
+// outputs that the write reaches take it; at the control address it is a command. Data sheet: Mode 0 (Basic Input/Output), Output Control
+// Signal Definition (OBF).
 #[inline(always)]
 #[tactic(auto, unfolding(crate::specs::Write::after_write_ends))]
-pub fn end_write<Home, H: Holder<Home>>(holder: &mut H, address: u8, byte: u8)
-    ensures held { H.chip holder.new ≡ core_put (H.chip holder.old) (after_write_ends (H.chip holder.old).core address byte) }
-    ensures whole { H.whole holder.old → H.whole holder.new }
+pub(super) fn end_write<Home, H: Holder<Home>>(holder: &mut H, address: u8, byte: u8)
+    ensures { Leaves H.way holder.old holder.new (λ c. after_write_ends c address byte) }
 {
     match address {
         PORT_A => store(holder, Group::A, byte),

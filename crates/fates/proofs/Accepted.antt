@@ -7,14 +7,14 @@ use Rattle.bus.specs.Kinds.{is_kind, no_kind}
 use Rattle.bus.proofs.ByKind.{by_kind, no_row}
 use Rattle.bus.proofs.Phases.{reads_accept, writes_accept, levels_accept}
 use Rattle.bus.specs.Event.{Event, event}
-use Rattle.bus.specs.Device.{after_in, byte_in}
+use Rattle.bus.specs.Device.{Given, after_in, byte_in}
 use Rattle.bus.specs.Refusals.{is_busy, number_of}
 use Rattle.bus.specs.declared.Phase.{Phase}
 use Rattle.bus.specs.declared.Phase.TheVariants.{Idle, Reading, Writing}
 use Rattle.chip.specs.declared.Edition.{Edition}
 use Rattle.chip.specs.declared.Edition.TheVariants.{Older, Newer}
 use Rattle.chip.specs.declared.Chip.{Chip}
-use Rattle.chip.specs.Step.{Stepped, readable, limits, device, accepted, refused, stepped}
+use Rattle.chip.specs.Step.{readable, limits, device, accepted, refused, stepped}
 use Rattle.chip.proofs.Outcome.{step_accepts, step_refuses, step_number}
 use Rattle.fates.specs.Kinds.{unknown, kind_of, free, readable_at, accepts}
 
@@ -77,7 +77,7 @@ zero_accepted c e =
     (λ zeroed. same ∙ eq-eqb _ 0 (sym number ∙ zeroed), λ ok. number ∙ eqb-true _ 0 (sym same ∙ ok))
 
 -- What holds of the result of an accepted event, and of a refusal where the event is refused, holds of any event's.
-pub by_result : (P : Stepped → Bool → Type 0) (c : Chip) (e : Event)
+pub by_result : (P : Given Chip → Bool → Type 0) (c : Chip) (e : Event)
     → (accepts c.edition c.phase (kind_of e) ≡ true → P (accepted (after_in device c e.kind e.first e.second) (byte_in device c e.kind e.first)) true)
     → ((n : ℕ) → P (refused c n) false) → P (stepped c e) (accepts c.edition c.phase (kind_of e))
 by_result P c e taken left = go (accepts c.edition c.phase (kind_of e)) refl
@@ -91,5 +91,5 @@ by_result P c e taken left = go (accepts c.edition c.phase (kind_of e)) refl
 -- So it is with the chip that is left.
 pub by_outcome : (P : Chip → Bool → Type 0) (c : Chip) (e : Event)
     → (accepts c.edition c.phase (kind_of e) ≡ true → P (after_in device c e.kind e.first e.second) true) → P c false
-    → P (stepped c e).chip (accepts c.edition c.phase (kind_of e))
-by_outcome P c e taken left = by_result (λ r ok. P r.chip ok) c e taken (λ n. left)
+    → P (stepped c e).state (accepts c.edition c.phase (kind_of e))
+by_outcome P c e taken left = by_result (λ r ok. P r.state ok) c e taken (λ n. left)

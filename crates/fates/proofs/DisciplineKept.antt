@@ -42,7 +42,7 @@ two_digits_disciplined = search
 kept_from : (g : Group) (a : Surroundings) (c : Chip) (before later : List Event) → Disciplined g a c (before ++ later)
     → Disciplined g (surroundings_over a before) (run c before) later
 kept_from g a c [] later kept = kept
-kept_from g a c (e ∷ before) later kept = kept_from g (surroundings_next a e) (stepped c e).chip before later kept.1
+kept_from g a c (e ∷ before) later kept = kept_from g (surroundings_next a e) (stepped c e).state before later kept.1
 
 -- The second digit of the lost bale comes while IBF is high: its levels come first, and then STB falls.
 abbrev up_to_the_fall : List Event

@@ -23,7 +23,7 @@ use Rattle.fates.proofs.Projection.{follows}
 
 -- The chip that an event leaves.
 abbrev pub after : Chip → Event → Chip
-after c e = (stepped c e).chip
+after c e = (stepped c e).state
 
 module _ (g : Group) (s : Side) where
   -- The channel's condition and its latch, in a chip.

@@ -155,7 +155,7 @@ pub none_forces : (g : Group) (s : Side) (es : List Event) (c : Chip) → NeverF
 none_forces g s [] c = (λ kept. nowhere _, λ none. tt)
 none_forces g s (e ∷ es) c =
     let here = unforced_exactly g c e.first e.second s e.kind in
-    let later = none_forces g s es (stepped c e).chip in
+    let later = none_forces g s es (stepped c e).state in
     let P : List Event → Event → Type 0 = λ before x. ¬ Forces g s (run c before) x in (
       λ kept. at_both P e es (here.0 kept.0) (later.0 (rw (surroundings_next_lem c e) kept.1)),
       λ none. (here.1 (at_first P e es none), rw (← surroundings_next_lem c e) (later.1 (at_later P e es none))),

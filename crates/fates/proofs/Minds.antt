@@ -206,7 +206,7 @@ pub each_minds : (g : Group) (es : List Event) (c : Chip) → Disciplined g (sur
 each_minds g [] c = (λ kept. nowhere _, λ each. tt)
 each_minds g (e ∷ es) c =
     let here = minds_exactly g c e.first e.second e.kind in
-    let later = each_minds g es (stepped c e).chip in
+    let later = each_minds g es (stepped c e).state in
     let P : List Event → Event → Type 0 = λ before x. MindsIbf g (run c before) x in (
       λ kept. at_both P e es (here.0 kept.0) (later.0 (rw (surroundings_next_lem c e) kept.1)),
       λ each. (here.1 (at_first P e es each), rw (← surroundings_next_lem c e) (later.1 (at_later P e es each))),

@@ -147,7 +147,7 @@ module _ (c : Chip) (g : Group) (s : Side) where
 
   -- The same of every event, accepted or refused.
   pub follows : (e : Event)
-      → Goes (handshake_alone c.core.word g s || clears_now (surroundings_of c) e) (channel_of (stepped c e).chip.core g s)
+      → Goes (handshake_alone c.core.word g s || clears_now (surroundings_of c) e) (channel_of (stepped c e).state.core g s)
       (moved s channel (effect g s (surroundings_of c) e))
   follows e =
       by_outcome

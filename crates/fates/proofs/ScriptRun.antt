@@ -16,7 +16,7 @@ use Rattle.fates.specs.ScriptRun.{AnsweredAsHistory, Leaves}
 runs_alike : (c : Chip) (es : List Event) → run_in device c es ≡ run c es
 unfolding step_of
 runs_alike c [] = refl
-runs_alike c (e ∷ es) = runs_alike (stepped c e).chip es
+runs_alike c (e ∷ es) = runs_alike (stepped c e).state es
 
 pub leaves : (text : List ℕ) → Leaves text
 leaves text = history_left device pins_of (power_up_with all_high) text ∙ runs_alike (power_up_with all_high) (history_of text)

@@ -10,6 +10,7 @@ use Rattle.bus.proofs.ByKind.{by_kind}
 use Rattle.bus.specs.Event.{Event, event}
 use Rattle.control.specs.declared.Group.{Group}
 use Rattle.control.specs.Mode.{strobed_output}
+use Rattle.bus.specs.Device.{Given}
 use Rattle.chip.specs.declared.channel.Side.{Side}
 use Rattle.chip.specs.declared.channel.Side.TheVariants.{Input, Output}
 use Rattle.chip.specs.declared.Chip.{Chip}
@@ -19,7 +20,6 @@ use Rattle.chip.proofs.LevelsAfter.{levels_word, levels_lines}
 use Rattle.chip.specs.Reads.{read_of}
 use Rattle.chip.specs.Pins.{drives_port}
 use Rattle.chip.proofs.Strobed.{strobed_reads, acknowledge_drives, driven_shows}
-use Rattle.chip.specs.Step.{Stepped}
 use Rattle.chip.proofs.Outcome.{step_accepts}
 use Rattle.laws.proofs.OwnPort.{own_pins, own_read}
 use Rattle.laws.proofs.Falls.{output_latch_stays}
@@ -105,7 +105,7 @@ module _ (c : Chip) (g : Group) where
     driven_left =
         let lines = both (eqb x 2) _ fell in
         let low = not-true (bit_of d (strobe_pin g Output)) (both (bit_of c.core.c.outside (strobe_pin g Output)) _ lines.1).1 in
-        ap (λ (r : Stepped). drives_port r.chip.core g) (step_accepts c 5 x d (accepted_number c.edition c.phase 5 x d ok))
+        ap (λ (r : Given Chip). drives_port r.state.core g) (step_accepts c 5 x d (accepted_number c.edition c.phase 5 x d ok))
         ∙ acknowledge_drives (after_levels c.core x d) g
         (ap (λ w. strobed_output w g) (levels_word c.core x d) ∙ sym (strobes_same word g Output) ∙ on)
         (rw (levels_lines c.core x d, lines.0, ← line_same g Output) (low))

@@ -64,7 +64,7 @@ module _ (c : Chip) where
       k
 
   -- After any event, accepted or refused.
-  pub surroundings_next_lem : (e : Event) → surroundings_of (stepped c e).chip ≡ surroundings_next (surroundings_of c) e
+  pub surroundings_next_lem : (e : Event) → surroundings_of (stepped c e).state ≡ surroundings_next (surroundings_of c) e
   surroundings_next_lem e =
       by_outcome (λ c' ok. surroundings_of c' ≡ cond ok (surroundings_after (surroundings_of c) (kind_of e)) (surroundings_of c)) c e
       (surroundings_accepted e.kind e.first e.second) refl

@@ -44,7 +44,7 @@ Minds level nothing = Unit {0}
 -- Device and program keep to it throughout a history.
 abbrev pub Disciplined : Group → Surroundings → Chip → List Event → Type 0
 Disciplined g a c [] = Unit {0}
-Disciplined g a c (e ∷ es) = Minds (ibf c g) (effect g Input a e) × Disciplined g (surroundings_next a e) (stepped c e).chip es
+Disciplined g a c (e ∷ es) = Minds (ibf c g) (effect g Input a e) × Disciplined g (surroundings_next a e) (stepped c e).state es
 
 -- An event does not force the flag of the channel.
 abbrev pub Unforced : Effect → Type 0

@@ -43,7 +43,7 @@ latch_told g s c e = handshake_alone c.core.word g s || clears_now (surroundings
 -- The event moves the channel as the history says: its condition and its tallies always, and its latch where the history tells it. The latch of
 -- an output without a handshake is filled by a plain write too.
 pub record Follows (g : Group) (s : Side) (c : Chip) (e : Event) : Type 0 where
-  pub fill : (channel_of (stepped c e).chip.core g s).fill ≡ (moved s (channel_of c.core g s) (effect g s (surroundings_of c) e)).fill
-  pub tally : (channel_of (stepped c e).chip.core g s).tally ≡ (moved s (channel_of c.core g s) (effect g s (surroundings_of c) e)).tally
+  pub fill : (channel_of (stepped c e).state.core g s).fill ≡ (moved s (channel_of c.core g s) (effect g s (surroundings_of c) e)).fill
+  pub tally : (channel_of (stepped c e).state.core g s).tally ≡ (moved s (channel_of c.core g s) (effect g s (surroundings_of c) e)).tally
   pub latch : latch_told g s c e ≡ true
-      → (channel_of (stepped c e).chip.core g s).latch ≡ (moved s (channel_of c.core g s) (effect g s (surroundings_of c) e)).latch
+      → (channel_of (stepped c e).state.core g s).latch ≡ (moved s (channel_of c.core g s) (effect g s (surroundings_of c) e)).latch

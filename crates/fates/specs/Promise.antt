@@ -23,7 +23,7 @@ use Rattle.fates.specs.Bytes.{handed_over, overwritten, swallowed, cleared, stru
 -- The chip after a history: each event meets the chip that the one before it left.
 abbrev pub run : Chip → List Event → Chip
 run c [] = c
-run c (e ∷ es) = run (stepped c e).chip es
+run c (e ∷ es) = run (stepped c e).state es
 
 -- The tallies that it has then for a channel.
 abbrev pub tallies : Group → Side → Chip → List Event → Tally
@@ -76,14 +76,14 @@ InOrder n (b ∷ bs) = (n ≤ b.offer.place) × (b.offer.place < b.outcome.place
 -- An accepted event shows the value v: a read answers it, or the chip, as ACK falls, drives all eight lines of the port with it.
 abbrev pub Shows : Group → Side → Chip → Event → ℕ → Type 0
 Shows g Input c e v = ((stepped c e).number ≡ 0) × ((stepped c e).byte ≡ v)
-Shows g Output c e v = ((stepped c e).number ≡ 0) × (pins_of (stepped c e).chip (port_number g) ≡ record { levels = v; driven = 0xff })
+Shows g Output c e v = ((stepped c e).number ≡ 0) × (pins_of (stepped c e).state (port_number g) ≡ record { levels = v; driven = 0xff })
 
 -- The event at place n of a history shows v; the first is at place 1.
 abbrev pub ShownAt : Group → Side → Chip → List Event → ℕ → ℕ → Type 0
 ShownAt g s c [] n v = ⊥
 ShownAt g s c (e ∷ es) zero v = ⊥
 ShownAt g s c (e ∷ es) (suc zero) v = Shows g s c e v
-ShownAt g s c (e ∷ es) (suc (suc n)) v = ShownAt g s (stepped c e).chip es (suc n) v
+ShownAt g s c (e ∷ es) (suc (suc n)) v = ShownAt g s (stepped c e).state es (suc n) v
 
 -- Each byte that still waits after a history has, by then, the value that the chip's channel holds in its latch.
 abbrev pub HeldInTheLatch : Group → Side → Chip → List Event → List Byte → Type 0

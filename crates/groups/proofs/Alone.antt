@@ -58,18 +58,18 @@ heard_from g s c es = heard (effects g s (surroundings_of c) es)
 
 -- Of its first event, and of the others from the chip that it leaves.
 heard_on : (g : Group) (s : Side) (c : Chip) (e : Event) (es : List Event)
-    → hearing (effect g s (surroundings_of c) e) (heard_from g s (stepped c e).chip es) ≡ heard_from g s c (e ∷ es)
+    → hearing (effect g s (surroundings_of c) e) (heard_from g s (stepped c e).state es) ≡ heard_from g s c (e ∷ es)
 heard_on g s c e es = ap (λ a. hearing (effect g s (surroundings_of c) e) (heard (effects g s a es))) (surroundings_next_lem c e)
 
 heard_through : (g : Group) (s : Side) → Through g (λ c' es' c es. heard_from g s c es ≡ heard_from g s c' es')
 heard_through g s = record {
   none = λ c' c k. refl;
   dropped = λ c' c e es' es its so.
-      sym (heard_on g s c e es) ∙ ap (λ d. hearing d (heard_from g s (stepped c e).chip es)) (quiet g (surroundings_of c) s e its) ∙ so;
+      sym (heard_on g s c e es) ∙ ap (λ d. hearing d (heard_from g s (stepped c e).state es)) (quiet g (surroundings_of c) s e its) ∙ so;
   kept = λ c' c e es' es k others clear so.
       sym (heard_on g s c e es)
       ∙ ap (hearing (effect g s (surroundings_of c) e)) so
-      ∙ ap (λ d. hearing d (heard_from g s (stepped c' e).chip es')) (sym (same_effect g _ _ (around g c' c k) s e others clear))
+      ∙ ap (λ d. hearing d (heard_from g s (stepped c' e).state es')) (sym (same_effect g _ _ (around g c' c k) s e others clear))
       ∙ heard_on g s c' e es';
 }
 

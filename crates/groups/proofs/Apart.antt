@@ -22,7 +22,7 @@ where_accepted false its only ok = absurd (contrary false refl ok)
 pub left_by_history : (g : Group) (c : Chip) (es : List Event) → only_of (other g) (surroundings_of c) es ≡ true → Left g c es
 left_by_history g c [] only = refl
 left_by_history g c (e ∷ es) only =
-    let c' = (stepped c e).chip in
+    let c' = (stepped c e).state in
     let a = surroundings_of c in
     let is = both (not (accepts c.edition c.phase (kind_of e)) || harmless (other g) a (kind_of e)) _ only in
     left_by_history g c' es (rw (surroundings_next_lem c e) is.1) ∙ same_belongings g c' c (left_by_event g c e (where_accepted _ _ is.0))

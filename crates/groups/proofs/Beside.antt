@@ -69,9 +69,9 @@ module _ (g : Group) (c' c : Chip) (k : Beside g c' c) where
 
     -- An event that is not the other group's comes to both chips, which stay beside each other.
     kept_core : is_of (other g) a (kind_of e) ≡ false → accepts c'.edition c'.phase (kind_of e) ≡ accepts c.edition c.phase (kind_of e)
-        → Alike g (stepped c' e).chip.core (stepped c e).chip.core
+        → Alike g (stepped c' e).state.core (stepped c e).state.core
     kept_core others =
-        by_outcome (λ d ok. accepts c'.edition c'.phase (kind_of e) ≡ ok → Alike g (stepped c' e).chip.core d.core) c e
+        by_outcome (λ d ok. accepts c'.edition c'.phase (kind_of e) ≡ ok → Alike g (stepped c' e).state.core d.core) c e
         (λ ok. by_outcome (λ d' ok'. ok' ≡ true → Alike g d'.core (after_in device c e.kind e.first e.second).core) c' e
         (λ ok' same. both_take e.kind e.first e.second ok others)
         (λ same. absurd (contrary false refl same)))
@@ -80,7 +80,7 @@ module _ (g : Group) (c' c : Chip) (k : Beside g c' c) where
         (λ same. k.core))
 
     pub kept_beside : is_of (other g) a (kind_of e) ≡ false → in_the_way (other g) a (kind_of e) ≡ false
-        → Beside g (stepped c' e).chip (stepped c e).chip
+        → Beside g (stepped c' e).state (stepped c e).state
     kept_beside others clear = record {
       core = kept_core others (rw (k.edition, k.bus) (accepted_beside (other g) a (kind_of e) others clear));
       edition = edition_stays c' _ _ _ ∙ k.edition ∙ sym (edition_stays c _ _ _);
@@ -91,7 +91,7 @@ module _ (g : Group) (c' c : Chip) (k : Beside g c' c) where
     }
 
     -- One that is the other group's comes to c alone, and c' stays beside it.
-    pub dropped_beside : is_of (other g) a (kind_of e) ≡ true → Beside g c' (stepped c e).chip
+    pub dropped_beside : is_of (other g) a (kind_of e) ≡ true → Beside g c' (stepped c e).state
     dropped_beside its = record {
       core = alike_then k.core (alike_back (left_by_event g c e (λ ok. rw (its))).core);
       edition = k.edition ∙ sym (edition_stays c _ _ _);

@@ -18,10 +18,10 @@ use Rattle.groups.proofs.Beside.{Beside, kept_beside, dropped_beside}
 pub record Through (g : Group) (P : Chip → List Event → Chip → List Event → Type 0) : Type 0 where
   pub none : (c' c : Chip) → Beside g c' c → P c' [] c []
   pub dropped : (c' c : Chip) (e : Event) (es' es : List Event) → is_of (other g) (surroundings_of c) (kind_of e) ≡ true
-      → P c' es' (stepped c e).chip es → P c' es' c (e ∷ es)
+      → P c' es' (stepped c e).state es → P c' es' c (e ∷ es)
   pub kept : (c' c : Chip) (e : Event) (es' es : List Event) → Beside g c' c
       → is_of (other g) (surroundings_of c) (kind_of e) ≡ false → in_the_way (other g) (surroundings_of c) (kind_of e) ≡ false
-      → P (stepped c' e).chip es' (stepped c e).chip es → P c' (e ∷ es') c (e ∷ es)
+      → P (stepped c' e).state es' (stepped c e).state es → P c' (e ∷ es') c (e ∷ es)
 
 -- Then it is so of every history in which no cycle of the other group is in the way.
 pub by_history : (g : Group) (P : Chip → List Event → Chip → List Event → Type 0) → Through g P
@@ -29,8 +29,8 @@ pub by_history : (g : Group) (P : Chip → List Event → Chip → List Event �
     → P c' (without (other g) (surroundings_of c) es) c es
 by_history g P t [] c' c k clear = t.none c' c k
 by_history g P t (e ∷ es) c' c k clear =
-    let next = (stepped c e).chip in
-    let next' = (stepped c' e).chip in
+    let next = (stepped c e).state in
+    let next' = (stepped c' e).state in
     let first = neither (in_the_way (other g) (surroundings_of c) (kind_of e)) _ clear in
     let later : ever_in_the_way (other g) (surroundings_of next) es ≡ false = rw (surroundings_next_lem c e) first.1 in
     rw (← surroundings_next_lem c e)

@@ -29,7 +29,7 @@ shown_by_account g es = ap (at_its_pins g) ((account Older all_high es).levels 2
 -- One history after another.
 run_on : (c : Chip) (es later : List Event) → run (run c es) later ≡ run c (es ++ later)
 run_on c [] later = refl
-run_on c (e ∷ es) later = run_on (stepped c e).chip es later
+run_on c (e ∷ es) later = run_on (stepped c e).state es later
 
 changes_by_account : (x : Example) → by_account x.group x.before ≡ x.was → by_account x.group (x.before ++ x.done) ≡ x.becomes
     → eqb x.becomes x.was ≡ false → Changes x

@@ -127,7 +127,7 @@ module _ (g : Group) (c : Chip) (e : Event) where
   number c = (account_from c []).number e
 
   -- and so is what runs on the bus.
-  begins : number_by c.edition Idle (kind_of e) ≡ 0 → (stepped (with_idle_bus c) e).chip.phase ≡ phase_after Idle (kind_of e)
+  begins : number_by c.edition Idle (kind_of e) ≡ 0 → (stepped (with_idle_bus c) e).state.phase ≡ phase_after Idle (kind_of e)
   begins zeroed =
       ap (λ a. a.phase) (surroundings_next_lem (with_idle_bus c) e)
       ∙ ap (λ ok. (cond ok (surroundings_after (surroundings_of (with_idle_bus c)) (kind_of e)) (surroundings_of (with_idle_bus c))).phase)
@@ -156,7 +156,7 @@ module _ (g : Group) (c : Chip) (e : Event) where
 never_blocked : (g : Group) (es : List Event) (c : Chip) → (ever_in_the_way g (surroundings_of c) es ≡ false) ↔ NeverBlocked g c es
 never_blocked g [] c = (λ clear. tt, λ none. refl)
 never_blocked g (e ∷ es) c =
-    let later = never_blocked g es (stepped c e).chip in (
+    let later = never_blocked g es (stepped c e).state in (
       λ clear.
           let both = neither (in_the_way g (surroundings_of c) (kind_of e)) _ clear in
           (λ b. contrary _ both.0 ((in_the_way_lem g c e).1 b), later.0 (rw (surroundings_next_lem c e) both.1)),

@@ -147,7 +147,7 @@ module _ (g : Group) (c : Chip) where
 
   -- An event that is refused, or harmless.
   pub left_by_event : (e : Event)
-      → (accepts c.edition c.phase (kind_of e) ≡ true → harmless (other g) (surroundings_of c) (kind_of e) ≡ true) → AlikeOnBus g (stepped c e).chip c
+      → (accepts c.edition c.phase (kind_of e) ≡ true → harmless (other g) (surroundings_of c) (kind_of e) ≡ true) → AlikeOnBus g (stepped c e).state c
   left_by_event e =
       by_outcome (λ c' ok. (ok ≡ true → harmless (other g) (surroundings_of c) (kind_of e) ≡ true) → AlikeOnBus g c' c) c e
       (λ ok does. one_of _ _ (does refl) (its_leaves e.kind e.first e.second ok) (for_both_leaves e.kind e.first e.second ok))

@@ -135,7 +135,7 @@ pub each_harmless : (g : Group) (es : List Event) (c : Chip) → (only_of g (sur
 each_harmless g [] c = (λ only. nowhere _, λ each. refl)
 each_harmless g (e ∷ es) c =
     let here = one_group c e g in
-    let later = each_harmless g es (stepped c e).chip in
+    let later = each_harmless g es (stepped c e).state in
     let P : List Event → Event → Type 0 = λ before x. (stepped (run c before) x).number ≡ 0 → Harmless g (run c before) x in (
       λ only.
           let are = both (not (accepts c.edition c.phase (kind_of e)) || harmless g (surroundings_of c) (kind_of e)) _ only in
@@ -146,10 +146,10 @@ each_harmless g (e ∷ es) c =
 -- and of it those events are struck out.
 pub struck_out : (g : Group) (es : List Event) (c : Chip) → StruckOut g c es (without g (surroundings_of c) es)
 struck_out g [] c = at_the_end
-struck_out g (e ∷ es) c = go (is_of g (surroundings_of c) (kind_of e)) refl (rw (← surroundings_next_lem c e) (struck_out g es (stepped c e).chip))
+struck_out g (e ∷ es) c = go (is_of g (surroundings_of c) (kind_of e)) refl (rw (← surroundings_next_lem c e) (struck_out g es (stepped c e).state))
   where
     go : (b : Bool) → is_of g (surroundings_of c) (kind_of e) ≡ b
-        → StruckOut g (stepped c e).chip es (without g (surroundings_next (surroundings_of c) e) es)
+        → StruckOut g (stepped c e).state es (without g (surroundings_next (surroundings_of c) e) es)
         → StruckOut g c (e ∷ es)
         (cond b (without g (surroundings_next (surroundings_of c) e) es) (e ∷ without g (surroundings_next (surroundings_of c) e) es))
     go true its later = struck ((done_on c e g).0 its) later

@@ -29,12 +29,12 @@ pub record Blocked (g : Group) (c : Chip) (e : Event) : Type 0 where
   pub runs : Runs c.phase g
   pub refused : (stepped c e).number ≡ 4
   pub accepted : (stepped (with_idle_bus c) e).number ≡ 0
-  pub not_its : ¬ Runs (stepped (with_idle_bus c) e).chip.phase g
+  pub not_its : ¬ Runs (stepped (with_idle_bus c) e).state.phase g
 
 -- So it is with no event of a history.
 abbrev pub NeverBlocked : Group → Chip → List Event → Type 0
 NeverBlocked g c [] = Unit {0}
-NeverBlocked g c (e ∷ es) = (¬ Blocked g c e) × NeverBlocked g (stepped c e).chip es
+NeverBlocked g c (e ∷ es) = (¬ Blocked g c e) × NeverBlocked g (stepped c e).state es
 
 -- No cycle of the group runs where a history begins, and no event of it is refused so.
 pub record OutOfTheWay (g : Group) (c : Chip) (es : List Event) : Type 0 where

@@ -42,6 +42,6 @@ EachHarmless g c = Wherever (λ before e. (stepped (run c before) e).number ≡ 
 -- What is left of a history, from the chip c on, where those events are struck out that are done on the group.
 pub data StruckOut (g : Group) : Chip → List Event → List Event → Type 0 where
   at_the_end : {c : Chip} → StruckOut g c [] []
-  struck : {c : Chip} {e : Event} {es left : List Event} → DoneOn c e g → StruckOut g (stepped c e).chip es left → StruckOut g c (e ∷ es) left
-  kept : {c : Chip} {e : Event} {es left : List Event} → ¬ DoneOn c e g → StruckOut g (stepped c e).chip es left
+  struck : {c : Chip} {e : Event} {es left : List Event} → DoneOn c e g → StruckOut g (stepped c e).state es left → StruckOut g c (e ∷ es) left
+  kept : {c : Chip} {e : Event} {es left : List Event} → ¬ DoneOn c e g → StruckOut g (stepped c e).state es left
       → StruckOut g c (e ∷ es) (e ∷ left)

@@ -45,19 +45,10 @@ device = record {
   levels_limits = λ s x d. refl;
 }
 
--- What an event gives: the device, the number and the byte.
-pub record Stepped : Type 0 where
-  pub chip : Chip8355
-  pub number : ℕ
-  pub byte : ℕ
-
-abbrev pub as_stepped : Given Chip8355 → Stepped
-as_stepped o = record { chip = o.state; number = o.number; byte = o.byte }
-
 -- One event, of kind k with operands x and d: the step of that device.
-unfoldable pub step_of : Chip8355 → ℕ → ℕ → ℕ → Stepped
-step_of c k x d = as_stepped (step_in device c k x d)
+unfoldable pub step_of : Chip8355 → ℕ → ℕ → ℕ → Given Chip8355
+step_of c k x d = step_in device c k x d
 
 -- What the step makes of an event.
-abbrev pub stepped : Chip8355 → Event → Stepped
+abbrev pub stepped : Chip8355 → Event → Given Chip8355
 stepped c e = step_of c e.kind e.first e.second

@@ -1,14 +1,14 @@
 //! What each event on the bus does to the ports, and what they show.
 ghost use Rattle.std.specs.Prelude.{◌≡◌};
 ghost use Rattle.i8355.specs.Registers.{after_reset, after_write_ends, after_levels};
-ghost use Rattle.i8355.specs.Views.{pins_of_port, pins_of};
+ghost use Rattle.i8355.specs.Views.{pins_of_port, pins_of, read_of};
 ghost use Rattle.i8355.specs.Step as sheet;
 ghost use Rattle.i8355.specs.declared.Ports.{Ports};
 
 use crate::{Chip8355, DIRECTION_A, DIRECTION_B, PORT_A, PORT_B, Port, Ports};
 use bus::devices::Device;
+use bus::events::Event;
 use bus::{Limits, Phase, Pins};
-use std::mem;
 
 impl Port {
     // An output pin shows its bit of the latch, an input pin the level outside.
@@ -80,11 +80,6 @@ impl Device for Chip8355 {
         }
     }
 
-    // A read sees the pins of the port, those of outputs too.
-    fn answer(&self, address: u8) -> u8 {
-        self.pins(address).levels
-    }
-
     fn pins(&self, port: u8) -> Pins {
         match port {
             PORT_A => self.ports.a.pins(),
@@ -93,28 +88,35 @@ impl Device for Chip8355 {
         }
     }
 
-    fn reset(&mut self) {
-        self.phase = Phase::Idle;
-        self.ports.reset();
-    }
-
-    fn begin_read(&mut self, address: u8) {
-        self.phase = Phase::Reading(address);
-    }
-
-    // The byte of a write goes to its register; the end of a read does nothing more.
-    fn end_cycle(&mut self) {
-        let ended = mem::replace(&mut self.phase, Phase::Idle);
-        if let Phase::Writing(address, byte) = ended {
-            self.ports.write(address, byte);
+    // The byte of a write goes to its register as the write ends; the end of a read does nothing more.
+    fn accept(&mut self, event: Event) -> u8 {
+        match event {
+            Event::Reset => {
+                self.ports.reset();
+                self.phase = Phase::Idle;
+            }
+            Event::BeginRead(address) => {
+                self.phase = Phase::Reading(address);
+                return self.answer(address);
+            }
+            Event::EndCycle => {
+                if let Phase::Writing(address, byte) = self.phase {
+                    self.ports.write(address, byte);
+                }
+                self.phase = Phase::Idle;
+            }
+            Event::BeginWrite(address, byte) => self.phase = Phase::Writing(address, byte),
+            Event::OutsideLevels(port, levels) => self.ports.put_levels(port, levels),
         }
+        0
     }
+}
 
-    fn begin_write(&mut self, address: u8, byte: u8) {
-        self.phase = Phase::Writing(address, byte);
-    }
-
-    fn put_levels(&mut self, port: u8, levels: u8) {
-        self.ports.put_levels(port, levels);
+impl Chip8355 {
+    /// What a read at the address would answer; it begins none. A read sees the pins of the port, those of outputs too.
+    pub fn answer(&self, address: u8) -> u8
+        ensures { result ≡ read_of self.now address }
+    {
+        self.pins(address).levels
     }
 }

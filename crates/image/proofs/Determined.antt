@@ -2,9 +2,11 @@
 -- which the bytes of an image hold its chip; a method that puts leaves none where the bytes are those of the state that they tell.
 -- Rests on bits' Determined.
 use Rattle.std.proofs.Common.{refl, ap}
-use Rattle.bits.proofs.Determined.{Determines, DeterminesWhere, equation_determines, equations_determine, whole_determines}
+use Rattle.bits.proofs.Determined.{Determines, DeterminesWhere, equation_determines, equations_determine}
 use Rattle.image.specs.Good.{Told}
-use Rattle.image.specs.Once.{told_once}
+use Rattle.chip.specs.Held.{Holds}
+use Rattle.chip.proofs.Held.{one_after}
+use Rattle.image.specs.Held.{in_bytes}
 use Rattle.image.specs.contracts as image_says
 use Rattle.image.proofs as image
 
@@ -36,6 +38,9 @@ held_phase_determined c x y = equation_determines
 pub held_runs_determined : Determines image_says.held.ArrayU8LENGTHHolderImage.runs.ended image.held.ArrayU8LENGTHHolderImage.runs.Reads.Learnt
 held_runs_determined c x y = equation_determines
 
+pub held_edition_determined : Determines image_says.held.ArrayU8LENGTHHolderImage.edition.ended image.held.ArrayU8LENGTHHolderImage.edition.Reads.Learnt
+held_edition_determined c x y = equation_determines
+
 pub held_word_determined : Determines image_says.held.ArrayU8LENGTHHolderImage.word.ended image.held.ArrayU8LENGTHHolderImage.word.Reads.Learnt
 held_word_determined c x y = equation_determines
 
@@ -54,30 +59,34 @@ held_outside_c_determined c x y = equation_determines
 pub held_enables_determined : Determines image_says.held.ArrayU8LENGTHHolderImage.enables.ended image.held.ArrayU8LENGTHHolderImage.enables.Reads.Learnt
 held_enables_determined c x y = equation_determines
 
+pub held_put_phase_determined
+    : DeterminesWhere image_says.held.ArrayU8LENGTHHolderImage.put_phase.ended image.held.ArrayU8LENGTHHolderImage.put_phase.Reads.Learnt (λ c. Told c.1.0.now × Holds in_bytes c.1.1.0)
+held_put_phase_determined c here x y p q = equations_determine (refl, one_after here.0 (p here.1) (q here.1)) (refl, refl)
+
 pub held_put_word_determined
     : DeterminesWhere image_says.held.ArrayU8LENGTHHolderImage.put_word.ended image.held.ArrayU8LENGTHHolderImage.put_word.Reads.Learnt (λ c. Told c.1.0.now)
-held_put_word_determined c told x y p q = whole_determines told_once told (refl, p) (refl, q)
+held_put_word_determined c told x y p q = equations_determine (refl, one_after told p q) (refl, refl)
 
 pub held_put_channel_determined
     : DeterminesWhere image_says.held.ArrayU8LENGTHHolderImage.put_channel.ended image.held.ArrayU8LENGTHHolderImage.put_channel.Reads.Learnt (λ c. Told c.1.0.now)
-held_put_channel_determined c told x y p q = whole_determines told_once told (refl, p) (refl, q)
+held_put_channel_determined c told x y p q = equations_determine (refl, one_after told p q) (refl, refl)
 
 pub held_put_latch_determined
     : DeterminesWhere image_says.held.ArrayU8LENGTHHolderImage.put_latch.ended image.held.ArrayU8LENGTHHolderImage.put_latch.Reads.Learnt (λ c. Told c.1.0.now)
-held_put_latch_determined c told x y p q = whole_determines told_once told (refl, p) (refl, q)
+held_put_latch_determined c told x y p q = equations_determine (refl, one_after told p q) (refl, refl)
 
 pub held_put_outside_determined
     : DeterminesWhere image_says.held.ArrayU8LENGTHHolderImage.put_outside.ended image.held.ArrayU8LENGTHHolderImage.put_outside.Reads.Learnt (λ c. Told c.1.0.now)
-held_put_outside_determined c told x y p q = whole_determines told_once told (refl, p) (refl, q)
+held_put_outside_determined c told x y p q = equations_determine (refl, one_after told p q) (refl, refl)
 
 pub held_put_latch_c_determined
     : DeterminesWhere image_says.held.ArrayU8LENGTHHolderImage.put_latch_c.ended image.held.ArrayU8LENGTHHolderImage.put_latch_c.Reads.Learnt (λ c. Told c.1.0.now)
-held_put_latch_c_determined c told x y p q = whole_determines told_once told (refl, p) (refl, q)
+held_put_latch_c_determined c told x y p q = equations_determine (refl, one_after told p q) (refl, refl)
 
 pub held_put_outside_c_determined
     : DeterminesWhere image_says.held.ArrayU8LENGTHHolderImage.put_outside_c.ended image.held.ArrayU8LENGTHHolderImage.put_outside_c.Reads.Learnt (λ c. Told c.1.0.now)
-held_put_outside_c_determined c told x y p q = whole_determines told_once told (refl, p) (refl, q)
+held_put_outside_c_determined c told x y p q = equations_determine (refl, one_after told p q) (refl, refl)
 
 pub held_put_enables_determined
     : DeterminesWhere image_says.held.ArrayU8LENGTHHolderImage.put_enables.ended image.held.ArrayU8LENGTHHolderImage.put_enables.Reads.Learnt (λ c. Told c.1.0.now)
-held_put_enables_determined c told x y p q = whole_determines told_once told (refl, p) (refl, q)
+held_put_enables_determined c told x y p q = equations_determine (refl, one_after told p q) (refl, refl)

@@ -2,7 +2,7 @@ pub mod Places
 pub mod Layout
 pub mod Loaded
 pub mod Good
-pub mod Once
+pub mod Held
 pub mod Masks
 pub mod Slices
 pub mod OlderPlaces

@@ -1,18 +1,17 @@
 //! The bytes of an image hold its chip: each part is read where it stands, and put back there.
 ghost use Rattle.std.specs.Prelude.{◌≡◌, ◌<◌};
-ghost use Rattle.image.specs.Loaded.{state_of};
-ghost use Rattle.image.specs.Good.{Told};
-ghost use Rattle.image.specs.Once.{told_once};
+ghost use Rattle.image.specs.Held.{in_bytes};
 ghost use Rattle.image.specs.Layout.{number_of};
 
 use super::places::{
-    BUS, ENABLES, LATCH_C, LATCHES, LENGTH, LEVELS_A, LEVELS_B, LEVELS_C, WORD, WRITES, WRITTEN,
+    BUS, EDITION, ENABLES, LATCH_C, LATCHES, LENGTH, LEVELS_A, LEVELS_B, LEVELS_C, WORD, WRITES,
+    WRITTEN,
 };
 use super::{load, save};
 use bus::Phase;
 use chip::channel::{Channel, Side};
 use chip::holder::Holder;
-use chip::{Enables, PORT_A, PORT_B};
+use chip::{Edition, Enables, PORT_A, PORT_B};
 use control::Group;
 
 /// Names this crate as the one that says how an image holds a chip, and has no other use.
@@ -32,18 +31,14 @@ fn number(group: Group, side: Side) -> usize
 }
 
 impl Holder<Image> for [u8; LENGTH] {
-    ghost chip = { state_of };
-
-    ghost whole = { Told };
-
-    ghost in_one_way = { told_once };
+    ghost way = { in_bytes };
 
     #[tactic(auto, unfolding(crate::specs::Loaded::state_of))]
     fn phase(&self) -> Phase {
         load::phase(self[BUS], self[WRITTEN])
     }
 
-    #[tactic(auto, using(crate::proofs::OwnCycle::a_reads, crate::proofs::OwnCycle::a_writes, crate::proofs::OwnCycle::b_reads, crate::proofs::OwnCycle::b_writes))]
+    #[tactic(auto, using(crate::proofs::OwnCycle::runs_there))]
     fn runs(&self, group: Group, side: Side) -> bool {
         self[BUS]
             == match (group, side) {
@@ -52,6 +47,11 @@ impl Holder<Image> for [u8; LENGTH] {
                 (Group::B, Side::Input) => PORT_B,
                 (Group::B, Side::Output) => WRITES + PORT_B,
             }
+    }
+
+    #[tactic(auto, unfolding(crate::specs::Loaded::state_of))]
+    fn edition(&self) -> Edition {
+        load::edition(self[EDITION])
     }
 
     #[tactic(auto, unfolding(crate::specs::Loaded::state_of))]
@@ -87,22 +87,27 @@ impl Holder<Image> for [u8; LENGTH] {
         load::enables(self[ENABLES])
     }
 
-    #[tactic(auto, using(crate::proofs::PartPut::word_held, crate::proofs::PartPut::word_whole))]
+    #[tactic(auto, using(crate::proofs::PartPut::phase_left))]
+    fn put_phase(&mut self, phase: Phase) {
+        save::bus(self, phase);
+    }
+
+    #[tactic(auto, using(crate::proofs::PartPut::word_left))]
     fn put_word(&mut self, word: u8) {
         self[WORD] = word;
     }
 
-    #[tactic(auto, using(crate::proofs::PartPut::channel_held, crate::proofs::PartPut::channel_whole))]
+    #[tactic(auto, using(crate::proofs::PartPut::channel_left))]
     fn put_channel(&mut self, group: Group, side: Side, channel: Channel) {
         save::channel(self, number(group, side), &channel);
     }
 
-    #[tactic(auto, using(crate::proofs::PartPut::latch_held, crate::proofs::PartPut::latch_whole))]
+    #[tactic(auto, using(crate::proofs::PartPut::latch_left))]
     fn put_latch(&mut self, group: Group, side: Side, byte: u8) {
         self[LATCHES + number(group, side)] = byte;
     }
 
-    #[tactic(auto, using(crate::proofs::PartPut::a_held, crate::proofs::PartPut::a_whole, crate::proofs::PartPut::b_held, crate::proofs::PartPut::b_whole))]
+    #[tactic(auto, using(crate::proofs::PartPut::levels_a_left, crate::proofs::PartPut::levels_b_left))]
     fn put_outside(&mut self, group: Group, levels: u8) {
         match group {
             Group::A => self[LEVELS_A] = levels,
@@ -110,17 +115,17 @@ impl Holder<Image> for [u8; LENGTH] {
         }
     }
 
-    #[tactic(auto, using(crate::proofs::PartPut::latch_c_held, crate::proofs::PartPut::latch_c_whole))]
+    #[tactic(auto, using(crate::proofs::PartPut::latch_c_left))]
     fn put_latch_c(&mut self, byte: u8) {
         self[LATCH_C] = byte;
     }
 
-    #[tactic(auto, using(crate::proofs::PartPut::lines_held, crate::proofs::PartPut::lines_whole))]
+    #[tactic(auto, using(crate::proofs::PartPut::levels_c_left))]
     fn put_outside_c(&mut self, levels: u8) {
         self[LEVELS_C] = levels;
     }
 
-    #[tactic(auto, using(crate::proofs::PartPut::enables_held, crate::proofs::PartPut::enables_whole))]
+    #[tactic(auto, using(crate::proofs::PartPut::enables_left))]
     fn put_enables(&mut self, enables: Enables) {
         self[ENABLES] = save::enables(enables);
     }

@@ -1,19 +1,19 @@
 -- Which events make a chip another one: a beginning and an end do where they are accepted, and levels do where the lines of their port become others,
 -- or the latch to which they go through.
--- Rests on Exact and bits' Logic.
-use Rattle.std.proofs.Common.{rules, ◌≡◌, ◌∙◌, refl, sym, ap, subst, Bool, true, false, cond, not, ◌||◌, ℕ, suc, zero, arith, ltb, ne_eqb, Result, Ok, Err, is_err}
+-- Rests on Exact, Packed, bits' Logic and bus's Named.
+use Rattle.std.proofs.Common.{rules, ◌≡◌, ◌∙◌, refl, sym, ap, subst, Bool, true, false, cond, not, ◌||◌, ℕ, suc, zero, arith, ltb, ne_eqb, ◌⊎◌, ⊎_elim}
 use Rattle.std.proofs.Math.Bool.{and-false, and-not_self}
 use Rattle.bits.specs.Bit.{bit_of}
 use Rattle.bits.proofs.Logic.{contrary}
 use Rattle.bus.specs.Kinds as kinds
 use Rattle.bus.specs.Kinds.{is_kind}
-use Rattle.bus.specs.declared.Phase.{Phase}
 use Rattle.bus.specs.declared.Limits.{Limits}
-use Rattle.bus.specs.declared.refusals.Refusal.{Refusal}
-use Rattle.bus.specs.Answers.{raw, refusal_number, number_told}
+use Rattle.bus.specs.Answers.{raw, after_event}
 use Rattle.bus.specs.declared.events.Event.{Event}
+use Rattle.bus.specs.declared.events.Event.TheVariants.{BeginRead, EndCycle, BeginWrite}
 use Rattle.bus.specs.Refusals.{is_busy, number_of}
 use Rattle.bus.specs.Device.{read_begun_in, cycle_ended_in, write_begun_in, levels_put_in}
+pub use Rattle.bus.proofs.Named.{named, unnamed}
 use Rattle.chip.specs.declared.Port.{Port}
 use Rattle.chip.specs.declared.Core.{Core}
 use Rattle.chip.specs.declared.Chip.{Chip}
@@ -23,13 +23,8 @@ use Rattle.chip.specs.Step.{device}
 use Rattle.journal.specs.declared.compact.Standing.{Standing}
 use Rattle.journal.specs.contracts.compact.StandingPartialEq.TheImpl as standings
 use Rattle.journal.specs.Same.{same_state, standing_at}
+pub use Rattle.journal.proofs.Packed.{frame_small}
 use Rattle.journal.proofs.Exact.{then, other_state}
-
--- An event that is not refused has the number 0.
-pub accepted : {X : Type 0} (r : Result X Refusal) (l : Limits) (ph ph' : Phase) (e e' : Event) → is_err r ≡ false
-    → number_told refusal_number r ≡ number_of l ph (raw e).kind (raw e).first → ph ≡ ph' → e ≡ e' → number_of l ph' (raw e').kind (raw e').first ≡ 0
-accepted (Ok x) l ph ph' e e' ok told phase event = sym (told ∙ (λ i. number_of l (phase i) (raw (event i)).kind (raw (event i)).first))
-accepted (Err r) l ph ph' e e' ok told phase event = absurd (contrary true ok refl)
 
 -- A cycle whose beginning is accepted finds the bus idle, and an end that is accepted finds it busy.
 reads_idle : (there readable busy : Bool) → ◌≡◌ {A = ℕ} (cond (not there || false) 2 (cond (not readable) 3 (cond busy 4 0))) 0 → busy ≡ false
@@ -56,17 +51,30 @@ module _ (c d : Chip) where
   ended busy idle = other_state c d (λ same. contrary (is_busy d.phase) idle (subst (λ (e : Chip). is_busy e.phase ≡ true) same busy))
 
 module _ (c : Chip) (l : Limits) (x d : ℕ) where
-  pub read_changes : number_of l c.phase kinds.begin_read x ≡ 0 → same_state c (read_begun_in device c x) ≡ false
+  read_changes : number_of l c.phase kinds.begin_read x ≡ 0 → same_state c (read_begun_in device c x) ≡ false
   unfolding number_of is_kind
   read_changes ok = begun c (read_begun_in device c x) (reads_idle (ltb x l.addresses) (ltb x l.readable) (is_busy c.phase) ok) refl
 
-  pub write_changes : number_of l c.phase kinds.begin_write x ≡ 0 → same_state c (write_begun_in device c x d) ≡ false
+  write_changes : number_of l c.phase kinds.begin_write x ≡ 0 → same_state c (write_begun_in device c x d) ≡ false
   unfolding number_of is_kind
   write_changes ok = begun c (write_begun_in device c x d) (writes_idle (ltb x l.addresses) (is_busy c.phase) ok) refl
 
-  pub end_changes : number_of l c.phase kinds.end_cycle x ≡ 0 → same_state c (cycle_ended_in device c) ≡ false
+  end_changes : number_of l c.phase kinds.end_cycle x ≡ 0 → same_state c (cycle_ended_in device c) ≡ false
   unfolding number_of is_kind
   end_changes ok = ended c (cycle_ended_in device c) (ends_busy (is_busy c.phase) ok) refl
+
+-- So a cycle that is accepted as it begins or ends makes the chip another one.
+pub cycle_changes : (c : Chip) (l : Limits) (e : Event)
+    → ((x : ℕ) × (e ≡ BeginRead x)) ⊎ ((e ≡ EndCycle) ⊎ ((x : ℕ) × (d : ℕ) × (e ≡ BeginWrite x d)))
+    → number_of l c.phase (raw e).kind (raw e).first ≡ 0 → same_state c (after_event device e c) ≡ false
+cycle_changes c l e is =
+    let by : (f : Event) → e ≡ f → Changes f → Changes e = λ f same changes. subst Changes (sym same) changes in
+    ⊎_elim (λ r. by (BeginRead r.0) r.1 (read_changes c l r.0 0))
+    (⊎_elim (λ same. by EndCycle same (end_changes c l 0 0)) (λ w. by (BeginWrite w.0 w.1) w.2 (write_changes c l w.0 w.1)))
+    is
+  where
+    Changes : Event → Type 0
+    Changes f = number_of l c.phase (raw f).kind (raw f).first ≡ 0 → same_state c (after_event device f c) ≡ false
 
 -- Levels on port C that are there already fall nowhere.
 none_falls : (before n : ℕ) → fallen before before n ≡ false
@@ -136,3 +144,5 @@ module _ (c : Chip) where
             sym (other_state c next
             (λ same. contrary (standings.ghosts.eq (standing_at next x) (standing_at c x)) is
             (subst (λ (e : Chip). standings.ghosts.eq (standing_at e x) (standing_at c x) ≡ true) same (standing_self (standing_at c x)))))
+
+pub ruleset by_word = (frame_small, named, unnamed, unchanged)

@@ -7,3 +7,4 @@ pub mod Keeping
 pub mod Trimming
 pub mod Determined
 pub mod Editions
+pub mod Refused

@@ -13,7 +13,7 @@ use Rattle.journal.specs.Same.{same_state}
 
 -- The chip after the event of a word.
 abbrev pub after_word : Chip → ℕ → Chip
-after_word c w = (stepped c (event_in w)).chip
+after_word c w = (stepped c (event_in w)).state
 
 -- Of some words those are kept, in order, after which the state differs from the state before.
 unfoldable pub kept_from : Chip → List ℕ → List ℕ

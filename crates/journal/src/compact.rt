@@ -1,7 +1,8 @@
 //! Compaction: of the words of a journal those whose events change the chip are moved to the front, with zero words behind them.
 ghost use Rattle.std.specs.Prelude.{◌≡◌, true, not, length};
-ghost use Rattle.bus.specs.Device.{levels_put_in};
-ghost use Rattle.bus.specs.Answers.{given_for};
+ghost use Rattle.bus.specs.declared.events.Event.TheVariants.{OutsideLevels};
+ghost use Rattle.bus.specs.Answers.{raw, after_event, given_for};
+ghost use Rattle.bus.specs.Device.{number_in};
 ghost use Rattle.chip.specs.Step.{device};
 ghost use Rattle.journal.specs.Words.{event_in, is_frame, all_frames};
 ghost use Rattle.journal.specs.Same.{same_state, standing_at};
@@ -44,48 +45,50 @@ fn standing_at(chip: &Chip, port: u8) -> Standing
 // Lets levels come onto a port, and says whether the chip is another one then.
 #[tactic(auto, using(crate::proofs::Changing::levels_told))]
 fn levels_change(chip: &mut Chip, port: u8, levels: u8) -> bool
-    ensures chip_after { chip.new ≡ levels_put_in device chip.old port levels }
+    ensures chip_after { chip.new ≡ after_event device (OutsideLevels port levels) chip.old }
     ensures value { result ≡ not (same_state chip.old chip.new) }
 {
     let before = standing_at(chip, port);
-    chip.put_levels(port, levels);
+    chip.accept(Event::OutsideLevels(port, levels));
     standing_at(chip, port) != before
 }
 
-// Lets an event happen to the chip, and says whether it is another one then. A refused event changes nothing, and a cycle that begins or ends
-// changes the bus at least, so that only a reset has the whole chip copied and compared.
-#[tactic(auto, using(crate::proofs::Changing::unchanged, crate::proofs::Derived::agree), unfolding(bus::specs::Device::step_in))]
-fn event_changes(chip: &mut Chip, event: Event) -> bool
-    ensures chip_after { chip.new ≡ (given_for device chip.old event).state }
+// Lets an event that is accepted happen to the chip, and says whether it is another one then. A cycle that begins or ends changes the bus at least,
+// so that only a reset has the whole chip copied and compared.
+#[tactic(auto, using(crate::proofs::Changing::cycle_changes, crate::proofs::Derived::agree))]
+fn accept_changes(chip: &mut Chip, event: Event) -> bool
+    requires { number_in device chip.old (raw event).kind (raw event).first ≡ 0 }
+    ensures chip_after { chip.new ≡ after_event device event chip.old }
     ensures value { result ≡ not (same_state chip.old chip.new) }
 {
-    if judge(chip.limits(), chip.phase(), event).is_err() {
-        return false;
-    }
     match event {
         Event::Reset => {
             let before = *chip;
-            chip.reset();
+            chip.accept(event);
             *chip != before
         }
-        Event::BeginRead(address) => {
-            chip.begin_read(address);
-            true
-        }
-        Event::EndCycle => {
-            chip.end_cycle();
-            true
-        }
-        Event::BeginWrite(address, byte) => {
-            chip.begin_write(address, byte);
+        Event::BeginRead(_) | Event::EndCycle | Event::BeginWrite(_, _) => {
+            chip.accept(event);
             true
         }
         Event::OutsideLevels(port, levels) => levels_change(chip, port, levels),
     }
 }
 
+// Lets an event happen to the chip, and says whether it is another one then. A refused event changes nothing.
+#[tactic(auto, using(crate::proofs::Changing::unchanged), unfolding(bus::specs::Device::step_in))]
+fn event_changes(chip: &mut Chip, event: Event) -> bool
+    ensures chip_after { chip.new ≡ (given_for device chip.old event).state }
+    ensures value { result ≡ not (same_state chip.old chip.new) }
+{
+    match judge(chip.limits(), chip.phase(), event) {
+        Ok(()) => accept_changes(chip, event),
+        Err(_) => false,
+    }
+}
+
 // The same with the event of a word, which is a frame.
-#[tactic(auto, using(crate::proofs::Packed::frame_small, crate::proofs::Changing::unchanged), unfolding(chip::specs::Step::step_of, bus::specs::Device::step_in, bus::specs::Refusals::number_of, bus::specs::Kinds::is_kind))]
+#[tactic(auto, using(crate::proofs::Changing::by_word), unfolding(chip::specs::Step::step_of))]
 fn changes(chip: &mut Chip, word: u32) -> bool
     requires { is_frame (event_in word) ≡ true }
     ensures chip_after { chip.new ≡ after_word chip.old word }

@@ -38,7 +38,7 @@ impl Numbered for TrimRefusal {
 
 /// Keeps the words whose events change the chip, from a power-up of that edition under those levels on, and gives their count. A refused
 /// call changes no word.
-#[tactic(auto, using(crate::proofs::Editions::edition_fits, crate::proofs::Editions::edition_as_named), unfolding(crate::specs::Trim::trim_number, crate::specs::Trim::trim_answer, crate::specs::Trim::trimmed_words))]
+#[tactic(auto, using(crate::proofs::Refused::by_edition))]
 pub fn trim(words: &mut [u32], edition: Edition, levels: Levels) -> Result<usize, TrimRefusal>
     ensures value { answer_told result ≡ trim_answer words.old (edition_number edition) levels.a levels.b levels.c }
     ensures words_after { words.new ≡ trimmed_words words.old (edition_number edition) levels.a levels.b levels.c }
@@ -53,7 +53,7 @@ pub fn trim(words: &mut [u32], edition: Edition, levels: Levels) -> Result<usize
 }
 
 // The same, by the number of the edition, if there is such a one.
-#[tactic(auto, using(chip::proofs::Editions::edition_back, crate::proofs::Editions::no_edition), unfolding(crate::specs::Trim::trim_number, crate::specs::Trim::trim_answer, crate::specs::Trim::trimmed_words))]
+#[tactic(auto, using(crate::proofs::Refused::by_number))]
 fn trim_numbered(words: &mut [u32], edition: u8, levels: Levels) -> Result<usize, TrimRefusal>
     ensures value { answer_told result ≡ trim_answer words.old edition levels.a levels.b levels.c }
     ensures words_after { words.new ≡ trimmed_words words.old edition levels.a levels.b levels.c }

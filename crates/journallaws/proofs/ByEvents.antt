@@ -71,7 +71,7 @@ levels_come a x d below = go (eqb x 0) refl (eqb x 1) refl
 -- What a reset leaves.
 reset_leaves : (c : Chip) → after c (event 0 0 0) ≡ on_bus Idle c.edition (after_mode_word c.core 0x9b)
 unfolding number_of is_kind
-reset_leaves c = ap (λ r. r.chip) (step_accepts c 0 0 0 refl)
+reset_leaves c = ap (λ r. r.state) (step_accepts c 0 0 0 refl)
 
 -- Levels that come onto a port that there is, where they leave the core as it is, leave the chip.
 levels_leave : (c : Chip) (x d : ℕ) → after_levels c.core x d ≡ c.core → after c (event 5 x d) ≡ c

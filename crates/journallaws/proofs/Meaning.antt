@@ -34,15 +34,15 @@ same_state_lem (kept changes rest) new = same_state_lem rest new
 same_state_lem (dropped {c} {e} {es} {ks} stays rest) new = ap (λ (x : Chip). run x (ks ++ new)) (sym stays) ∙ same_state_lem rest new
 
 -- Of a chip with an image, what the step of its image leaves is the image of the chip after the event.
-passed : (c : Chip) → has_image c ≡ true → (e : Event) → step_image (image_of c) e.kind e.first e.second ≡ image_of (stepped c e).chip
+passed : (c : Chip) → has_image c ≡ true → (e : Event) → step_image (image_of c) e.kind e.first e.second ≡ image_of (stepped c e).state
 passed c has e =
-    subst (λ (d : Chip). step_image (image_of c) e.kind e.first e.second ≡ image_of (stepped d e).chip) (comes_back c has)
+    subst (λ (d : Chip). step_image (image_of c) e.kind e.first e.second ≡ image_of (stepped d e).state) (comes_back c has)
     (by_number (image_of c) e.kind e.first e.second (λ l d. l ≡ image_of d) (has_image_lem c has) refl (ap image_of (sym (comes_back c has))))
 
 -- The bytes that a host holds are the image of the chip.
 held : (c : Chip) (es : List Event) → has_image c ≡ true → host_run (image_of c) es ≡ image_of (run c es)
 held c [] has = refl
-held c (e ∷ es) has = ap (λ (l : List ℕ). host_run l es) (passed c has e) ∙ held (stepped c e).chip es (image_stays c e has)
+held c (e ∷ es) has = ap (λ (l : List ℕ). host_run l es) (passed c has e) ∙ held (stepped c e).state es (image_stays c e has)
 
 powered_up : (l : List ℕ) (ed : Edition) (v : Levels) → length l ≡ 96 → power_up_in l ed v ≡ image_of (power_up_as ed v)
 unfolding power_up_as_image

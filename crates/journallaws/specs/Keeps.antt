@@ -13,8 +13,8 @@ events_in ws = map event_in ws
 -- Of the events es, met by the chip c, exactly those are in ks, in order, after which the state differs from the state before.
 pub data Keeps : Chip → List Event → List Event → Type 0 where
   none : {c : Chip} → Keeps c [] []
-  kept : {c : Chip} {e : Event} {es ks : List Event} → ¬ ((stepped c e).chip ≡ c) → Keeps (stepped c e).chip es ks → Keeps c (e ∷ es) (e ∷ ks)
-  dropped : {c : Chip} {e : Event} {es ks : List Event} → (stepped c e).chip ≡ c → Keeps (stepped c e).chip es ks → Keeps c (e ∷ es) ks
+  kept : {c : Chip} {e : Event} {es ks : List Event} → ¬ ((stepped c e).state ≡ c) → Keeps (stepped c e).state es ks → Keeps c (e ∷ es) (e ∷ ks)
+  dropped : {c : Chip} {e : Event} {es ks : List Event} → (stepped c e).state ≡ c → Keeps (stepped c e).state es ks → Keeps c (e ∷ es) ks
 
 -- The test of two states answers exactly equality.
 pub record Exactly (c d : Chip) : Type 0 where

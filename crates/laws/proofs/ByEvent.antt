@@ -32,7 +32,7 @@ pub record Ended (P : Chip → Type 0) (c : Chip) : Type 0 where
   pub port : (a d : ℕ) → c.phase ≡ Writing a d → (c' : Core) → Stored c' c.core a d → P (on_bus Idle c.edition c')
 
 -- It is so after the end of any cycle, and where there is none to end, if it is so of the chip as it is.
-pub by_end : (P : Chip → Type 0) (c : Chip) (x d : ℕ) → P c → Ended P c → P (step_of c 2 x d).chip
+pub by_end : (P : Chip → Type 0) (c : Chip) (x d : ℕ) → P c → Ended P c → P (step_of c 2 x d).state
 by_end P c x d stays e =
     by_phase P c x d
     (λ idle. stays)
@@ -58,9 +58,9 @@ pub record Through (P : Chip → Type 0) (c : Chip) (k x d : ℕ) : Type 0 where
   pub levels : k ≡ 5 → number_of (limits c.edition) c.phase 5 x ≡ 0 → P (on_bus c.phase c.edition (after_levels c.core x d))
 
 -- It is so after any event.
-pub by_event : (P : Chip → Type 0) (c : Chip) (k x d : ℕ) → Through P c k x d → P (step_of c k x d).chip
+pub by_event : (P : Chip → Type 0) (c : Chip) (k x d : ℕ) → Through P c k x d → P (step_of c k x d).state
 by_event P c k x d =
-    by_kind (λ k. Through P c k x d → P (step_of c k x d).chip)
+    by_kind (λ k. Through P c k x d → P (step_of c k x d).state)
     (λ t. step_either P c 0 x d t.stays (λ ok. t.reset refl))
     (λ t. step_either P c 1 x d t.stays (t.read_begins refl))
     (λ t. by_end P c x d t.stays (t.ends refl))

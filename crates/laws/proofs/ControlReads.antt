@@ -20,7 +20,7 @@ use Rattle.chip.specs.declared.Chip.{Chip}
 use Rattle.chip.specs.Handshakes.{running}
 use Rattle.chip.specs.Read.{after_read_begins}
 use Rattle.chip.specs.Reads.{read_control, read_of}
-use Rattle.chip.specs.Step.{limits, on_bus, as_stepped, step_of}
+use Rattle.chip.specs.Step.{limits, on_bus, step_of}
 use Rattle.chip.proofs.Outcome.{step_accepts, step_number, step_either}
 use Rattle.laws.specs.Editions.{ShowsAlike, ReadBack, ControlRead, ControlReadEnds}
 use Rattle.laws.proofs.Cycles.{facts, read_answers_lem}
@@ -58,10 +58,10 @@ module _ (c : Chip) (d : ℕ) where
   accepted_where : (step_of c 1 3 d).number ≡ 0 → number_of (limits c.edition) c.phase 1 3 ≡ 0
   accepted_where ok = sym (step_number c 1 3 d) ∙ ok
 
-  bus_alone_lem : (step_of c 1 3 d).number ≡ 0 → (step_of c 1 3 d).chip ≡ on_bus (Reading 3) c.edition c.core
+  bus_alone_lem : (step_of c 1 3 d).number ≡ 0 → (step_of c 1 3 d).state ≡ on_bus (Reading 3) c.edition c.core
   bus_alone_lem ok = rw (step_accepts c 1 3 d (accepted_where ok)) (ap (λ (core : Core). on_bus (Reading 3) c.edition core) (moves_nothing c.core))
 
-  shows : ShowsAlike (step_of c 1 3 d).chip c
+  shows : ShowsAlike (step_of c 1 3 d).state c
   shows = step_either (λ c'. ShowsAlike c' c) c 1 3 d
       (shows_alike c.core c.phase c.phase c.edition c.edition (λ g s. refl))
       (λ ok. rw (moves_nothing c.core)
@@ -71,8 +71,8 @@ module _ (c : Chip) (d : ℕ) where
   pub control_read_lem : ControlRead c d
   unfolding read_of step_of
   control_read_lem = record {
-    older = λ old. ap as_stepped (((facts c).at_place 3 d).not_readable (lit< tt) (rw (old) (omega arith)));
-    in_cycle = λ new busy. ap as_stepped (((facts c).at_place 3 d).read_in_cycle (lit< tt) (rw (new) (lit< tt)) busy);
+    older = λ old. ((facts c).at_place 3 d).not_readable (lit< tt) (rw (old) (omega arith));
+    in_cycle = λ new busy. (((facts c).at_place 3 d).read_in_cycle (lit< tt) (rw (new) (lit< tt)) busy);
     begins = λ new. ((facts c).at_place 3 d).read_begins (lit< tt) (rw (new) (lit< tt));
     answers = λ ok. subst (λ (b : ℕ). ReadBack b c.core.word) (sym (read_answers_lem c 3 d ok)) (read_back c.core.word);
     bus_alone = bus_alone_lem;

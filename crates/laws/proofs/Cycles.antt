@@ -10,7 +10,7 @@ use Rattle.bus.proofs.Numbering as numbering
 use Rattle.chip.specs.declared.Edition.{Edition}
 use Rattle.chip.specs.declared.Chip.{Chip}
 use Rattle.chip.specs.Reads.{read_of}
-use Rattle.chip.specs.Step.{limits, device, as_stepped, refused, step_of}
+use Rattle.chip.specs.Step.{limits, device, refused, step_of}
 use Rattle.chip.proofs.Outcome.{step_refuses, step_number}
 
 pub facts : (c : Chip) → Facts device (limits c.edition) c
@@ -32,4 +32,4 @@ row_refuses ed = numbering.row_refuses (limits ed)
 -- What is no kind is refused with 1, whatever its operands.
 pub no_kind_refused : (c : Chip) (k x d : ℕ) → no_kind k ≡ true → step_of c k x d ≡ refused c 1
 unfolding step_of
-no_kind_refused c k x d none = ap as_stepped (numbering.no_kind_refused device c k x d none)
+no_kind_refused c k x d none = numbering.no_kind_refused device c k x d none

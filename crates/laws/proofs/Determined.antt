@@ -1,20 +1,15 @@
--- The contracts of the public functions of bits and chip, and of the methods by which a chip is a device and a chip or a core is a holder, leave
--- no choice: two outcomes that one allows of a call are equal. The contract of a rule that changes a holder leaves none where that holds its chip
--- whole before, since by the law of the trait there is one way to do so.
+-- The contracts of the public functions of bits and chip, and of the methods by which a chip is a device and holds itself, leave no choice: two
+-- outcomes that one allows of a call are equal. The contract of `accept` leaves none if the chip is held whole before, since who holds it whole
+-- then is one, and if a cycle can be held at the address.
 -- Rests on bits' Determined.
-use Rattle.std.proofs.Common.{refl, ap}
-use Rattle.bits.proofs.Determined.{Determines, DeterminesWhere, equation_determines, equations_determine, whole_determines}
+use Rattle.std.proofs.Common.{refl}
+use Rattle.bits.proofs.Determined.{Determines, DeterminesWhere, equation_determines, equations_determine}
 use Rattle.bits.specs.contracts as bits_says
 use Rattle.bits.proofs as bits
-use Rattle.chip.specs.declared.Chip.{Chip}
-use Rattle.chip.specs.declared.Core.{Core}
-use Rattle.chip.specs.contracts.holder.Holder.TheBound
+use Rattle.chip.specs.Held.{CanBegin}
+use Rattle.chip.proofs.Held.{one_after, holds_any}
 use Rattle.chip.specs.contracts as chip_says
 use Rattle.chip.proofs as chip
-
--- The core of a chip. Of a core by itself (`alone`) it is that core again.
-abbrev core_of : Chip → Core
-core_of c = c.core
 
 pub bit_determined : Determines bits_says.bit.ended bits.bit.Reads.Learnt
 bit_determined c x y = equation_determines
@@ -90,40 +85,10 @@ pub holder_explain_determined
     → Determines (chip_says.reasons.explain.ended Home H G t) (chip.reasons.explain.Reads.Learnt Home H lHome lH G t)
 holder_explain_determined Home lHome H lH G t c x y = equation_determines
 
-pub renew_determined
-    : (Home : _) (lHome : _) (H : _) (lH : _) (G : _) (t : _) (one_way : TheBound.in_one_way-law H Home G t)
-    → DeterminesWhere (chip_says.settings.renew.ended Home H G t) (chip.settings.renew.Reads.Learnt Home H lHome lH G t) (λ c. G.whole c.1.0.now)
-renew_determined Home lHome H lH G t one_way c whole x y p q = whole_determines one_way whole (refl, p) (refl, q)
-
-pub command_determined
-    : (Home : _) (lHome : _) (H : _) (lH : _) (G : _) (t : _) (one_way : TheBound.in_one_way-law H Home G t)
-    → DeterminesWhere (chip_says.settings.command.ended Home H G t) (chip.settings.command.Reads.Learnt Home H lHome lH G t) (λ c. G.whole c.1.0.now)
-command_determined Home lHome H lH G t one_way c whole x y p q = whole_determines one_way whole (refl, p) (refl, q)
-
-pub begin_read_determined
-    : (Home : _) (lHome : _) (H : _) (lH : _) (G : _) (t : _) (one_way : TheBound.in_one_way-law H Home G t)
-    → DeterminesWhere (chip_says.reads.begin_read.ended Home H G t) (chip.reads.begin_read.Reads.Learnt Home H lHome lH G t) (λ c. G.whole c.1.0.now)
-begin_read_determined Home lHome H lH G t one_way c whole x y = whole_determines one_way whole
-
-pub holder_end_read_determined
-    : (Home : _) (lHome : _) (H : _) (lH : _) (G : _) (t : _) (one_way : TheBound.in_one_way-law H Home G t)
-    → DeterminesWhere (chip_says.reads.end_read.ended Home H G t) (chip.reads.end_read.Reads.Learnt Home H lHome lH G t) (λ c. G.whole c.1.0.now)
-holder_end_read_determined Home lHome H lH G t one_way c whole x y p q = whole_determines one_way whole (refl, p) (refl, q)
-
-pub end_write_determined
-    : (Home : _) (lHome : _) (H : _) (lH : _) (G : _) (t : _) (one_way : TheBound.in_one_way-law H Home G t)
-    → DeterminesWhere (chip_says.writes.end_write.ended Home H G t) (chip.writes.end_write.Reads.Learnt Home H lHome lH G t) (λ c. G.whole c.1.0.now)
-end_write_determined Home lHome H lH G t one_way c whole x y p q = whole_determines one_way whole (refl, p) (refl, q)
-
-pub end_cycle_determined
-    : (Home : _) (lHome : _) (H : _) (lH : _) (G : _) (t : _) (one_way : TheBound.in_one_way-law H Home G t)
-    → DeterminesWhere (chip_says.cycles.end_cycle.ended Home H G t) (chip.cycles.end_cycle.Reads.Learnt Home H lHome lH G t) (λ c. G.whole c.1.0.now)
-end_cycle_determined Home lHome H lH G t one_way c whole x y p q = whole_determines one_way whole (refl, p) (refl, q)
-
-pub put_levels_determined
-    : (Home : _) (lHome : _) (H : _) (lH : _) (G : _) (t : _) (one_way : TheBound.in_one_way-law H Home G t)
-    → DeterminesWhere (chip_says.outside.put_levels.ended Home H G t) (chip.outside.put_levels.Reads.Learnt Home H lHome lH G t) (λ c. G.whole c.1.0.now)
-put_levels_determined Home lHome H lH G t one_way c whole x y p q = whole_determines one_way whole (refl, p) (refl, q)
+pub accept_determined
+    : (Home : _) (lHome : _) (H : _) (lH : _) (G : _) (t : _)
+    → DeterminesWhere (chip_says.accept.accept.ended Home H G t) (chip.accept.accept.Reads.Learnt Home H lHome lH G t) (λ c. G.way.Whole c.1.0.now × CanBegin G.way c.1.1.0)
+accept_determined Home lHome H lH G t c here x y p q = equations_determine (p.0, one_after here.0 (p.1 here.1) (q.1 here.1)) (q.0, refl)
 
 pub limits_determined : Determines chip_says.Edition.limits.ended chip.Edition.limits.Reads.Learnt
 limits_determined c x y = equation_determines
@@ -137,77 +102,23 @@ device_phase_determined c x y = equation_determines
 pub device_limits_determined : Determines chip_says.device.ChipDevice.limits.ended chip.device.ChipDevice.limits.Reads.Learnt
 device_limits_determined c x y = equation_determines
 
-pub device_answer_determined : Determines chip_says.device.ChipDevice.answer.ended chip.device.ChipDevice.answer.Reads.Learnt
-device_answer_determined c x y = equation_determines
-
 pub device_pins_determined : Determines chip_says.device.ChipDevice.pins.ended chip.device.ChipDevice.pins.Reads.Learnt
 device_pins_determined c x y = equation_determines
 
-pub device_reset_determined : Determines chip_says.device.ChipDevice.reset.ended chip.device.ChipDevice.reset.Reads.Learnt
-device_reset_determined c x y p q = equations_determine (refl, p) (refl, q)
+pub device_accept_determined : Determines chip_says.device.ChipDevice.accept.ended chip.device.ChipDevice.accept.Reads.Learnt
+device_accept_determined c x y p q = equations_determine (p.1, p.0) (q.1, q.0)
 
-pub device_begin_read_determined : Determines chip_says.device.ChipDevice.begin_read.ended chip.device.ChipDevice.begin_read.Reads.Learnt
-device_begin_read_determined c x y p q = equations_determine (refl, p) (refl, q)
-
-pub device_end_cycle_determined : Determines chip_says.device.ChipDevice.end_cycle.ended chip.device.ChipDevice.end_cycle.Reads.Learnt
-device_end_cycle_determined c x y p q = equations_determine (refl, p) (refl, q)
-
-pub device_begin_write_determined : Determines chip_says.device.ChipDevice.begin_write.ended chip.device.ChipDevice.begin_write.Reads.Learnt
-device_begin_write_determined c x y p q = equations_determine (refl, p) (refl, q)
-
-pub device_put_levels_determined : Determines chip_says.device.ChipDevice.put_levels.ended chip.device.ChipDevice.put_levels.Reads.Learnt
-device_put_levels_determined c x y p q = equations_determine (refl, p) (refl, q)
-
-pub core_phase_determined : Determines chip_says.holder.CoreHolder.phase.ended chip.holder.CoreHolder.phase.Reads.Learnt
-core_phase_determined c x y = equation_determines
-
-pub core_runs_determined : Determines chip_says.holder.CoreHolder.runs.ended chip.holder.CoreHolder.runs.Reads.Learnt
-core_runs_determined c x y = equation_determines
-
-pub core_word_determined : Determines chip_says.holder.CoreHolder.word.ended chip.holder.CoreHolder.word.Reads.Learnt
-core_word_determined c x y = equation_determines
-
-pub core_channel_determined : Determines chip_says.holder.CoreHolder.channel.ended chip.holder.CoreHolder.channel.Reads.Learnt
-core_channel_determined c x y = equation_determines
-
-pub core_outside_determined : Determines chip_says.holder.CoreHolder.outside.ended chip.holder.CoreHolder.outside.Reads.Learnt
-core_outside_determined c x y = equation_determines
-
-pub core_latch_c_determined : Determines chip_says.holder.CoreHolder.latch_c.ended chip.holder.CoreHolder.latch_c.Reads.Learnt
-core_latch_c_determined c x y = equation_determines
-
-pub core_outside_c_determined : Determines chip_says.holder.CoreHolder.outside_c.ended chip.holder.CoreHolder.outside_c.Reads.Learnt
-core_outside_c_determined c x y = equation_determines
-
-pub core_enables_determined : Determines chip_says.holder.CoreHolder.enables.ended chip.holder.CoreHolder.enables.Reads.Learnt
-core_enables_determined c x y = equation_determines
-
-pub core_put_word_determined : Determines chip_says.holder.CoreHolder.put_word.ended chip.holder.CoreHolder.put_word.Reads.Learnt
-core_put_word_determined c x y p q = equations_determine (refl, ap core_of p.0) (refl, ap core_of q.0)
-
-pub core_put_channel_determined : Determines chip_says.holder.CoreHolder.put_channel.ended chip.holder.CoreHolder.put_channel.Reads.Learnt
-core_put_channel_determined c x y p q = equations_determine (refl, ap core_of p.0) (refl, ap core_of q.0)
-
-pub core_put_latch_determined : Determines chip_says.holder.CoreHolder.put_latch.ended chip.holder.CoreHolder.put_latch.Reads.Learnt
-core_put_latch_determined c x y p q = equations_determine (refl, ap core_of p.0) (refl, ap core_of q.0)
-
-pub core_put_outside_determined : Determines chip_says.holder.CoreHolder.put_outside.ended chip.holder.CoreHolder.put_outside.Reads.Learnt
-core_put_outside_determined c x y p q = equations_determine (refl, ap core_of p.0) (refl, ap core_of q.0)
-
-pub core_put_latch_c_determined : Determines chip_says.holder.CoreHolder.put_latch_c.ended chip.holder.CoreHolder.put_latch_c.Reads.Learnt
-core_put_latch_c_determined c x y p q = equations_determine (refl, ap core_of p.0) (refl, ap core_of q.0)
-
-pub core_put_outside_c_determined : Determines chip_says.holder.CoreHolder.put_outside_c.ended chip.holder.CoreHolder.put_outside_c.Reads.Learnt
-core_put_outside_c_determined c x y p q = equations_determine (refl, ap core_of p.0) (refl, ap core_of q.0)
-
-pub core_put_enables_determined : Determines chip_says.holder.CoreHolder.put_enables.ended chip.holder.CoreHolder.put_enables.Reads.Learnt
-core_put_enables_determined c x y p q = equations_determine (refl, ap core_of p.0) (refl, ap core_of q.0)
+pub answer_determined : Determines chip_says.Chip.answer.ended chip.Chip.answer.Reads.Learnt
+answer_determined c x y = equation_determines
 
 pub chip_phase_determined : Determines chip_says.holder.ChipHolder.phase.ended chip.holder.ChipHolder.phase.Reads.Learnt
 chip_phase_determined c x y = equation_determines
 
 pub chip_runs_determined : Determines chip_says.holder.ChipHolder.runs.ended chip.holder.ChipHolder.runs.Reads.Learnt
 chip_runs_determined c x y = equation_determines
+
+pub chip_edition_determined : Determines chip_says.holder.ChipHolder.edition.ended chip.holder.ChipHolder.edition.Reads.Learnt
+chip_edition_determined c x y = equation_determines
 
 pub chip_word_determined : Determines chip_says.holder.ChipHolder.word.ended chip.holder.ChipHolder.word.Reads.Learnt
 chip_word_determined c x y = equation_determines
@@ -227,23 +138,26 @@ chip_outside_c_determined c x y = equation_determines
 pub chip_enables_determined : Determines chip_says.holder.ChipHolder.enables.ended chip.holder.ChipHolder.enables.Reads.Learnt
 chip_enables_determined c x y = equation_determines
 
+pub chip_put_phase_determined : Determines chip_says.holder.ChipHolder.put_phase.ended chip.holder.ChipHolder.put_phase.Reads.Learnt
+chip_put_phase_determined c x y p q = equations_determine (refl, (p (holds_any c.1.1.0)).held) (refl, (q (holds_any c.1.1.0)).held)
+
 pub chip_put_word_determined : Determines chip_says.holder.ChipHolder.put_word.ended chip.holder.ChipHolder.put_word.Reads.Learnt
-chip_put_word_determined c x y p q = equations_determine (refl, p.0) (refl, q.0)
+chip_put_word_determined c x y p q = equations_determine (refl, p.held) (refl, q.held)
 
 pub chip_put_channel_determined : Determines chip_says.holder.ChipHolder.put_channel.ended chip.holder.ChipHolder.put_channel.Reads.Learnt
-chip_put_channel_determined c x y p q = equations_determine (refl, p.0) (refl, q.0)
+chip_put_channel_determined c x y p q = equations_determine (refl, p.held) (refl, q.held)
 
 pub chip_put_latch_determined : Determines chip_says.holder.ChipHolder.put_latch.ended chip.holder.ChipHolder.put_latch.Reads.Learnt
-chip_put_latch_determined c x y p q = equations_determine (refl, p.0) (refl, q.0)
+chip_put_latch_determined c x y p q = equations_determine (refl, p.held) (refl, q.held)
 
 pub chip_put_outside_determined : Determines chip_says.holder.ChipHolder.put_outside.ended chip.holder.ChipHolder.put_outside.Reads.Learnt
-chip_put_outside_determined c x y p q = equations_determine (refl, p.0) (refl, q.0)
+chip_put_outside_determined c x y p q = equations_determine (refl, p.held) (refl, q.held)
 
 pub chip_put_latch_c_determined : Determines chip_says.holder.ChipHolder.put_latch_c.ended chip.holder.ChipHolder.put_latch_c.Reads.Learnt
-chip_put_latch_c_determined c x y p q = equations_determine (refl, p.0) (refl, q.0)
+chip_put_latch_c_determined c x y p q = equations_determine (refl, p.held) (refl, q.held)
 
 pub chip_put_outside_c_determined : Determines chip_says.holder.ChipHolder.put_outside_c.ended chip.holder.ChipHolder.put_outside_c.Reads.Learnt
-chip_put_outside_c_determined c x y p q = equations_determine (refl, p.0) (refl, q.0)
+chip_put_outside_c_determined c x y p q = equations_determine (refl, p.held) (refl, q.held)
 
 pub chip_put_enables_determined : Determines chip_says.holder.ChipHolder.put_enables.ended chip.holder.ChipHolder.put_enables.Reads.Learnt
-chip_put_enables_determined c x y p q = equations_determine (refl, p.0) (refl, q.0)
+chip_put_enables_determined c x y p q = equations_determine (refl, p.held) (refl, q.held)

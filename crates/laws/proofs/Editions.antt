@@ -81,7 +81,7 @@ pub edition_unseen : (ed : Edition) (c : Chip) → ShowsAlike (as_edition ed c) 
 edition_unseen ed c = shows_alike c.core c.phase c.phase ed c.edition (λ g s. refl)
 
 -- No event changes it.
-pub edition_stays : (c : Chip) (k x d : ℕ) → (step_of c k x d).chip.edition ≡ c.edition
+pub edition_stays : (c : Chip) (k x d : ℕ) → (step_of c k x d).state.edition ≡ c.edition
 edition_stays c k x d = step_either (λ c'. c'.edition ≡ c.edition) c k x d refl (λ ok. kept)
   where
     kept : (after_in device c k x d).edition ≡ c.edition

@@ -9,7 +9,7 @@ use Rattle.chip.specs.Step.{step_of}
 use Rattle.laws.specs.Enables.{moves_enables}
 use Rattle.laws.proofs.ByEvent.{by_event}
 
-pub enables_stay : (c : Chip) (k x d : ℕ) → moves_enables c.phase k ≡ false → (step_of c k x d).chip.core.inte ≡ c.core.inte
+pub enables_stay : (c : Chip) (k x d : ℕ) → moves_enables c.phase k ≡ false → (step_of c k x d).state.core.inte ≡ c.core.inte
 enables_stay c k x d none =
     let unmoved = contrary (moves_enables c.phase k) none in
     by_event (λ c'. c'.core.inte ≡ c.core.inte) c k x d (record {

@@ -45,7 +45,7 @@ given_latch c g x d =
     (hand_over_keeps channel Empty) refl
 
 pub output_latch_stays : (c : Chip) (g : Group) (x d : ℕ)
-    → (channel_of (step_of c 5 x d).chip.core g Output).latch ≡ (channel_of c.core g Output).latch
+    → (channel_of (step_of c 5 x d).state.core g Output).latch ≡ (channel_of c.core g Output).latch
 output_latch_stays c g x d =
     step_either (λ c'. (channel_of c'.core g Output).latch ≡ (channel_of c.core g Output).latch) c 5 x d refl
     (λ ok. given_latch c.core g x d)

@@ -130,7 +130,7 @@ puts_here ph w phase seven n named = rw (phase, seven, named) (same (bit_of w 0)
 
 -- So it is so after any event.
 pub fill_by_event : (P : Fill → Type 0) (c : Chip) (g : Group) (s : Side) (k x d : ℕ) → FillThrough P c g s k x d
-    → P (channel_of (step_of c k x d).chip.core g s).fill
+    → P (channel_of (step_of c k x d).state.core g s).fill
 fill_by_event P c g s k x d t = by_event (λ c'. P (channel_of c'.core g s).fill) c k x d (record {
   stays = t.stays;
   reset = λ zero. after_mode_word_lem P c.core g s power_up_word (t.reset zero);

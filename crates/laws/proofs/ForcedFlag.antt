@@ -58,7 +58,7 @@ module _ (c : Chip) (g : Group) (s : Side) (on : strobed c.core.word g s ≡ tru
 
   -- The end of a write of bit set/reset that names the pin of the channel's flag.
   forced : (b x d : ℕ) → c.phase ≡ Writing 3 b → bit_of b 7 ≡ false → eqb (b / 2 % 8) (flag_pin g s) ≡ true
-      → Forced c (step_of c 2 x d).chip g s (bit_of b 0)
+      → Forced c (step_of c 2 x d).state g s (bit_of b 0)
   unfolding after_write_ends
   forced b x d phase seven named =
       let k = bit_put c.core b seven in
@@ -76,15 +76,15 @@ value_put false b clear = not-true b clear
 
 -- So the end of a write that puts this pin.
 pub flag_forced : (c : Chip) (g : Group) (s : Side) (v : Bool) (x d : ℕ) → strobed c.core.word g s ≡ true
-    → puts c.phase (flag_pin g s) v ≡ true → Forced c (step_of c 2 x d).chip g s v
+    → puts c.phase (flag_pin g s) v ≡ true → Forced c (step_of c 2 x d).state g s v
 flag_forced c g s v x d on = go c.phase refl
   where
-    go : (ph : Phase) → c.phase ≡ ph → puts ph (flag_pin g s) v ≡ true → Forced c (step_of c 2 x d).chip g s v
+    go : (ph : Phase) → c.phase ≡ ph → puts ph (flag_pin g s) v ≡ true → Forced c (step_of c 2 x d).state g s v
     go Idle phase said = absurd (contrary false refl said)
     go (Reading p) phase said = absurd (contrary false refl said)
     go (Writing a b) phase said =
         let control = both (eqb a 3) _ said in
         let bit = both (not (bit_of b 7)) _ control.1 in
         let named = both (eqb (b / 2 % 8) (flag_pin g s)) _ bit.1 in
-        subst (λ (v : Bool). Forced c (step_of c 2 x d).chip g s v) (value_put v (bit_of b 0) named.1)
+        subst (λ (v : Bool). Forced c (step_of c 2 x d).state g s v) (value_put v (bit_of b 0) named.1)
         (forced c g s on b x d (phase ∙ ap (λ (a : ℕ). Writing a b) (eqb-true a 3 control.0)) (not-true (bit_of b 7) bit.0) named.0)

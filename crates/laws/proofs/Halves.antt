@@ -52,13 +52,13 @@ module _ (c : Chip) (g : Group) (s : Side) where
   idle_runs : (k x : ℕ) → begins k ≡ true → number_of (limits c.edition) c.phase k x ≡ 0 → running c.phase g s ≡ false
   idle_runs k x b ok = rw (begins_idle c.edition c.phase k x b ok) (none_runs g s)
 
-  pub read_leaves : (x d : ℕ) → running (Reading x) g s ≡ false → Same (step_of c 1 x d).chip
+  pub read_leaves : (x d : ℕ) → running (Reading x) g s ≡ false → Same (step_of c 1 x d).state
   read_leaves x d none =
       step_either Same c 1 x d refl
       (λ ok. same_half c _ g s (begun_surrounded c.core x) (begun_enables c.core x)
       (after_begin_lem SameFill c.core g s x refl (begun_same (channel_of c.core g s).fill g s x none)) (none ∙ sym (idle_runs 1 x refl ok)))
 
-  pub write_leaves : (x d : ℕ) → running (Writing x d) g s ≡ false → Same (step_of c 3 x d).chip
+  pub write_leaves : (x d : ℕ) → running (Writing x d) g s ≡ false → Same (step_of c 3 x d).state
   write_leaves x d none =
       step_either Same c 3 x d refl
       (λ ok. same_half c _ g s (record { word = refl; ports = λ g. refl; lines = refl }) refl refl (none ∙ sym (idle_runs 3 x refl ok)))
@@ -66,7 +66,7 @@ module _ (c : Chip) (g : Group) (s : Side) where
   elsewhere : {X : Type 0} → running c.phase g s ≡ false → (ph : Phase) → c.phase ≡ ph → running ph g s ≡ true → X
   elsewhere none ph phase own = absurd (contrary _ none (ap (λ ph. running ph g s) phase ∙ own))
 
-  pub end_leaves : (x d : ℕ) → running c.phase g s ≡ false → commands c.phase ≡ false → Same (step_of c 2 x d).chip
+  pub end_leaves : (x d : ℕ) → running c.phase g s ≡ false → commands c.phase ≡ false → Same (step_of c 2 x d).state
   end_leaves x d none other =
       let idle = none_runs g s ∙ sym none in
       by_end Same c x d refl (record {

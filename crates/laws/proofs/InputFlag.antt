@@ -56,19 +56,19 @@ forced_low Fetching false low none = low
 
 module _ (c : Chip) (g : Group) (on : strobed c.core.word g Input ≡ true) where
   -- The fall of STB sets IBF.
-  pub strobe_sets_ibf : (d : ℕ) → pin c (line_pin g Input) ≡ true → bit_of d (line_pin g Input) ≡ false → pin (step_of c 5 2 d).chip (flag_pin g Input) ≡ true
+  pub strobe_sets_ibf : (d : ℕ) → pin c (line_pin g Input) ≡ true → bit_of d (line_pin g Input) ≡ false → pin (step_of c 5 2 d).state (flag_pin g Input) ≡ true
   strobe_sets_ibf d high low =
       rw (step_accepts c 5 2 d (levels_accepted c.edition c.phase))
       (flag_under c _ g Input on (levels_word c.core 2 d) ∙ strobe_sets c.core d g (line_falls_lem c g Input d on high low))
 
   -- The end of the read resets IBF.
-  pub end_resets_ibf : (p x d : ℕ) → c.phase ≡ Reading p → own_address p g ≡ true → pin (step_of c 2 x d).chip (flag_pin g Input) ≡ false
+  pub end_resets_ibf : (p x d : ℕ) → c.phase ≡ Reading p → own_address p g ≡ true → pin (step_of c 2 x d).state (flag_pin g Input) ≡ false
   end_resets_ibf p x d phase own =
       rw (read_ends_lem c p x d phase) (flag_under c _ g Input on (ended_surrounded c.core p).word ∙ done_resets c.core p g on own)
 
   -- As long as the word strobes the channel, IBF stays as it is through every event but those that are named to move it.
   pub ibf_held : (v : Bool) → pin c (flag_pin g Input) ≡ v → (k x d : ℕ) → moves_ibf c g v k x d ≡ false
-      → strobed (step_of c k x d).chip.core.word g Input ≡ true → pin (step_of c k x d).chip (flag_pin g Input) ≡ v
+      → strobed (step_of c k x d).state.core.word g Input ≡ true → pin (step_of c k x d).state (flag_pin g Input) ≡ v
   unfolding flag_of
   ibf_held true set k x d none still =
       let unmoved = contrary (moves_ibf c g true k x d) none in

@@ -125,7 +125,7 @@ module _ (c : Chip) (g : Group) where
   -- Levels that come onto the port's own lines while the pins show STB low are what a read of the port then answers, whatever the channel's
   -- condition and whatever runs on the bus.
   pub low_follows : (x d : ℕ) → strobed c.core.word g Input ≡ true → seen ≡ false → own_address x g ≡ true
-      → read_of (step_of c 5 x d).chip x ≡ d
+      → read_of (step_of c 5 x d).state x ≡ d
   low_follows x d on low own =
       let through : lets_through c.core g ≡ true = rw (on, sym (line_pin_lem c g Input on) ∙ low) in
       rw (step_accepts c 5 x d (own_accepted c.edition c.phase x g own))
@@ -133,7 +133,7 @@ module _ (c : Chip) (g : Group) where
 
   -- A fall of STB brings in what stands on the port's lines.
   pub fall_loads : (x d : ℕ) → strobed c.core.word g Input ≡ true → seen ≡ true → bit_of d (line_pin g Input) ≡ false → own_address x g ≡ true
-      → read_of (step_of c 5 2 d).chip x ≡ (port_of c.core g).outside
+      → read_of (step_of c 5 2 d).state x ≡ (port_of c.core g).outside
   fall_loads x d on high low own =
       rw (step_accepts c 5 2 d (levels_accepted c.edition c.phase))
       (latch_read x (after_levels c.core 2 d) on (levels_word c.core 2 d) own
@@ -143,7 +143,7 @@ module _ (c : Chip) (g : Group) where
   -- port is no strobed input; a rise of STB loads nothing; and a latch that a mode word zeroed while STB was low is 00 until the next levels
   -- or the next fall.
   pub latch_stays : (k x d : ℕ) → ¬ (k ≡ 0) → (k ≡ 2 → makes_anew c.phase ≡ false) → (k ≡ 5 → loads c g x d ≡ false)
-      → Same c.core g (step_of c k x d).chip.core
+      → Same c.core g (step_of c k x d).state.core
   latch_stays k x d reset renewal load = by_event (λ c'. Same c.core g c'.core) c k x d (record {
     stays = refl;
     reset = λ zero. absurd (reset zero);

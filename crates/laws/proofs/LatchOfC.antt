@@ -35,7 +35,7 @@ module _ (c : Core) (x : ℕ) where
       either_way (λ c'. c'.c.latch) c.c.latch (eqb x 2) (after_levels_on_c c d) (on_port c x through) refl (beside_port through)
 
 module _ (c : Chip) (k x d : ℕ) (no_reset : ¬ (k ≡ 0)) where
-  stays : (k ≡ 2 → NotWritten c.phase) → (step_of c k x d).chip.core.c.latch ≡ c.core.c.latch
+  stays : (k ≡ 2 → NotWritten c.phase) → (step_of c k x d).state.core.c.latch ≡ c.core.c.latch
   stays unwritten = by_event (λ c'. c'.core.c.latch ≡ c.core.c.latch) c k x d (record {
     stays = refl;
     reset = λ zero. absurd (no_reset zero);

@@ -35,7 +35,7 @@ pub mode_write : (c : Core) (w : ℕ) → bit_of w 7 ≡ true → after_write_en
 unfolding after_write_ends
 mode_write c w set = mode_word_lem c w set
 
-pub word_renews : (c : Chip) (w x d : ℕ) → c.phase ≡ Writing 3 w → bit_of w 7 ≡ true → Anew c.core w (step_of c 2 x d).chip.core
+pub word_renews : (c : Chip) (w x d : ℕ) → c.phase ≡ Writing 3 w → bit_of w 7 ≡ true → Anew c.core w (step_of c 2 x d).state.core
 word_renews c w x d phase set = rw (write_ends c 3 w x d phase, mode_write c.core w set) (anew c.core w)
 
 -- Under the word of a reset every pin of port C is an input.

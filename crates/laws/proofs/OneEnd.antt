@@ -36,7 +36,7 @@ cycle_ends_lem c x d runs = record {
 
 -- A read that ends leaves every output channel as it was.
 pub read_end_spares_outputs : (c : Chip) (p x d : ℕ) → c.phase ≡ Reading p → (g : Group)
-    → channel_of (step_of c 2 x d).chip.core g Output ≡ channel_of c.core g Output
+    → channel_of (step_of c 2 x d).state.core g Output ≡ channel_of c.core g Output
 read_end_spares_outputs c p x d phase g = rw (read_ends_lem c p x d phase) (ended_output c.core p g)
 
 -- A write that ends leaves every input channel as it was, unless it was of a mode word, or of a bit set/reset that puts the channel's flag.
@@ -62,7 +62,7 @@ module _ (c : Core) (a b : ℕ) (g : Group) (other : makes_anew (Writing a b) �
       (λ mode elsewhere c' k. k.input g)
 
 pub write_end_spares_inputs : (c : Chip) (a b x d : ℕ) (g : Group) → c.phase ≡ Writing a b → makes_anew (Writing a b) ≡ false
-    → ((v : Bool) → puts (Writing a b) (flag_pin g Input) v ≡ false) → channel_of (step_of c 2 x d).chip.core g Input ≡ channel_of c.core g Input
+    → ((v : Bool) → puts (Writing a b) (flag_pin g Input) v ≡ false) → channel_of (step_of c 2 x d).state.core g Input ≡ channel_of c.core g Input
 write_end_spares_inputs c a b x d g phase other unforced = rw (write_ends c a b x d phase) (spares_input c.core a b g other unforced)
 
 -- 04, which stands between the kinds, is none, whatever its operands.

@@ -98,6 +98,6 @@ set_word c d clear = bit_word_lem c d clear
 
 -- The end of a write of a control word with bit 7 clear.
 pub bit_set_changes_one : (c : Chip) (b x d : ℕ) → c.phase ≡ Writing 3 b → bit_of b 7 ≡ false
-    → PinPut c.core b (step_of c 2 x d).chip.core
+    → PinPut c.core b (step_of c 2 x d).state.core
 bit_set_changes_one c b x d phase clear =
     rw (write_ends c 3 b x d phase, set_word c.core b clear) (one_pin c.core (bit_of b 0) (b / 2 % 8) (omega arith))

@@ -68,14 +68,14 @@ stored_latch c a b g own out =
     ∙ rw (own, out) (either_way (λ ch. ch.latch) b (strobed_output c.word g) (after_offer channel b) _ (offer_latches channel b) refl)
 
 module _ (c : Chip) (g : Group) (a b x d : ℕ) (phase : c.phase ≡ Writing a b) (own : own_address a g ≡ true) where
-  pub write_to_input : input_only c.core.word g ≡ true → (step_of c 2 x d).chip.core ≡ c.core
+  pub write_to_input : input_only c.core.word g ≡ true → (step_of c 2 x d).state.core ≡ c.core
   write_to_input taking = rw (write_ends c a b x d phase) (unwritten c.core a b g own (stores c.core.word g ∙ rw (taking)))
 
-  pub write_to_output : input_only c.core.word g ≡ false → (port_of (step_of c 2 x d).chip.core g).output.latch ≡ b
+  pub write_to_output : input_only c.core.word g ≡ false → (port_of (step_of c 2 x d).state.core g).output.latch ≡ b
   write_to_output giving = rw (write_ends c a b x d phase) (stored_latch c.core a b g own (stores c.core.word g ∙ rw (giving)))
 
   -- An output of mode 0 or 1 shows it from then on.
-  pub output_shows : output_only c.core.word g ≡ true → pins_of (step_of c 2 x d).chip a ≡ record { levels = b; driven = 0xff }
+  pub output_shows : output_only c.core.word g ≡ true → pins_of (step_of c 2 x d).state a ≡ record { levels = b; driven = 0xff }
   output_shows out =
       let one = goes_out c.core.word g out in
       rw (write_ends c a b x d phase)
@@ -84,7 +84,7 @@ module _ (c : Chip) (g : Group) (a b x d : ℕ) (phase : c.phase ≡ Writing a b
 
 -- What is shown stays, whatever levels are put on any port from outside.
 pub output_held : (c : Chip) (g : Group) (a x d : ℕ) → own_address a g ≡ true → output_only c.core.word g ≡ true
-    → pins_of (step_of c 5 x d).chip a ≡ pins_of c a
+    → pins_of (step_of c 5 x d).state a ≡ pins_of c a
 output_held c g a x d own out =
     step_either (λ c'. pins_of c' a ≡ pins_of c a) c 5 x d refl
     (λ ok. (output_drives _ g a own (rw (levels_word c.core x d) (out))).shows
@@ -93,7 +93,7 @@ output_held c g a x d own out =
 
 -- Without a handshake new levels are read at once.
 pub input_follows : (c : Chip) (g : Group) (a d : ℕ) → own_address a g ≡ true → input_only c.core.word g ≡ true
-    → handshake c.core.word g ≡ false → read_of (step_of c 5 a d).chip a ≡ d
+    → handshake c.core.word g ≡ false → read_of (step_of c 5 a d).state a ≡ d
 input_follows c g a d own taking none =
     let same = levels_word c.core a d in
     rw (step_accepts c 5 a d (own_accepted c.edition c.phase a g own))

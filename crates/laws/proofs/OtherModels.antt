@@ -33,7 +33,7 @@ upper_stays w x d n beside above below =
     bits_written w x d n below ∙ rw (none, and-false (free_output w n))
 
 write_leaves_upper : (c : Chip) (b x d n : ℕ) → c.phase ≡ Writing 2 b → handshake c.core.word A ≡ true → 4 ≤ n → n < 8
-    → bit_of (step_of c 2 x d).chip.core.c.latch n ≡ bit_of c.core.c.latch n
+    → bit_of (step_of c 2 x d).state.core.c.latch n ≡ bit_of c.core.c.latch n
 unfolding after_write_ends
 write_leaves_upper c b x d n phase beside above below =
     rw (write_ends c 2 b x d phase) (upper_stays c.core.word c.core.c.latch b n beside above below)
@@ -59,7 +59,7 @@ level_same c b x n STB phase same = refl
 level_same c b x n ACK phase same = refl
 
 write_leaves_upper_pins : (c : Chip) (b x d n : ℕ) → c.phase ≡ Writing 2 b → handshake c.core.word A ≡ true → 4 ≤ n → n < 8
-    → pin (step_of c 2 x d).chip n ≡ pin c n
+    → pin (step_of c 2 x d).state n ≡ pin c n
 unfolding after_write_ends
 write_leaves_upper_pins c b x d n phase beside above below =
     let latch = latch_written c.core.word c.core.c.latch b in
@@ -69,13 +69,13 @@ write_leaves_upper_pins c b x d n phase beside above below =
     ∙ sym (pin_by_role c n below))
 
 -- The end of a write to port C leaves both.
-pub upper_left : (c : Chip) (b x d : ℕ) → c.phase ≡ Writing 2 b → handshake c.core.word A ≡ true → UpperStays c (step_of c 2 x d).chip
+pub upper_left : (c : Chip) (b x d : ℕ) → c.phase ≡ Writing 2 b → handshake c.core.word A ≡ true → UpperStays c (step_of c 2 x d).state
 upper_left c b x d phase beside = record {
   bits = λ n. write_leaves_upper c b x d n phase beside;
   pins = λ n. write_leaves_upper_pins c b x d n phase beside;
 }
 
 -- The beginning of a read of another port leaves a group's INTR: of reads, only the own port's drops it.
-pub read_elsewhere_keeps_intr : (c : Chip) (g : Group) (x d : ℕ) → own_address x g ≡ false → intr_of (step_of c 1 x d).chip g ≡ intr_of c g
+pub read_elsewhere_keeps_intr : (c : Chip) (g : Group) (x d : ℕ) → own_address x g ≡ false → intr_of (step_of c 1 x d).state g ≡ intr_of c g
 unfolding intr_of
 read_elsewhere_keeps_intr c g x d other = ap₂ (λ (i o : Bool). i || o) (read_leaves c g Input x d other) (read_leaves c g Output x d refl)

@@ -58,19 +58,19 @@ forced_to_lem f false true other = absurd (other refl)
 
 module _ (c : Chip) (g : Group) (on : strobed c.core.word g Output ≡ true) where
   -- The end of the write lowers OBF.
-  pub end_lowers_obf : (a b x d : ℕ) → c.phase ≡ Writing a b → own_address a g ≡ true → pin (step_of c 2 x d).chip (flag_pin g Output) ≡ false
+  pub end_lowers_obf : (a b x d : ℕ) → c.phase ≡ Writing a b → own_address a g ≡ true → pin (step_of c 2 x d).state (flag_pin g Output) ≡ false
   end_lowers_obf a b x d phase own =
       rw (write_ends c a b x d phase) (flag_under c _ g Output on (own_stored c.core a b g own).surroundings.word ∙ write_lowers c.core a b g on own)
 
   -- The fall of ACK raises it.
-  pub ack_raises_obf : (d : ℕ) → pin c (line_pin g Output) ≡ true → bit_of d (line_pin g Output) ≡ false → pin (step_of c 5 2 d).chip (flag_pin g Output) ≡ true
+  pub ack_raises_obf : (d : ℕ) → pin c (line_pin g Output) ≡ true → bit_of d (line_pin g Output) ≡ false → pin (step_of c 5 2 d).state (flag_pin g Output) ≡ true
   ack_raises_obf d high low =
       rw (step_accepts c 5 2 d (levels_accepted c.edition c.phase))
       (flag_under c _ g Output on (levels_word c.core 2 d) ∙ ack_raises c.core d g (line_falls_lem c g Output d on high low))
 
   -- As long as the word strobes the channel, OBF stays as it is through every event but those that are named to move it.
   pub obf_held : (v : Bool) → pin c (flag_pin g Output) ≡ v → (k x d : ℕ) → moves_obf c g v k x d ≡ false
-      → strobed (step_of c k x d).chip.core.word g Output ≡ true → pin (step_of c k x d).chip (flag_pin g Output) ≡ v
+      → strobed (step_of c k x d).state.core.word g Output ≡ true → pin (step_of c k x d).state (flag_pin g Output) ≡ v
   unfolding flag_of
   obf_held true high k x d none still =
       let unmoved = contrary (moves_obf c g true k x d) none in

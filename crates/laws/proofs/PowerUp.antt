@@ -40,14 +40,14 @@ power_up_shows ed l = record {
 }
 
 -- A reset right after a power-up changes nothing: it goes back to what the chip was then, in every field.
-pub reset_as_power_up : (ed : Edition) (l : Levels) (x d : ℕ) → (step_of (power_up_as ed l) 0 x d).chip ≡ power_up_as ed l
+pub reset_as_power_up : (ed : Edition) (l : Levels) (x d : ℕ) → (step_of (power_up_as ed l) 0 x d).state ≡ power_up_as ed l
 unfolding step_of step_in number_of is_kind after_mode_word cleared_port after_clear
 reset_as_power_up ed l x d = refl
 
 -- To name levels is to put them on the ports right after a power-up under any others: in mode 0 none of them is an edge, and none goes
 -- through to a latch.
 pub named_is_put : (ed : Edition) (k l : Levels)
-    → (after (accepted (power_up_as ed k) 0) (levels 0 l.a ++ levels 1 l.b ++ levels 2 l.c)).chip ≡ power_up_as ed l
+    → (after (accepted (power_up_as ed k) 0) (levels 0 l.a ++ levels 1 l.b ++ levels 2 l.c)).state ≡ power_up_as ed l
 unfolding step_of step_in number_of is_kind after_levels after_levels_on_c port_after_levels edged strobed_input strobed_output mode_of input_of bit_of
 named_is_put ed k l = refl
 
@@ -68,8 +68,8 @@ starts_anew ed l w c anew = record {
       λ i. record { fill = anew.empty g s i; latch = anew.latches g s i; tally = tally i };
 }
 
-pub starts : (ed : Edition) (l : Levels) (w : ℕ) → bit_of w 7 ≡ true → Starts l w (after (accepted (power_up_as ed l) 0) (write 3 w)).chip
+pub starts : (ed : Edition) (l : Levels) (w : ℕ) → bit_of w 7 ≡ true → Starts l w (after (accepted (power_up_as ed l) 0) (write 3 w)).state
 unfolding step_of step_in number_of is_kind
 starts ed l w set =
     let writing : Chip = record { phase = Writing 3 w; edition = ed; core = (power_up_as ed l).core } in
-    starts_anew ed l w (step_of writing 2 0 0).chip (word_renews writing w 0 0 refl set)
+    starts_anew ed l w (step_of writing 2 0 0).state (word_renews writing w 0 0 refl set)

@@ -27,7 +27,7 @@ fetching Fetching = refl
 
 -- Of this port or any other.
 pub begin_keeps_ibf : (c : Chip) (g : Group) → strobed c.core.word g Input ≡ true → (x d : ℕ)
-    → pin c (flag_pin g Input) ≡ true → pin (step_of c 1 x d).chip (flag_pin g Input) ≡ true
+    → pin c (flag_pin g Input) ≡ true → pin (step_of c 1 x d).state (flag_pin g Input) ≡ true
 unfolding flag_of
 begin_keeps_ibf c g on x d set =
     let here = sym (flag_pin_lem c g Input on) ∙ set in

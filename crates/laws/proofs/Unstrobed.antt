@@ -45,7 +45,7 @@ module _ (c : Core) (g : Group) where
       go out false = kept refl
 
 pub unstrobed_stays : (c : Chip) (g : Group) (s : Side) (k x d : ℕ) → strobed c.core.word g s ≡ false → reaches_all c.phase k ≡ false
-    → Keeps c g s (step_of c k x d).chip
+    → Keeps c g s (step_of c k x d).state
 unstrobed_stays c g s k x d off none =
     let unreached = contrary (reaches_all c.phase k) none in
     by_event (λ c'. Still c.core g s c'.core) c k x d (record {

@@ -3,6 +3,7 @@ use Rattle.std.specs.Prelude.{◌≡◌, false, ℕ, ◌<◌}
 use Rattle.bus.specs.declared.Phase.TheVariants.{Idle}
 use Rattle.control.specs.declared.Group.{Group}
 use Rattle.control.specs.Role.{input, role_of}
+use Rattle.bus.specs.Device.{Given}
 use Rattle.chip.specs.declared.channel.Side.{Side}
 use Rattle.chip.specs.declared.channel.Fill.TheVariants.{Empty}
 use Rattle.chip.specs.Channel.{is_waiting, counted, cleared}
@@ -12,13 +13,12 @@ use Rattle.chip.specs.State.{port_of, channel_of}
 use Rattle.chip.specs.Handshakes.{enable_of}
 use Rattle.chip.specs.Reads.{read_port}
 use Rattle.chip.specs.Pins.{pins_of}
-use Rattle.chip.specs.Step.{Stepped}
 
 -- An event is accepted, has no byte to give, and leaves the bus idle.
-pub record Freed (r : Stepped) : Type 0 where
+pub record Freed (r : Given Chip) : Type 0 where
   pub taken : r.number ≡ 0
   pub silent : r.byte ≡ 0
-  pub idle : r.chip.phase ≡ Idle
+  pub idle : r.state.phase ≡ Idle
 
 -- What a chip made anew is, beside the one that it was.
 pub record Anew (before : Core) (w : ℕ) (after : Core) : Type 0 where
@@ -33,9 +33,9 @@ pub record Anew (before : Core) (w : ℕ) (after : Core) : Type 0 where
   pub lines_levels : after.c.outside ≡ before.c.outside
 
 -- A mode word or a reset, which is the word 9B, obeyed.
-pub record Obeyed (c : Chip) (w : ℕ) (r : Stepped) : Type 0 where
+pub record Obeyed (c : Chip) (w : ℕ) (r : Given Chip) : Type 0 where
   pub bus : Freed r
-  pub core : Anew c.core w r.chip.core
+  pub core : Anew c.core w r.state.core
 
 -- What a reset leaves: under the word 9B every pin of port C is an input, no pin of any port is driven, and ports A and B read as the levels
 -- that stood outside.

@@ -2,10 +2,12 @@
 use Rattle.std.specs.Prelude.{List, [], ◌∷◌, ◌++◌, ℕ}
 use Rattle.bus.specs.Event.{Event, event}
 use Rattle.bus.specs.Histories.{write, read_from, cycle_end}
+use Rattle.bus.specs.Device.{Given}
+use Rattle.chip.specs.declared.Chip.{Chip}
 use Rattle.chip.specs.declared.Edition.{Edition}
 use Rattle.chip.specs.declared.Edition.TheVariants.{Older, Newer}
 use Rattle.chip.specs.State.{all_high, power_up_as}
-use Rattle.chip.specs.Step.{Stepped, accepted, stepped}
+use Rattle.chip.specs.Step.{accepted, stepped}
 use Rattle.laws.specs.Marked.{after}
 
 -- An edition, a history from its power-up with every line high, and the number and the byte of the read of control that then begins.
@@ -21,8 +23,8 @@ abbrev pub ◌past◌gives◌with◌ : Edition → List Event → ℕ → ℕ �
 ed past es gives n with b = record { edition = ed; history = es; number = n; byte = b }
 
 -- What the step gives.
-abbrev pub read_of_control : Edition → List Event → Stepped
-read_of_control ed es = stepped (after (accepted (power_up_as ed all_high) 0) es).chip (event 1 3 0)
+abbrev pub read_of_control : Edition → List Event → Given Chip
+read_of_control ed es = stepped (after (accepted (power_up_as ed all_high) 0) es).state (event 1 3 0)
 
 -- The newer edition, in the first row at power-up: a mode word is read back, also after a bit set/reset word and after a read of control, and 9B
 -- after a reset. While a cycle runs, be it the write of a mode word or a read of control, the read is 4; and a word that a reset drops is never

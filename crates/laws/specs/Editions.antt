@@ -3,6 +3,7 @@ use Rattle.std.specs.Prelude.{◌≡◌, Bool, true, ◌&&◌, ℕ, ◌<◌, eqb
 use Rattle.bits.specs.Bit.{bit_of}
 use Rattle.bus.specs.declared.Phase.TheVariants.{Idle, Reading}
 use Rattle.control.specs.declared.Group.{Group}
+use Rattle.bus.specs.Device.{Given}
 use Rattle.chip.specs.declared.channel.Side.{Side}
 use Rattle.chip.specs.declared.Edition.{Edition}
 use Rattle.chip.specs.declared.Edition.TheVariants.{Older, Newer}
@@ -11,7 +12,7 @@ use Rattle.chip.specs.State.{tally_of}
 use Rattle.chip.specs.Reasons.{explained_of}
 use Rattle.chip.specs.Reads.{read_of}
 use Rattle.chip.specs.Pins.{pins_of}
-use Rattle.chip.specs.Step.{Stepped, on_bus, accepted, refused, step_of}
+use Rattle.chip.specs.Step.{on_bus, accepted, refused, step_of}
 
 -- How many addresses a program can read: A, B and C, and of the newer edition control.
 abbrev pub addresses_read : Edition → ℕ
@@ -23,8 +24,8 @@ abbrev pub as_edition : Edition → Chip → Chip
 as_edition ed c = record { phase = c.phase; edition = ed; core = c.core }
 
 -- What a step gives, with the chip so.
-abbrev pub given_as : Edition → Stepped → Stepped
-given_as ed s = record { chip = as_edition ed s.chip; number = s.number; byte = s.byte }
+abbrev pub given_as : Edition → Given Chip → Given Chip
+given_as ed s = record { state = as_edition ed s.state; number = s.number; byte = s.byte }
 
 -- An event of kind k with the first operand x begins a read of control.
 abbrev pub reads_control : ℕ → ℕ → Bool
@@ -49,10 +50,10 @@ pub record ControlRead (c : Chip) (d : ℕ) : Type 0 where
   pub in_cycle : c.edition ≡ Newer → ¬ (c.phase ≡ Idle) → step_of c 1 3 d ≡ refused c 4
   pub begins : c.edition ≡ Newer → c.phase ≡ Idle → (step_of c 1 3 d).number ≡ 0
   pub answers : (step_of c 1 3 d).number ≡ 0 → ReadBack (step_of c 1 3 d).byte c.core.word
-  pub bus_alone : (step_of c 1 3 d).number ≡ 0 → (step_of c 1 3 d).chip ≡ on_bus (Reading 3) c.edition c.core
-  pub shows : ShowsAlike (step_of c 1 3 d).chip c
+  pub bus_alone : (step_of c 1 3 d).number ≡ 0 → (step_of c 1 3 d).state ≡ on_bus (Reading 3) c.edition c.core
+  pub shows : ShowsAlike (step_of c 1 3 d).state c
 
 -- Its end frees the bus and has no other effect.
 pub record ControlReadEnds (c : Chip) (x d : ℕ) : Type 0 where
   pub bus_alone : step_of c 2 x d ≡ accepted (on_bus Idle c.edition c.core) 0
-  pub shows : ShowsAlike (step_of c 2 x d).chip c
+  pub shows : ShowsAlike (step_of c 2 x d).state c

@@ -12,4 +12,4 @@ moves_enables ph k = eqb k kinds.reset || (eqb k kinds.end_cycle && commands ph)
 
 -- An event leaves the enables.
 abbrev pub EnablesStay : Chip → ℕ → ℕ → ℕ → Type 0
-EnablesStay c k x d = (step_of c k x d).chip.core.inte ≡ c.core.inte
+EnablesStay c k x d = (step_of c k x d).state.core.inte ≡ c.core.inte

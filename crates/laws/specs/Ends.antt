@@ -14,10 +14,10 @@ use Rattle.laws.specs.Anew.{Freed}
 -- ends leaves every input as it was, but for a mode word, and for bit set/reset that puts the input's flag.
 pub record CycleEnds (c : Chip) (x d : ℕ) : Type 0 where
   pub freed : ¬ (c.phase ≡ Idle) → Freed (step_of c 2 x d)
-  pub read_spares : (p : ℕ) → c.phase ≡ Reading p → (g : Group) → channel_of (step_of c 2 x d).chip.core g Output ≡ channel_of c.core g Output
+  pub read_spares : (p : ℕ) → c.phase ≡ Reading p → (g : Group) → channel_of (step_of c 2 x d).state.core g Output ≡ channel_of c.core g Output
   pub write_spares : (a b : ℕ) (g : Group) → c.phase ≡ Writing a b → makes_anew (Writing a b) ≡ false
       → ((v : Bool) → puts (Writing a b) (flag_pin g Input) v ≡ false)
-      → channel_of (step_of c 2 x d).chip.core g Input ≡ channel_of c.core g Input
+      → channel_of (step_of c 2 x d).state.core g Input ≡ channel_of c.core g Input
 
 -- The end of a cycle at a place that there is not, an address above 3, frees the bus and has no other effect. So it is with the end of a
 -- read of port C or of control, at 2 and 3.

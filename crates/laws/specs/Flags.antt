@@ -36,16 +36,16 @@ obf c g = pin c (flag_pin g Output)
 -- IBF of a strobed input. The fall of STB sets it, the beginning of a read, of whatever port, leaves it set, and the end of the port's read
 -- resets it. As long as the mode word strobes the input, it stays as it is through every event but those that can move it.
 pub record IbfMoves (c : Chip) (g : Group) : Type 0 where
-  pub strobe_sets : (d : ℕ) → pin c (line_pin g Input) ≡ true → bit_of d (line_pin g Input) ≡ false → ibf (step_of c 5 2 d).chip g ≡ true
-  pub begin_keeps : (x d : ℕ) → ibf c g ≡ true → ibf (step_of c 1 x d).chip g ≡ true
-  pub end_resets : (p x d : ℕ) → c.phase ≡ Reading p → own_address p g ≡ true → ibf (step_of c 2 x d).chip g ≡ false
+  pub strobe_sets : (d : ℕ) → pin c (line_pin g Input) ≡ true → bit_of d (line_pin g Input) ≡ false → ibf (step_of c 5 2 d).state g ≡ true
+  pub begin_keeps : (x d : ℕ) → ibf c g ≡ true → ibf (step_of c 1 x d).state g ≡ true
+  pub end_resets : (p x d : ℕ) → c.phase ≡ Reading p → own_address p g ≡ true → ibf (step_of c 2 x d).state g ≡ false
   pub held : (v : Bool) → ibf c g ≡ v → (k x d : ℕ) → moves_ibf c g v k x d ≡ false
-      → strobed (step_of c k x d).chip.core.word g Input ≡ true → ibf (step_of c k x d).chip g ≡ v
+      → strobed (step_of c k x d).state.core.word g Input ≡ true → ibf (step_of c k x d).state g ≡ v
 
 -- OBF of a strobed output. The end of a write to the port lowers it, and the fall of ACK raises it. As long as the mode word strobes the output,
 -- it stays as it is through every event but those that can move it.
 pub record ObfMoves (c : Chip) (g : Group) : Type 0 where
-  pub write_lowers : (a b x d : ℕ) → c.phase ≡ Writing a b → own_address a g ≡ true → obf (step_of c 2 x d).chip g ≡ false
-  pub ack_raises : (d : ℕ) → pin c (line_pin g Output) ≡ true → bit_of d (line_pin g Output) ≡ false → obf (step_of c 5 2 d).chip g ≡ true
+  pub write_lowers : (a b x d : ℕ) → c.phase ≡ Writing a b → own_address a g ≡ true → obf (step_of c 2 x d).state g ≡ false
+  pub ack_raises : (d : ℕ) → pin c (line_pin g Output) ≡ true → bit_of d (line_pin g Output) ≡ false → obf (step_of c 5 2 d).state g ≡ true
   pub held : (v : Bool) → obf c g ≡ v → (k x d : ℕ) → moves_obf c g v k x d ≡ false
-      → strobed (step_of c k x d).chip.core.word g Output ≡ true → obf (step_of c k x d).chip g ≡ v
+      → strobed (step_of c k x d).state.core.word g Output ≡ true → obf (step_of c k x d).state g ≡ v

@@ -43,15 +43,15 @@ spares (Writing a d) g Output = not (own_address a g)
 -- write to control.
 pub record HalfAfter (c : Chip) (g : Group) (s : Side) (x d : ℕ) : Type 0 where
   pub read_begins : (step_of c kinds.begin_read x d).number ≡ 0
-      → request_of (step_of c kinds.begin_read x d).chip g s ≡ (spares (Reading x) g s && request_of c g s)
+      → request_of (step_of c kinds.begin_read x d).state g s ≡ (spares (Reading x) g s && request_of c g s)
   pub write_begins : (step_of c kinds.begin_write x d).number ≡ 0
-      → request_of (step_of c kinds.begin_write x d).chip g s ≡ (spares (Writing x d) g s && request_of c g s)
+      → request_of (step_of c kinds.begin_write x d).state g s ≡ (spares (Writing x d) g s && request_of c g s)
   pub cycle_ends : spares c.phase g s ≡ true → commands c.phase ≡ false
-      → request_of (step_of c kinds.end_cycle x d).chip g s ≡ request_of c g s
+      → request_of (step_of c kinds.end_cycle x d).state g s ≡ request_of c g s
 
 -- So a cycle at another place than the group's port leaves INTR, as it begins and, unless it was a write to control, as it ends.
 pub record IntrAfter (c : Chip) (g : Group) (x d : ℕ) : Type 0 where
-  pub read_begins : own_address x g ≡ false → intr_of (step_of c kinds.begin_read x d).chip g ≡ intr_of c g
-  pub write_begins : own_address x g ≡ false → intr_of (step_of c kinds.begin_write x d).chip g ≡ intr_of c g
+  pub read_begins : own_address x g ≡ false → intr_of (step_of c kinds.begin_read x d).state g ≡ intr_of c g
+  pub write_begins : own_address x g ≡ false → intr_of (step_of c kinds.begin_write x d).state g ≡ intr_of c g
   pub cycle_ends : ((s : Side) → spares c.phase g s ≡ true) → commands c.phase ≡ false
-      → intr_of (step_of c kinds.end_cycle x d).chip g ≡ intr_of c g
+      → intr_of (step_of c kinds.end_cycle x d).state g ≡ intr_of c g

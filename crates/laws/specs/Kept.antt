@@ -23,11 +23,11 @@ Keeps before g s after = Kept (channel_of before.core g s) (channel_of after.cor
 
 -- Levels d on port x leave a channel's condition and tallies.
 abbrev pub KeptByLevels : Chip → Group → Side → ℕ → ℕ → Type 0
-KeptByLevels c g s x d = Keeps c g s (step_of c 5 x d).chip
+KeptByLevels c g s x d = Keeps c g s (step_of c 5 x d).state
 
 -- An event of kind k leaves them.
 abbrev pub KeptByEvent : Chip → Group → Side → ℕ → ℕ → ℕ → Type 0
-KeptByEvent c g s k x d = Keeps c g s (step_of c k x d).chip
+KeptByEvent c g s k x d = Keeps c g s (step_of c k x d).state
 
 -- Levels d on port x lower the line of a channel, STB or ACK: they come onto port C, and this line was high outside and is low in them.
 abbrev pub lets_fall : Chip → Group → Side → ℕ → ℕ → Bool

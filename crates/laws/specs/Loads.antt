@@ -21,11 +21,11 @@ loads c g x d = strobed c.core.word g Input && (lowers c g Input x d || comes_un
 -- A strobed input, whose port has the address x, in whatever condition and whatever runs on the bus. After levels that came onto the port's
 -- lines while the pins show STB low, a read of the port answers these. After the fall of STB it answers the levels that stand on these lines.
 pub record LatchLoads (c : Chip) (g : Group) (x : ℕ) : Type 0 where
-  pub follows : (d : ℕ) → pin c (line_pin g Input) ≡ false → read_of (step_of c 5 x d).chip x ≡ d
+  pub follows : (d : ℕ) → pin c (line_pin g Input) ≡ false → read_of (step_of c 5 x d).state x ≡ d
   pub falls : (d : ℕ) → pin c (line_pin g Input) ≡ true → bit_of d (line_pin g Input) ≡ false
-      → read_of (step_of c 5 2 d).chip x ≡ (port_of c.core g).outside
+      → read_of (step_of c 5 2 d).state x ≡ (port_of c.core g).outside
 
 -- An input latch stays as it is through every event but a reset, the end of a mode word's write, and levels that load it.
 abbrev pub LatchStays : Chip → Group → Type 0
 LatchStays c g = (k x d : ℕ) → ¬ (k ≡ 0) → (k ≡ 2 → makes_anew c.phase ≡ false) → (k ≡ 5 → loads c g x d ≡ false)
-    → (channel_of (step_of c k x d).chip.core g Input).latch ≡ (channel_of c.core g Input).latch
+    → (channel_of (step_of c k x d).state.core g Input).latch ≡ (channel_of c.core g Input).latch

@@ -4,21 +4,23 @@ use Rattle.std.specs.Prelude.{List, [], ◌∷◌, ◌++◌, ℕ, ◌+◌, lengt
 use Rattle.bus.specs.Event.{Event, event}
 use Rattle.bus.specs.Histories.{write, levels, read_from, cycle_end}
 use Rattle.control.specs.declared.Group.TheVariants.{A}
+use Rattle.bus.specs.Device.{Given}
+use Rattle.chip.specs.declared.Chip.{Chip}
 use Rattle.chip.specs.declared.channel.Side.TheVariants.{Input}
 use Rattle.chip.specs.declared.Edition.{Edition}
 use Rattle.chip.specs.State.{all_high, power_up_as, tally_of}
 use Rattle.chip.specs.Reads.{read_of}
 use Rattle.chip.specs.Pins.{pins_of}
-use Rattle.chip.specs.Step.{Stepped, accepted, stepped}
+use Rattle.chip.specs.Step.{accepted, stepped}
 
 -- A byte put on port A, and its STB lowered and raised; port C is otherwise high.
 abbrev pub strobe : ℕ → List Event
 strobe d = levels 0 d ++ levels 2 0xef ++ levels 2 0xff
 
 -- The last event's outcome, after a history.
-abbrev pub after : Stepped → List Event → Stepped
+abbrev pub after : Given Chip → List Event → Given Chip
 after s [] = s
-after s (e ∷ es) = after (stepped s.chip e) es
+after s (e ∷ es) = after (stepped s.state e) es
 
 -- What may be asked: the levels and the driven mask of a port, a read of port C, the byte of the last event, two tallies of A in.
 pub data Asked : Type 0 where
@@ -26,13 +28,13 @@ pub data Asked : Type 0 where
   read_c byte offered overwritten : Asked
 
 -- What is answered.
-abbrev pub answer : Stepped → Asked → ℕ
-answer s (pins p) = (pins_of s.chip p).levels
-answer s (driven p) = (pins_of s.chip p).driven
-answer s read_c = read_of s.chip 2
+abbrev pub answer : Given Chip → Asked → ℕ
+answer s (pins p) = (pins_of s.state p).levels
+answer s (driven p) = (pins_of s.state p).driven
+answer s read_c = read_of s.state 2
 answer s byte = s.byte
-answer s offered = (tally_of s.chip A Input).offered
-answer s overwritten = (tally_of s.chip A Input).overwritten
+answer s offered = (tally_of s.state A Input).offered
+answer s overwritten = (tally_of s.state A Input).overwritten
 
 -- A case: a history, what is asked after it, and what the rules say that the results are.
 pub record Case : Type 0 where
@@ -41,7 +43,7 @@ pub record Case : Type 0 where
   pub results : List ℕ
 
 -- The answers to several questions, in their order.
-abbrev pub answers : Stepped → List Asked → List ℕ
+abbrev pub answers : Given Chip → List Asked → List ℕ
 answers s [] = []
 answers s (q ∷ later) = answer s q ∷ answers s later
 

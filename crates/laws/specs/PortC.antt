@@ -30,8 +30,8 @@ pub record NotWritten (ph : Phase) : Type 0 where
 -- An event of kind k that is no reset leaves the latch unless it is 2, the end of a cycle; and if no write to port C or to control runs, so does
 -- that. No levels change the latch, on port C or on any other.
 pub record LinesHeld (c : Chip) (k x d : ℕ) : Type 0 where
-  pub but_at_ends : ¬ (k ≡ 2) → (step_of c k x d).chip.core.c.latch ≡ c.core.c.latch
-  pub unwritten : NotWritten c.phase → (step_of c k x d).chip.core.c.latch ≡ c.core.c.latch
+  pub but_at_ends : ¬ (k ≡ 2) → (step_of c k x d).state.core.c.latch ≡ c.core.c.latch
+  pub unwritten : NotWritten c.phase → (step_of c k x d).state.core.c.latch ≡ c.core.c.latch
 
 -- The chip drives pin n unless it is a free input, or a line to which the chip listens.
 abbrev pub driven_by : ℕ → ℕ → Bool

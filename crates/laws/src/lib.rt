@@ -81,9 +81,9 @@ pub fn cycles_nowhere_end_without_effect()
 /// is to put them on the ports right after a power-up under any others. A mode word finds the lines as they were named, and no byte.
 pub fn power_ups_show_the_levels_named()
     ensures shown { (ed : Edition) (l : Levels) → AsNamed l (power_up_as ed l) }
-    ensures reset { (ed : Edition) (l : Levels) (x d : ℕ) → (step_of (power_up_as ed l) 0 x d).chip ≡ power_up_as ed l }
-    ensures put { (ed : Edition) (k l : Levels) → (after (accepted (power_up_as ed k) 0) (levels 0 l.a ++ levels 1 l.b ++ levels 2 l.c)).chip ≡ power_up_as ed l }
-    ensures starts { (ed : Edition) (l : Levels) (w : ℕ) → bit_of w 7 ≡ true → Starts l w (after (accepted (power_up_as ed l) 0) (write 3 w)).chip }
+    ensures reset { (ed : Edition) (l : Levels) (x d : ℕ) → (step_of (power_up_as ed l) 0 x d).state ≡ power_up_as ed l }
+    ensures put { (ed : Edition) (k l : Levels) → (after (accepted (power_up_as ed k) 0) (levels 0 l.a ++ levels 1 l.b ++ levels 2 l.c)).state ≡ power_up_as ed l }
+    ensures starts { (ed : Edition) (l : Levels) (w : ℕ) → bit_of w 7 ≡ true → Starts l w (after (accepted (power_up_as ed l) 0) (write 3 w)).state }
 {}
 
 /// Every mode word, as its write ends, and every reset, which is the word 9B, leaves latches and enables zero and channels empty, and counts the
@@ -91,7 +91,7 @@ pub fn power_ups_show_the_levels_named()
 pub fn mode_words_and_resets_make_the_chip_anew()
     ensures mode_word { (c : Chip) (w x d : ℕ) → c.phase ≡ Writing 3 w → bit_of w 7 ≡ true → Obeyed c w (step_of c 2 x d) }
     ensures reset { (c : Chip) (x d : ℕ) → Obeyed c 0x9b (step_of c 0 x d) }
-    ensures inputs { (c : Chip) (x d : ℕ) → AllInputs c (step_of c 0 x d).chip }
+    ensures inputs { (c : Chip) (x d : ℕ) → AllInputs c (step_of c 0 x d).state }
 {}
 
 /// What a mode word says, by its single bits, whatever number it is: the mode of each group, the direction of its port, on which sides there is
@@ -125,9 +125,9 @@ pub fn channels_have_their_pins()
 pub fn ports_go_one_way_in_modes_0_and_1()
     ensures outputs { (c : Chip) (g : Group) (a : ℕ) → own_address a g ≡ true → output_only c.core.word g ≡ true → Gives c g a }
     ensures inputs { (c : Chip) (g : Group) (a : ℕ) → own_address a g ≡ true → input_only c.core.word g ≡ true → Takes c g a }
-    ensures written { (c : Chip) (g : Group) (a b x d : ℕ) → c.phase ≡ Writing a b → own_address a g ≡ true → PortWritten c g a b (step_of c 2 x d).chip }
-    ensures held { (c : Chip) (g : Group) (a x d : ℕ) → own_address a g ≡ true → output_only c.core.word g ≡ true → pins_of (step_of c 5 x d).chip a ≡ pins_of c a }
-    ensures follows { (c : Chip) (g : Group) (a d : ℕ) → own_address a g ≡ true → input_only c.core.word g ≡ true → handshake c.core.word g ≡ false → read_of (step_of c 5 a d).chip a ≡ d }
+    ensures written { (c : Chip) (g : Group) (a b x d : ℕ) → c.phase ≡ Writing a b → own_address a g ≡ true → PortWritten c g a b (step_of c 2 x d).state }
+    ensures held { (c : Chip) (g : Group) (a x d : ℕ) → own_address a g ≡ true → output_only c.core.word g ≡ true → pins_of (step_of c 5 x d).state a ≡ pins_of c a }
+    ensures follows { (c : Chip) (g : Group) (a d : ℕ) → own_address a g ≡ true → input_only c.core.word g ≡ true → handshake c.core.word g ≡ false → read_of (step_of c 5 a d).state a ≡ d }
 {}
 
 /// Port A in mode 2 is driven, with its output latch, exactly while ACK is low, and reads as its input latch.
@@ -140,7 +140,7 @@ pub fn port_a_goes_both_ways_in_mode_2()
 /// changes it. The chip drives every pin but free inputs, STB and ACK; of what it drives a read tells what the pins show, and what it does not drive
 /// shows the level outside.
 pub fn port_c_goes_by_plain_bits()
-    ensures written { (c : Chip) (b x d : ℕ) → c.phase ≡ Writing 2 b → LinesWritten c.core b (step_of c 2 x d).chip.core }
+    ensures written { (c : Chip) (b x d : ℕ) → c.phase ≡ Writing 2 b → LinesWritten c.core b (step_of c 2 x d).state.core }
     ensures held { (c : Chip) (k x d : ℕ) → ¬ (k ≡ 0) → LinesHeld c k x d }
     ensures drives { (c : Chip) (n : ℕ) → n < 8 → driven c n ≡ driven_by c.core.word n }
     ensures shown { (c : Chip) (n : ℕ) → n < 8 → LineShown c n }
@@ -149,13 +149,13 @@ pub fn port_c_goes_by_plain_bits()
 /// Bit set/reset puts one pin of port C: a free output's bit in the latch, the enable of the channel whose STB or ACK is there, or the flag of
 /// the channel whose IBF or OBF is there, which is forced. At any other pin it does nothing, and at these it does nothing else.
 pub fn bit_set_reset_puts_one_pin()
-    ensures { (c : Chip) (b x d : ℕ) → c.phase ≡ Writing 3 b → bit_of b 7 ≡ false → PinPut c.core b (step_of c 2 x d).chip.core }
+    ensures { (c : Chip) (b x d : ℕ) → c.phase ≡ Writing 3 b → bit_of b 7 ≡ false → PinPut c.core b (step_of c 2 x d).state.core }
 {}
 
 /// A flag that is forced shows the level to which it was put, but that IBF stays high while a read fetches the byte. A byte is counted as
 /// planted where the flag begins to say that one is there, and as struck where it ceases to. The latch stays.
 pub fn forced_flags_are_shown_and_counted()
-    ensures { (c : Chip) (g : Group) (s : Side) (v : Bool) (x d : ℕ) → strobed c.core.word g s ≡ true → puts c.phase (flag_pin g s) v ≡ true → Forced c (step_of c 2 x d).chip g s v }
+    ensures { (c : Chip) (g : Group) (s : Side) (v : Bool) (x d : ℕ) → strobed c.core.word g s ≡ true → puts c.phase (flag_pin g s) v ≡ true → Forced c (step_of c 2 x d).state g s v }
 {}
 
 /// No event moves an enable but a reset and the end of a write to control.
@@ -173,7 +173,7 @@ pub fn input_latches_load_while_stb_is_low()
 /// Levels that do not lower a channel's STB or ACK leave its condition and its tallies. No levels change an output's latch.
 pub fn levels_move_a_channel_only_by_a_fall()
     ensures kept { (c : Chip) (g : Group) (s : Side) (x d : ℕ) → lets_fall c g s x d ≡ false → KeptByLevels c g s x d }
-    ensures output_latch { (c : Chip) (g : Group) (x d : ℕ) → (channel_of (step_of c 5 x d).chip.core g Output).latch ≡ (channel_of c.core g Output).latch }
+    ensures output_latch { (c : Chip) (g : Group) (x d : ℕ) → (channel_of (step_of c 5 x d).state.core g Output).latch ≡ (channel_of c.core g Output).latch }
 {}
 
 /// A channel without a handshake takes no part in edges and cycles: it keeps its condition and its tallies through every event but a reset and
@@ -206,8 +206,8 @@ pub fn interrupts_are_told_by_the_pins()
 pub fn cycles_drop_their_own_half()
     ensures halves { (c : Chip) (g : Group) (s : Side) (x d : ℕ) → HalfAfter c g s x d }
     ensures interrupt { (c : Chip) (g : Group) (x d : ℕ) → IntrAfter c g x d }
-    ensures read_runs { (c : Chip) (g : Group) (x d : ℕ) → number_of (limits c.edition) c.phase 1 x ≡ 0 → running (step_of c 1 x d).chip.phase g Input ≡ own_address x g }
-    ensures write_runs { (c : Chip) (g : Group) (x d : ℕ) → number_of (limits c.edition) c.phase 3 x ≡ 0 → running (step_of c 3 x d).chip.phase g Output ≡ own_address x g }
+    ensures read_runs { (c : Chip) (g : Group) (x d : ℕ) → number_of (limits c.edition) c.phase 1 x ≡ 0 → running (step_of c 1 x d).state.phase g Input ≡ own_address x g }
+    ensures write_runs { (c : Chip) (g : Group) (x d : ℕ) → number_of (limits c.edition) c.phase 3 x ≡ 0 → running (step_of c 3 x d).state.phase g Output ≡ own_address x g }
 {}
 
 /// The reason that is given for a quiet INTR is true of what is seen, and the first that is; with that one cause altered, and no later one seen,
@@ -226,7 +226,7 @@ pub fn quiet_interrupts_have_their_reason()
 pub fn editions_differ_in_the_read_of_control()
     ensures given_alike { (ed : Edition) (c : Chip) (k x d : ℕ) → reads_control k x ≡ false → step_of (as_edition ed c) k x d ≡ given_as ed (step_of c k x d) }
     ensures unseen { (ed : Edition) (c : Chip) → ShowsAlike (as_edition ed c) c }
-    ensures stays { (c : Chip) (k x d : ℕ) → (step_of c k x d).chip.edition ≡ c.edition }
+    ensures stays { (c : Chip) (k x d : ℕ) → (step_of c k x d).state.edition ≡ c.edition }
 {}
 
 /// The older edition refuses a read of control with 3. The newer answers the mode word with bit 7 set, refuses it with 4 while a cycle runs, and
@@ -241,11 +241,11 @@ pub fn reads_of_control_tell_the_mode_word()
 /// STB or ACK in place of the enable; INTR dropped by a read of another port; upper bits of port C changed by a write to it beside a handshake
 /// of group A; and a mode word equal to the last one taken for no change.
 pub fn errors_of_other_models_are_forbidden()
-    ensures ibf_as_a_read_begins { (c : Chip) (g : Group) (x d : ℕ) → strobed c.core.word g Input ≡ true → ibf c g ≡ true → ibf (step_of c 1 x d).chip g ≡ true }
+    ensures ibf_as_a_read_begins { (c : Chip) (g : Group) (x d : ℕ) → strobed c.core.word g Input ≡ true → ibf c g ≡ true → ibf (step_of c 1 x d).state g ≡ true }
     ensures enable_in_a_read { (c : Chip) (g : Group) (s : Side) → strobed c.core.word g s ≡ true → told c (line_pin g s) ≡ enable_of c.core.inte g s }
-    ensures intr_at_other_reads { (c : Chip) (g : Group) (x d : ℕ) → own_address x g ≡ false → intr_of (step_of c 1 x d).chip g ≡ intr_of c g }
-    ensures upper_bits { (c : Chip) (b x d : ℕ) → c.phase ≡ Writing 2 b → handshake c.core.word A ≡ true → UpperStays c (step_of c 2 x d).chip }
-    ensures same_word { (c : Chip) (x d : ℕ) → c.phase ≡ Writing 3 c.core.word → bit_of c.core.word 7 ≡ true → Anew c.core c.core.word (step_of c 2 x d).chip.core }
+    ensures intr_at_other_reads { (c : Chip) (g : Group) (x d : ℕ) → own_address x g ≡ false → intr_of (step_of c 1 x d).state g ≡ intr_of c g }
+    ensures upper_bits { (c : Chip) (b x d : ℕ) → c.phase ≡ Writing 2 b → handshake c.core.word A ≡ true → UpperStays c (step_of c 2 x d).state }
+    ensures same_word { (c : Chip) (x d : ℕ) → c.phase ≡ Writing 3 c.core.word → bit_of c.core.word 7 ≡ true → Anew c.core c.core.word (step_of c 2 x d).state.core }
 {}
 
 /// Each exception that the other promises here make, and each condition that they ask, is exactly this, in plain numbers and plain bits. They speak of

@@ -11,7 +11,7 @@ use Rattle.i8355.specs.declared.Port.{Port}
 use Rattle.i8355.specs.declared.Chip8355.{Chip8355}
 use Rattle.i8355.specs.Registers.{with_outside, after_reset, after_levels}
 use Rattle.i8355.specs.Views.{pins_of_port, pins_of}
-use Rattle.i8355.specs.Step.{limits, on_bus, device, as_stepped, step_of}
+use Rattle.i8355.specs.Step.{limits, on_bus, device, step_of}
 use Rattle.laws8355.specs.Promise.{run}
 use Rattle.laws8355.specs.Sheet.{level, drives, reset, NoWriteRuns, InEveryState}
 use Rattle.laws8355.proofs.Ports.{port_at, at_levels, at_reset, at_pins, written_elsewhere, levels_elsewhere}
@@ -60,7 +60,7 @@ module _ (p n : ℕ) (there : p < 2) (small : n < 8) where
     in_every_state = record {
       both_read = λ d. (cycles.begins p d).read_answers;
       held = held_in;
-      unreadable = λ d. ap as_stepped ((cycles.at_place (p + 2) d).not_readable (omega (arith, there)) (omega arith));
+      unreadable = λ d. (cycles.at_place (p + 2) d).not_readable (omega (arith, there)) (omega arith);
       reset_turns_in = reset_turns;
       reset_shows = reset_shows_lem;
       reset_keeps_lines = λ off. reset_leaves ∙ sym (input_shows p n there small c off);

@@ -54,7 +54,7 @@ pub record InEveryState (c : Chip8355) (p n : ℕ) : Type 0 where
   -- the port. What is done to the other port leaves them.
   pub held : (e : Event) → ¬ (e.kind ≡ 0) → ¬ ((e.kind ≡ 5) × (e.first ≡ p)) → (e.kind ≡ 2 → NoWriteRuns c p) → pins_of (run c (e ∷ [])) p ≡ pins_of c p
   -- The direction registers cannot be read: 3, with 00, and nothing changes.
-  pub unreadable : (d : ℕ) → step_of c 1 (direction_of p) d ≡ record { chip = c; number = 3; byte = 0 }
+  pub unreadable : (d : ℕ) → step_of c 1 (direction_of p) d ≡ record { state = c; number = 3; byte = 0 }
   -- A reset puts every pin into input mode: none is driven, and each shows what comes from outside.
   pub reset_turns_in : drives (run c reset) p n ≡ false
   pub reset_shows : (v : ℕ) → level (run c (reset ++ levels p v)) p n ≡ bit_of v n

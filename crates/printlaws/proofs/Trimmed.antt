@@ -74,8 +74,8 @@ module _ {bytes : List ℕ} {e : Event} (says : Says bytes e) where
   line_back = ap (λ e. written_out e ++ lf ∷ []) read ∙ ap (λ line. line ++ lf ∷ []) (sym as_written)
 
   module _ (c : Chip) where
-    moved : after_word c word ≡ (stepped c e).chip
-    moved = ap (λ e. (stepped c e).chip) read
+    moved : after_word c word ≡ (stepped c e).state
+    moved = ap (λ e. (stepped c e).state) read
 
 -- The words of some lines.
 abbrev words : List Line → List ℕ
@@ -89,7 +89,7 @@ kept_said c (next {bytes} {e} {ls} says all) = go (same_state c (after_word c w)
     w : ℕ
     w = word says
 
-    go : (t : Bool) → same_state c (after_word c w) ≡ t → KeptLines (stepped c e).chip ls (word_lines (kept_from (after_word c w) (words ls)))
+    go : (t : Bool) → same_state c (after_word c w) ≡ t → KeptLines (stepped c e).state ls (word_lines (kept_from (after_word c w) (words ls)))
         → KeptLines c (ended bytes ∷ ls) (word_lines (cond t (kept_from (after_word c w) (words ls)) (w ∷ kept_from (after_word c w) (words ls))))
     go true same later = dropped says (sym (moved says c) ∙ sym (only_then_lem c (after_word c w) same)) later
     go false other later =

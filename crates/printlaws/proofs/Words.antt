@@ -97,7 +97,7 @@ refused_same (l ∷ ls) c a k =
     let e = event_of (frame_in l) in
     rw (acted_in_is device c (frame_in l))
     (λ i. (ap (λ n. num (not (eqb n 0))) (number_told_lem c a k e) ∙ counted (eqb (number_by a.surroundings.edition a.surroundings.phase (kind_of e)) 0)) i
-    + refused_same ls (stepped c e).chip (account_next a e) (agrees_next c a e k) i)
+    + refused_same ls (stepped c e).state (account_next a e) (agrees_next c a e k) i)
 
 module _ (text : List ℕ) where
   abbrev es : List Event

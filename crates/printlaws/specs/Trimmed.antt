@@ -15,9 +15,9 @@ use Rattle.account.specs.AtPowerUp.{lines_high}
 pub data KeptLines : Chip → List Line → List ℕ → Type 0 where
   none : {c : Chip} → KeptLines c [] []
   kept : {c : Chip} {bytes : List ℕ} {e : Event} {ls : List Line} {later : List ℕ}
-      → Says bytes e → ¬ ((stepped c e).chip ≡ c) → KeptLines (stepped c e).chip ls later → KeptLines c (ended bytes ∷ ls) (bytes ++ 10 ∷ later)
+      → Says bytes e → ¬ ((stepped c e).state ≡ c) → KeptLines (stepped c e).state ls later → KeptLines c (ended bytes ∷ ls) (bytes ++ 10 ∷ later)
   dropped : {c : Chip} {bytes : List ℕ} {e : Event} {ls : List Line} {later : List ℕ}
-      → Says bytes e → (stepped c e).chip ≡ c → KeptLines (stepped c e).chip ls later → KeptLines c (ended bytes ∷ ls) later
+      → Says bytes e → (stepped c e).state ≡ c → KeptLines (stepped c e).state ls later → KeptLines c (ended bytes ∷ ls) later
 
 -- The lines of a text, met by a chip of the older edition at its power-up, with every line high.
 abbrev pub TextKept : List ℕ → List ℕ → Type 0

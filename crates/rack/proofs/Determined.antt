@@ -1,9 +1,9 @@
 -- The contract of each public function of the rack leaves no choice, nor does that of each method by which it is a device. Those of the steps
 -- say the number and the byte that an answer tells, and no two answers tell the same. Rests on bits' Determined.
-use Rattle.std.proofs.Common.{◌≡◌, ◌∙◌, refl, ap₂, cond, ℕ, eqb, Result, Ok, Err}
+use Rattle.std.proofs.Common.{◌≡◌, refl, cond, ℕ, eqb, Result, Ok, Err}
 use Rattle.bits.proofs.Determined.{Determines, equation_determines, equations_determine}
 use Rattle.bus.proofs.Determined as bus
-use Rattle.bus.proofs.Determined.{answer_of}
+use Rattle.bus.proofs.Determined.{answer_of, given_so}
 use Rattle.bus.specs.Answers.{frame_number, number_told, byte_told}
 use Rattle.bus.specs.declared.refusals.Refusal.TheVariants.{OutOfRange, NotReadable, CycleRuns, NoCycleRuns}
 use Rattle.rack.specs.Answers.{refusal_number}
@@ -71,15 +71,11 @@ view_refusal_number_determined c x y = equation_determines
 
 pub step_determined : Determines rack_says.Rack.step.ended rack.Rack.step.Reads.Learnt
 step_determined c x y p q =
-    equations_determine
-    (told_so x.0 ∙ ap₂ (answer_of refusal_of) p.1.0 p.1.1, p.0)
-    (told_so y.0 ∙ ap₂ (answer_of refusal_of) q.1.0 q.1.1, q.0)
+    equations_determine (given_so refusal_number refusal_of told_so p) (given_so refusal_number refusal_of told_so q)
 
 pub step_numbers_determined : Determines rack_says.Rack.step_numbers.ended rack.Rack.step_numbers.Reads.Learnt
 step_numbers_determined c x y p q =
-    equations_determine
-    (frame_told_so x.0 ∙ ap₂ (answer_of frame_of) p.1.0 p.1.1, p.0)
-    (frame_told_so y.0 ∙ ap₂ (answer_of frame_of) q.1.0 q.1.1, q.0)
+    equations_determine (given_so _ frame_of frame_told_so p) (given_so _ frame_of frame_told_so q)
 
 pub device_phase_determined : Determines rack_says.device.RackDevice.phase.ended rack.device.RackDevice.phase.Reads.Learnt
 device_phase_determined c x y = equation_determines
@@ -87,26 +83,14 @@ device_phase_determined c x y = equation_determines
 pub device_limits_determined : Determines rack_says.device.RackDevice.limits.ended rack.device.RackDevice.limits.Reads.Learnt
 device_limits_determined c x y = equation_determines
 
-pub device_answer_determined : Determines rack_says.device.RackDevice.answer.ended rack.device.RackDevice.answer.Reads.Learnt
-device_answer_determined c x y = equation_determines
+pub answer_determined : Determines rack_says.Rack.answer.ended rack.Rack.answer.Reads.Learnt
+answer_determined c x y = equation_determines
 
 pub device_pins_determined : Determines rack_says.device.RackDevice.pins.ended rack.device.RackDevice.pins.Reads.Learnt
 device_pins_determined c x y = equation_determines
 
-pub device_reset_determined : Determines rack_says.device.RackDevice.reset.ended rack.device.RackDevice.reset.Reads.Learnt
-device_reset_determined c x y p q = equations_determine (refl, p) (refl, q)
-
-pub device_begin_read_determined : Determines rack_says.device.RackDevice.begin_read.ended rack.device.RackDevice.begin_read.Reads.Learnt
-device_begin_read_determined c x y p q = equations_determine (refl, p) (refl, q)
-
-pub device_end_cycle_determined : Determines rack_says.device.RackDevice.end_cycle.ended rack.device.RackDevice.end_cycle.Reads.Learnt
-device_end_cycle_determined c x y p q = equations_determine (refl, p) (refl, q)
-
-pub device_begin_write_determined : Determines rack_says.device.RackDevice.begin_write.ended rack.device.RackDevice.begin_write.Reads.Learnt
-device_begin_write_determined c x y p q = equations_determine (refl, p) (refl, q)
-
-pub device_put_levels_determined : Determines rack_says.device.RackDevice.put_levels.ended rack.device.RackDevice.put_levels.Reads.Learnt
-device_put_levels_determined c x y p q = equations_determine (refl, p) (refl, q)
+pub device_accept_determined : Determines rack_says.device.RackDevice.accept.ended rack.device.RackDevice.accept.Reads.Learnt
+device_accept_determined c x y p q = equations_determine (p.1, p.0) (q.1, q.0)
 
 pub default_determined : Determines rack_says.RackDefault.default.ended rack.RackDefault.default.Reads.Learnt
 default_determined c x y = equation_determines

@@ -2,3 +2,4 @@ pub mod InBases
 pub mod Places
 pub mod Stays
 pub mod Determined
+pub mod Named

@@ -26,6 +26,6 @@ target_stays r (Some t) k d =
     let x = number_at t.0 t.1 in
     either device r k x d (SameCards r) (refl, refl) (accepted_stays r x d k)
 
-pub cards_stay : (r : Rack) (k x y z : ℕ) → SameCards r (step_of r k x y z).rack
+pub cards_stay : (r : Rack) (k x y z : ℕ) → SameCards r (step_of r k x y z).state
 unfolding step_of
 cards_stay r k x y z = target_stays r (target_of r.count r.bases k x y) k (byte_of k y z)

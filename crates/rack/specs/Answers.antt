@@ -15,7 +15,7 @@ use Rattle.rack.specs.declared.refusals.BadRack.{BadRack}
 use Rattle.rack.specs.declared.refusals.ViewRefusal as views
 use Rattle.rack.specs.declared.refusals.ViewRefusal.{ViewRefusal}
 use Rattle.rack.specs.Bases.{bad_rack_number, no_card_number}
-use Rattle.rack.specs.Step.{Stepped, device, step_of}
+use Rattle.rack.specs.Step.{device, step_of}
 
 -- The event that four numbers name, where the first is a kind.
 abbrev pub event_numbered : ℕ → ℕ → ℕ → ℕ → Option RackEvent
@@ -42,7 +42,7 @@ view_refusal_number views.TheVariants.NoCard = no_card_number
 view_refusal_number views.TheVariants.NoSuchGroup = 2
 
 -- What the rack gives for an event; the operands that its kind lacks are zeros.
-abbrev pub stepped : Rack → RackEvent → Stepped
+abbrev pub stepped : Rack → RackEvent → Given Rack
 stepped r Reset = step_of r kinds.reset 0 0 0
 stepped r (BeginRead a) = step_of r kinds.begin_read a 0 0
 stepped r EndCycle = step_of r kinds.end_cycle 0 0 0

@@ -63,6 +63,10 @@ chip_at r i = on_bus (seen_at i r.phase) card_edition (core_in r.cores i)
 abbrev pub with_core : Cards → ℕ → Core → Cards
 with_core s i c = record { count = s.count; bases = s.bases; cores = set s.cores i c }
 
+-- The rack in which what is at a place becomes what a rule makes of it as a chip alone.
+abbrev pub on_card : Rack → ℕ → (Chip → Chip) → Rack
+on_card r i rule = rack_on r.phase (with_core (cards_of r) i (rule (chip_at r i)).core)
+
 -- A rack of cards with these bases, in their order, each at its power-up. The places behind the last hold the same, and have no card.
 unfoldable pub rack_of : List ℕ → Rack
 rack_of bs = record {

@@ -61,16 +61,7 @@ abbrev pub step_at : Rack → Option Target → ℕ → ℕ → Given Rack
 step_at r None k d = refused_in r no_card_number
 step_at r (Some t) k d = step_in device r k (number_at t.0 t.1) d
 
--- What an event gives: the rack, the number and the byte.
-pub record Stepped : Type 0 where
-  pub rack : Rack
-  pub number : ℕ
-  pub byte : ℕ
-
-abbrev pub as_stepped : Given Rack → Stepped
-as_stepped o = record { rack = o.state; number = o.number; byte = o.byte }
-
 -- One event of the rack, of kind k with operands x, y and z: an address and a byte, or a place, a port and levels. An event of no kind
 -- names no card, so that it is 1 before anything else.
-unfoldable pub step_of : Rack → ℕ → ℕ → ℕ → ℕ → Stepped
-step_of r k x y z = as_stepped (step_at r (target_of r.count r.bases k x y) k (byte_of k y z))
+unfoldable pub step_of : Rack → ℕ → ℕ → ℕ → ℕ → Given Rack
+step_of r k x y z = step_at r (target_of r.count r.bases k x y) k (byte_of k y z)

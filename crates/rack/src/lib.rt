@@ -64,7 +64,7 @@ fn are_bases(bases: &[u16]) -> bool
 impl Rack {
     /// A rack of cards in the order of their bases, each at its power-up. It is refused where two bases are equal, where a number is no
     /// base, and where there are too many.
-    #[tactic(auto, unfolding(crate::specs::State::built_of, crate::specs::State::rack_of, crate::specs::Bases::makes_rack))]
+    #[tactic(auto, unfolding(crate::specs::State::built_of, crate::specs::Bases::makes_rack))]
     pub fn new(bases: &[u16]) -> Result<Self, BadRack>
         ensures { result ≡ built_of bases.now }
     {

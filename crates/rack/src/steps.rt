@@ -1,9 +1,9 @@
 //! One event of the rack: it is for one card, or for every card, and then one of the rack as a device.
 ghost use Rattle.std.specs.Prelude.{◌≡◌, ◌<◌, min};
-ghost use Rattle.bus.specs.Answers.{frame_number, number_told, byte_told};
+ghost use Rattle.bus.specs.Answers.{frame_number, given_by};
 ghost use Rattle.rack.specs.Bases.{most_cards};
 ghost use Rattle.rack.specs.State.{number_at};
-ghost use Rattle.rack.specs.Step.{as_stepped, step_of};
+ghost use Rattle.rack.specs.Step.{step_of};
 ghost use Rattle.rack.specs.Answers.{given_on_bus, refusal_number, stepped};
 
 use super::events::RackEvent;
@@ -23,11 +23,11 @@ fn number(place: u8, register: u8) -> u8
     PLACES * register.min(CONTROL) + place
 }
 
-#[tactic(auto, unfolding(crate::specs::Step::step_of, crate::specs::Targets::target_of, crate::specs::Targets::target_at, bus::specs::Device::step_in, bus::specs::Refusals::number_of, bus::specs::Kinds::is_kind))]
 impl Rack {
     // The event on the bus of the rack; nothing where it is for no card.
+    #[tactic(auto, using(crate::proofs::Named::placed), unfolding(crate::specs::Targets::target_at))]
     fn placed(&self, event: RackEvent) -> Option<Event>
-        ensures { as_stepped (given_on_bus self.now result) ≡ stepped self.now event }
+        ensures { given_on_bus self.now result ≡ stepped self.now event }
     {
         match event {
             RackEvent::Reset => Some(Event::Reset),
@@ -49,15 +49,14 @@ impl Rack {
 
     /// One event: the byte of a read, and 00 of any other event; or why it is refused, and then the rack is as it was.
     pub fn step(&mut self, event: RackEvent) -> Result<u8, RackRefusal>
-        ensures state { self.new ≡ (stepped self.old event).rack }
-        ensures number { number_told refusal_number result ≡ (stepped self.old event).number }
-        ensures byte { byte_told result ≡ (stepped self.old event).byte }
+        ensures { given_by refusal_number self.new result ≡ stepped self.old event }
     {
         let event = self.placed(event).ok_or(RackRefusal::NoCard)?;
         Ok(devices::step(self, event)?)
     }
 
     /// The same of an event by its numbers, as scripts and C have it.
+    #[tactic(auto, using(crate::proofs::Named::by_numbers))]
     pub fn step_numbers(
         &mut self,
         kind: u8,
@@ -65,9 +64,7 @@ impl Rack {
         second: u8,
         third: u8,
     ) -> Result<u8, FrameRefusal<RackRefusal>>
-        ensures state { self.new ≡ (step_of self.old kind first second third).rack }
-        ensures number { number_told (frame_number refusal_number) result ≡ (step_of self.old kind first second third).number }
-        ensures byte { byte_told result ≡ (step_of self.old kind first second third).byte }
+        ensures { given_by (frame_number refusal_number) self.new result ≡ step_of self.old kind first second third }
     {
         match RackEvent::numbered(kind, first, second, third) {
             Some(event) => Ok(self.step(event)?),

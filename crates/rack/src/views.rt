@@ -20,10 +20,10 @@ impl Rack {
         ensures { result ≡ seen_at place self.now.phase }
     {
         match self.phase {
-            Phase::Reading(number) if place_of(number) == place as usize => {
+            Phase::Reading(number) if place_of(number) == place => {
                 Phase::Reading(register_of(number))
             }
-            Phase::Writing(number, byte) if place_of(number) == place as usize => {
+            Phase::Writing(number, byte) if place_of(number) == place => {
                 Phase::Writing(register_of(number), byte)
             }
             _ => Phase::Idle,

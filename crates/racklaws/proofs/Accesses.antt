@@ -7,10 +7,10 @@ use Rattle.bus.specs.Event.{Event, event}
 use Rattle.bus.specs.declared.Phase.{Phase}
 use Rattle.bus.specs.declared.Phase.TheVariants.{Idle, Reading, Writing}
 use Rattle.bus.proofs.Numbering.{row_refuses}
+use Rattle.bus.specs.Device.{Given}
 use Rattle.chip.specs.declared.Core.{Core}
 use Rattle.chip.specs.declared.Chip.{Chip}
 use Rattle.chip.specs.Step as card
-use Rattle.chip.specs.Step.{Stepped as CardStepped}
 use Rattle.chip.specs.Step.{stepped}
 use Rattle.laws.proofs.Cycles.{facts}
 use Rattle.fates.proofs.Accepted.{accepted_number}
@@ -18,7 +18,7 @@ use Rattle.rack.specs.declared.Rack.{Rack}
 use Rattle.rack.specs.Bases.{most_cards}
 use Rattle.rack.specs.State.{place_of, chip_at, card_edition}
 use Rattle.rack.specs.Targets.{Target, answers_at, register_at, target_from}
-use Rattle.rack.specs.Step.{Stepped, as_stepped, step_at}
+use Rattle.rack.specs.Step.{step_at}
 use Rattle.racklaws.proofs.OnCard.{rack_in, place_numbered}
 use Rattle.racklaws.proofs.Inside.{InRack}
 use Rattle.racklaws.proofs.Targets.{number_for, refused_at}
@@ -43,22 +43,22 @@ of_four i address (base ∷ later) =
 -- Operands that a card's event lacks make no difference to it.
 read_alone : (c : Chip) (r d : ℕ) → stepped c (event kinds.begin_read r d) ≡ stepped c (event kinds.begin_read r 0)
 unfolding card.step_of
-read_alone c r d = ap card.as_stepped ((facts c).ignored r d).begin_read
+read_alone c r d = ((facts c).ignored r d).begin_read
 
 end_alone : (c : Chip) (d : ℕ) → stepped c (event kinds.end_cycle 0 d) ≡ stepped c (event kinds.end_cycle 0 0)
 unfolding card.step_of
-end_alone c d = ap card.as_stepped ((facts c).ignored 0 d).end_cycle
+end_alone c d = ((facts c).ignored 0 d).end_cycle
 
 -- What holds of a card's event holds of another that is the same to it.
-renamed : {r : Rack} {given : Stepped} {i : ℕ} {own own' : Event} {b b' : Bus} → Follows r given (to_card i own) b
+renamed : {r : Rack} {given : Given Rack} {i : ℕ} {own own' : Event} {b b' : Bus} → Follows r given (to_card i own) b
     → stepped (chip_at r i) own ≡ stepped (chip_at r i) own' → b ≡ b' → Follows r given (to_card i own') b'
 renamed {r} {given} {i} {own} {own'} f same bus = record {
   reached = record {
     place = f.reached.place;
     accepted = f.reached.accepted;
-    accepted_there = ap (λ (s : CardStepped). s.number) (sym same) ∙ f.reached.accepted_there;
-    byte = f.reached.byte ∙ ap (λ (s : CardStepped). s.byte) same;
-    changed = f.reached.changed ∙ ap (λ (s : CardStepped). s.chip) same;
+    accepted_there = ap (λ (s : Given Chip). s.number) (sym same) ∙ f.reached.accepted_there;
+    byte = f.reached.byte ∙ ap (λ (s : Given Chip). s.byte) same;
+    changed = f.reached.changed ∙ ap (λ (s : Given Chip). s.state) same;
     others = f.reached.others;
   };
   bus = f.bus ∙ bus;
@@ -69,7 +69,7 @@ renamed {r} {given} {i} {own} {own'} f same bus = record {
 module _ (count : ℕ) (bases : List ℕ) (cores : List Core) where
   -- What is refused reaches nobody.
   pub refused_follows : (ph : Phase) → Whole (rack_in count bases cores ph) → (k d : ℕ) (t : Option Target) → InRack t → ¬ (number_for ph k t ≡ 0)
-      → Follows (rack_in count bases cores ph) (as_stepped (step_at (rack_in count bases cores ph) t k d)) nobody (bus_of ph)
+      → Follows (rack_in count bases cores ph) (step_at (rack_in count bases cores ph) t k d) nobody (bus_of ph)
   refused_follows ph whole k d t inside n = rw (refused_at count bases cores ph k d t inside n) record {
     reached = record { refused = n; unchanged = refl; byte = refl };
     bus = refl;
@@ -79,7 +79,7 @@ module _ (count : ℕ) (bases : List ℕ) (cores : List Core) where
 
   -- The beginning of a read, on a free bus at a register that can be read or that cannot.
   read_begins_lem : (whole : Whole (rack_in count bases cores Idle)) (d x i r : ℕ) → i < most_cards → (t : Bool) → ltb r 3 ≡ t
-      → Follows (rack_in count bases cores Idle) (as_stepped (step_at (rack_in count bases cores Idle) (Some (i, r)) kinds.begin_read d))
+      → Follows (rack_in count bases cores Idle) (step_at (rack_in count bases cores Idle) (Some (i, r)) kinds.begin_read d)
       (cond t (to_card i (event kinds.begin_read r 0)) nobody) (bus_after free (read_at x) (cond t (to_card i (event kinds.begin_read r 0)) nobody))
   read_begins_lem whole d x i r h true e =
       let accepted = accepted_number card_edition Idle kinds.begin_read r d (rw e) in
@@ -89,7 +89,7 @@ module _ (count : ℕ) (bases : List ℕ) (cores : List Core) where
       refused_follows Idle whole kinds.begin_read d (Some (i, r)) h (row_refuses (card.limits card_edition) Idle kinds.begin_read r 2 (rw e))
 
   pub read_follows : (ph : Phase) → Whole (rack_in count bases cores ph) → (d x : ℕ) (t : Option Target) → InRack t
-      → Follows (rack_in count bases cores ph) (as_stepped (step_at (rack_in count bases cores ph) t kinds.begin_read d)) (read_reaches (bus_of ph) (as_found t))
+      → Follows (rack_in count bases cores ph) (step_at (rack_in count bases cores ph) t kinds.begin_read d) (read_reaches (bus_of ph) (as_found t))
       (bus_after (bus_of ph) (read_at x) (read_reaches (bus_of ph) (as_found t)))
   read_follows ph whole d x None inside = refused_follows ph whole kinds.begin_read d None inside (λ n. omega (arith, n))
   read_follows Idle whole d x (Some t) inside = read_begins_lem whole d x t.0 t.1 inside (ltb t.1 3) refl
@@ -100,7 +100,7 @@ module _ (count : ℕ) (bases : List ℕ) (cores : List Core) where
 
   -- That of a write, which is at one of the four registers.
   pub write_follows : (ph : Phase) → Whole (rack_in count bases cores ph) → (d x : ℕ) (t : Option Target) → InRack t → OfFour t
-      → Follows (rack_in count bases cores ph) (as_stepped (step_at (rack_in count bases cores ph) t kinds.begin_write d)) (write_reaches (bus_of ph) (as_found t) d)
+      → Follows (rack_in count bases cores ph) (step_at (rack_in count bases cores ph) t kinds.begin_write d) (write_reaches (bus_of ph) (as_found t) d)
       (bus_after (bus_of ph) (write_at x d) (write_reaches (bus_of ph) (as_found t) d))
   write_follows ph whole d x None inside four = refused_follows ph whole kinds.begin_write d None inside (λ n. omega (arith, n))
   write_follows Idle whole d x (Some t) inside four =
@@ -116,7 +116,7 @@ module _ (count : ℕ) (bases : List ℕ) (cores : List Core) where
 
   -- The end of a cycle, of which the event names no card.
   pub end_follows : (ph : Phase) → Whole (rack_in count bases cores ph) → (d : ℕ)
-      → Follows (rack_in count bases cores ph) (as_stepped (step_at (rack_in count bases cores ph) (Some (0, 0)) kinds.end_cycle d)) (end_reaches (bus_of ph))
+      → Follows (rack_in count bases cores ph) (step_at (rack_in count bases cores ph) (Some (0, 0)) kinds.end_cycle d) (end_reaches (bus_of ph))
       (bus_after (bus_of ph) cycle_ended (end_reaches (bus_of ph)))
   end_follows Idle whole d = refused_follows Idle whole kinds.end_cycle d (Some (0, 0)) (omega arith) (row_refuses (card.limits card_edition) Idle kinds.end_cycle 0 4 refl)
   end_follows (Reading y) whole d =
@@ -130,7 +130,7 @@ module _ (count : ℕ) (bases : List ℕ) (cores : List Core) where
 
   -- Levels, on a port or on none.
   pub levels_on_lem : (ph : Phase) → Whole (rack_in count bases cores ph) → (x y d : ℕ) → x < most_cards → (t : Bool) → ltb y 3 ≡ t
-      → Follows (rack_in count bases cores ph) (as_stepped (step_at (rack_in count bases cores ph) (Some (x, y)) kinds.outside_levels d))
+      → Follows (rack_in count bases cores ph) (step_at (rack_in count bases cores ph) (Some (x, y)) kinds.outside_levels d)
       (cond t (to_card x (event kinds.outside_levels y d)) nobody)
       (bus_after (bus_of ph) (levels_on x y d) (cond t (to_card x (event kinds.outside_levels y d)) nobody))
   levels_on_lem ph whole x y d h true e =

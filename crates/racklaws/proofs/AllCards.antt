@@ -6,7 +6,7 @@ use Rattle.bus.specs.Kinds.{is_kind}
 use Rattle.bus.specs.Event.{event}
 use Rattle.bus.specs.declared.Phase.{Phase}
 use Rattle.bus.specs.Refusals.{number_of}
-use Rattle.bus.specs.Device.{gives, reset_in}
+use Rattle.bus.specs.Device.{Given, gives, reset_in}
 use Rattle.chip.specs.declared.Core.{Core}
 use Rattle.chip.specs.Step as card
 use Rattle.chip.specs.Step.{stepped}
@@ -14,7 +14,7 @@ use Rattle.chip.proofs.Outcome.{step_accepts}
 use Rattle.rack.specs.declared.Rack.{Rack}
 use Rattle.rack.specs.Bases.{most_cards}
 use Rattle.rack.specs.State.{seen_at, no_core, chip_at, card_edition}
-use Rattle.rack.specs.Step.{core_reset, Stepped, device, as_stepped}
+use Rattle.rack.specs.Step.{core_reset, device}
 use Rattle.racklaws.proofs.OnCard.{rack_in}
 use Rattle.racklaws.specs.Whom.{free, everybody}
 use Rattle.racklaws.specs.Promise.{Whole, Follows}
@@ -28,10 +28,10 @@ module _ (count : ℕ) (bases : List ℕ) (cores : List Core) (ph : Phase) (whol
   abbrev rack : Rack
   rack = rack_in count bases cores ph
 
-  abbrev given : Stepped
-  given = as_stepped (gives (reset_in device rack) 0 0)
+  abbrev given : Given Rack
+  given = gives (reset_in device rack) 0 0
 
-  each : (i : ℕ) → i < most_cards → chip_at given.rack i ≡ (stepped (chip_at rack i) (event 0 0 0)).chip
+  each : (i : ℕ) → i < most_cards → chip_at given.state i ≡ (stepped (chip_at rack i) (event 0 0 0)).state
   unfolding chip_at
   each i h = rw (
     step_accepts (chip_at rack i) 0 0 0 (always (seen_at i ph)),

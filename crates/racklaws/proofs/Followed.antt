@@ -14,7 +14,7 @@ use Rattle.rack.specs.declared.Rack.{Rack}
 use Rattle.rack.specs.Bases.{most_cards}
 use Rattle.rack.specs.State.{card_edition}
 use Rattle.rack.specs.Targets.{Target, target_from, bases_in, is_place, target_at, target_of}
-use Rattle.rack.specs.Step.{byte_of, as_stepped, step_at, step_of}
+use Rattle.rack.specs.Step.{byte_of, step_at, step_of}
 use Rattle.racklaws.proofs.OnCard.{rack_in}
 use Rattle.racklaws.proofs.Inside.{place_below, target_inside}
 use Rattle.racklaws.proofs.Targets.{number_for, reset_at}
@@ -44,7 +44,7 @@ placed count bases eight x = go (ltb x count && ltb x most_cards) refl
 
 module _ (count : ℕ) (bases : List ℕ) (cores : List Core) where
   levels_follow : (ph : Phase) → Whole (rack_in count bases cores ph) → (x y d : ℕ) (t : Bool) → is_place count x ≡ t
-      → Follows (rack_in count bases cores ph) (as_stepped (step_at (rack_in count bases cores ph) (cond t (Some (x, y)) None) kinds.outside_levels d))
+      → Follows (rack_in count bases cores ph) (step_at (rack_in count bases cores ph) (cond t (Some (x, y)) None) kinds.outside_levels d)
       (cond (t && ltb y 3) (to_card x (event kinds.outside_levels y d)) nobody)
       (bus_after (bus_of ph) (levels_on x y d) (cond (t && ltb y 3) (to_card x (event kinds.outside_levels y d)) nobody))
   levels_follow ph whole x y d true e = levels_on_lem count bases cores ph whole x y d (place_below count x e) (ltb y 3) refl

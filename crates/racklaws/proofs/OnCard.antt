@@ -100,7 +100,7 @@ module _ (count : ℕ) (bases : List ℕ) (cores : List Core) (i r d : ℕ) (h :
   card_stepped ph k =
       let j = reached_by ph k i in
       let after = card.step_of (chip_at (rack_in count bases cores ph) j) k r d in
-      gives (record { phase = phase_after ph k (number_at i r) d; count = count; bases = bases; cores = set cores j after.chip.core }) 0 after.byte
+      gives (record { phase = phase_after ph k (number_at i r) d; count = count; bases = bases; cores = set cores j after.state.core }) 0 after.byte
 
   abbrev pub accepted : (ph : Phase) (k : ℕ) → Type 0
   accepted ph k = number_of (card.limits card_edition) ph k r ≡ 0 → step_in device (rack_in count bases cores ph) k (number_at i r) d ≡ card_stepped ph k

@@ -4,7 +4,7 @@ use Rattle.std.proofs.Common.{◌≡◌, refl, sym, ap, ◌∙◌, List, ℕ, �
 use Rattle.bus.specs.Event.{Event, event}
 use Rattle.bus.specs.declared.Phase.{Phase}
 use Rattle.bus.specs.Refusals.{number_of}
-use Rattle.bus.specs.Device.{step_in}
+use Rattle.bus.specs.Device.{Given, step_in}
 use Rattle.bus.specs.Cycles.{phase_after}
 use Rattle.bus.proofs.Phases.{phase_goes}
 use Rattle.chip.specs.declared.Core.{Core}
@@ -16,7 +16,7 @@ use Rattle.laws.proofs.Editions.{edition_stays}
 use Rattle.rack.specs.declared.Rack.{Rack}
 use Rattle.rack.specs.Bases.{most_cards}
 use Rattle.rack.specs.State.{number_at, seen_at, no_core, chip_at, card_edition}
-use Rattle.rack.specs.Step.{Stepped, device, as_stepped}
+use Rattle.rack.specs.Step.{device}
 use Rattle.racklaws.proofs.OnCard.{reached_by, rack_in, card_stepped, accepted_there_lem, reached_below, one_card_lem}
 use Rattle.racklaws.specs.Whom.{card as to_card}
 use Rattle.racklaws.specs.Promise.{ForOne, Whole, Follows, bus_of}
@@ -33,25 +33,25 @@ module _ (count : ℕ) (bases : List ℕ) (cores : List Core) (ph : Phase) (whol
   abbrev own : Event
   own = event k r d
 
-  abbrev given : Stepped
-  given = as_stepped (card_stepped count bases cores i r d h ph k)
+  abbrev given : Given Rack
+  given = card_stepped count bases cores i r d h ph k
 
-  its_phase : (stepped (chip_at rack place) own).chip.phase ≡ phase_after (seen_at place ph) k r d
+  its_phase : (stepped (chip_at rack place) own).state.phase ≡ phase_after (seen_at place ph) k r d
   unfolding chip_at
   its_phase = rw (step_accepts (chip_at rack place) k r d (accepted_there_lem ph i r k n e)) (phase_goes card.device (chip_at rack place) k r d)
 
-  changed : chip_at given.rack place ≡ (stepped (chip_at rack place) own).chip
+  changed : chip_at given.state place ≡ (stepped (chip_at rack place) own).state
   unfolding chip_at
   changed =
-      let after = (stepped (chip_at rack place) own).chip in
+      let after = (stepped (chip_at rack place) own).state in
       let below : place < length cores = omega (arith, reached_below ph k i h, whole.cores) in
       rw (seen_own i r d h ph k n e, get_or-set_same cores place after.core no_core below)
       (ap (λ (p : Phase). card.on_bus p card_edition after.core) (sym its_phase)
       ∙ ap (λ (ed : Edition). card.on_bus after.phase ed after.core) (sym (edition_stays (chip_at rack place) k r d)))
 
-  others : (j : ℕ) → ¬ (j ≡ place) → chip_at given.rack j ≡ chip_at rack j
+  others : (j : ℕ) → ¬ (j ≡ place) → chip_at given.state j ≡ chip_at rack j
   unfolding chip_at
-  others j other = rw (seen_others i r d h ph k n e j other, get_or-set_other cores place j (stepped (chip_at rack place) own).chip.core no_core other)
+  others j other = rw (seen_others i r d h ph k n e j other, get_or-set_other cores place j (stepped (chip_at rack place) own).state.core no_core other)
 
   there : (stepped (chip_at rack place) own).number ≡ 0
   unfolding chip_at
@@ -67,7 +67,7 @@ module _ (count : ℕ) (bases : List ℕ) (cores : List Core) (ph : Phase) (whol
     others = others;
   }
 
-  pub card_follows : Follows rack (as_stepped (step_in device rack k (number_at i r) d)) (to_card place own) (bus_of (phase_after ph k (number_at i r) d))
+  pub card_follows : Follows rack (step_in device rack k (number_at i r) d) (to_card place own) (bus_of (phase_after ph k (number_at i r) d))
   card_follows = rw (one_card_lem count bases cores i r d h ph k n e) record {
     reached = one_reached;
     bus = refl;

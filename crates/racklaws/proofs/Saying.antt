@@ -12,7 +12,7 @@ use Rattle.text.proofs.Leading.{none_left}
 use Rattle.text.proofs.WrittenBack.{leading_back}
 use Rattle.rack.specs.declared.Rack.{Rack}
 use Rattle.script.specs.RackFrames.{RackFrame, Event, NoFrame, third_in, operand_bytes, is_rack_frame, event_of, rack_frame_of, rack_frame_in}
-use Rattle.script.specs.RackAnswers.{as_given, acted, answering}
+use Rattle.script.specs.RackAnswers.{acted, answering}
 use Rattle.script.proofs.RackWritten.{reset_written, end_written, read_written, write_written, levels_written}
 use Rattle.racklaws.specs.Digits.{four_digits}
 use Rattle.racklaws.specs.Whom.{RackEvent, rack_event}
@@ -143,7 +143,7 @@ said_as_read line e read = go (is_rack_frame line) refl
 
 -- What the rack makes of a line that says an event; and of any other.
 module _ (r : Rack) where
-  pub taken : (bytes : List ℕ) (e : RackEvent) → Says bytes e → answering.takes r (ended bytes) ≡ as_given (rack_stepped r e)
+  pub taken : (bytes : List ℕ) (e : RackEvent) → Says bytes e → answering.takes r (ended bytes) ≡ rack_stepped r e
   unfolding rack_frame_in acted
   taken bytes e says = rw (read_as_said says) refl
 

@@ -6,6 +6,7 @@ use Rattle.bus.specs.Event.{Event}
 use Rattle.bus.specs.declared.Phase.{Phase}
 use Rattle.bus.specs.declared.Phase.TheVariants.{Idle, Reading, Writing}
 use Rattle.control.specs.declared.Group.{Group}
+use Rattle.bus.specs.Device.{Given}
 use Rattle.chip.specs.declared.channel.Side.{Side}
 use Rattle.chip.specs.declared.channel.Side.TheVariants.{Input}
 use Rattle.chip.specs.declared.Edition.TheVariants.{Older}
@@ -20,7 +21,7 @@ use Rattle.rack.specs.Answers.{view_refusal_number}
 use Rattle.rack.specs.Bases.{most_cards}
 use Rattle.rack.specs.State.{place_of, chip_at, rack_of}
 use Rattle.rack.specs.Targets.{bases_in, is_place}
-use Rattle.rack.specs.Step.{Stepped, step_of}
+use Rattle.rack.specs.Step.{step_of}
 use Rattle.rack.specs.Views.{card_of, card_pins, card_tally, card_explained, card_explained_numbered}
 use Rattle.fates.specs.Surroundings.{at_power_up}
 use Rattle.fates.specs.Bytes.{bytes_of}
@@ -31,12 +32,12 @@ use Rattle.account.specs.Promise.{account_of, Accounted}
 use Rattle.racklaws.specs.Whom.{RackEvent, Bus, free, taken_by, Whom, nobody, everybody, card, whom, part, events_for, bus_over}
 
 -- What the rack makes of an event, and the rack after a history.
-abbrev pub rack_stepped : Rack → RackEvent → Stepped
+abbrev pub rack_stepped : Rack → RackEvent → Given Rack
 rack_stepped r e = step_of r e.kind e.first e.second e.third
 
 abbrev pub rack_run : Rack → List RackEvent → Rack
 rack_run r [] = r
-rack_run r (e ∷ es) = rack_run (rack_stepped r e).rack es
+rack_run r (e ∷ es) = rack_run (rack_stepped r e).state es
 
 -- Where a history begins from a rack: what its bus is in the history's words, and the bases of its cards.
 abbrev pub bus_of : Phase → Bus
@@ -54,28 +55,28 @@ abbrev pub events_in : ℕ → Rack → List RackEvent → List Event
 events_in i r es = events_for i (bases_of r) (bus_of r.phase) es
 
 -- What the rack r gave for an event that reaches nobody: a refusal. It changes nothing in any card, nor on the bus, and its byte is 00.
-pub record Refused (r : Rack) (given : Stepped) : Type 0 where
+pub record Refused (r : Rack) (given : Given Rack) : Type 0 where
   pub refused : ¬ (given.number ≡ 0)
-  pub unchanged : given.rack ≡ r
+  pub unchanged : given.state ≡ r
   pub byte : given.byte ≡ 0
 
 -- For one that reaches every card: it is accepted, and each card does as a chip alone.
-pub record ForAll (r : Rack) (given : Stepped) (own : Event) : Type 0 where
+pub record ForAll (r : Rack) (given : Given Rack) (own : Event) : Type 0 where
   pub accepted : given.number ≡ 0
   pub byte : given.byte ≡ 0
-  pub each : (i : ℕ) → i < most_cards → chip_at given.rack i ≡ (stepped (chip_at r i) own).chip
+  pub each : (i : ℕ) → i < most_cards → chip_at given.state i ≡ (stepped (chip_at r i) own).state
 
 -- For one that reaches the card at a place: it is accepted, there too; that card does, and answers, as a chip alone, and every other is
 -- as it was.
-pub record ForOne (r : Rack) (given : Stepped) (i : ℕ) (own : Event) : Type 0 where
+pub record ForOne (r : Rack) (given : Given Rack) (i : ℕ) (own : Event) : Type 0 where
   pub place : i < most_cards
   pub accepted : given.number ≡ 0
   pub accepted_there : (stepped (chip_at r i) own).number ≡ 0
   pub byte : given.byte ≡ (stepped (chip_at r i) own).byte
-  pub changed : chip_at given.rack i ≡ (stepped (chip_at r i) own).chip
-  pub others : (j : ℕ) → ¬ (j ≡ i) → chip_at given.rack j ≡ chip_at r j
+  pub changed : chip_at given.state i ≡ (stepped (chip_at r i) own).state
+  pub others : (j : ℕ) → ¬ (j ≡ i) → chip_at given.state j ≡ chip_at r j
 
-abbrev pub Reached : Rack → Stepped → Whom → Type 0
+abbrev pub Reached : Rack → Given Rack → Whom → Type 0
 Reached r given nobody = Refused r given
 Reached r given (everybody own) = ForAll r given own
 Reached r given (card i own) = ForOne r given i own
@@ -86,15 +87,15 @@ pub record Whole (r : Rack) : Type 0 where
   pub bases : length r.bases ≡ most_cards
 
 -- What a rack with eight places gives for any event: what it does is told by whom it reaches, and so is the bus after it; the bases stay.
-pub record Follows (r : Rack) (given : Stepped) (w : Whom) (after : Bus) : Type 0 where
+pub record Follows (r : Rack) (given : Given Rack) (w : Whom) (after : Bus) : Type 0 where
   pub reached : Reached r given w
-  pub bus : bus_of given.rack.phase ≡ after
-  pub bases : bases_of given.rack ≡ bases_of r
-  pub whole : Whole given.rack
+  pub bus : bus_of given.state.phase ≡ after
+  pub bases : bases_of given.state ≡ bases_of r
+  pub whole : Whole given.state
 
 -- What is promised of an event that the rack refuses: it changes nothing in any card or on the bus, its byte is 00, and it reaches no card.
 pub record ChangesNothing (r : Rack) (e : RackEvent) : Type 0 where
-  pub unchanged : rack_stepped r e ≡ record { rack = r; number = (rack_stepped r e).number; byte = 0 }
+  pub unchanged : rack_stepped r e ≡ record { state = r; number = (rack_stepped r e).number; byte = 0 }
   pub reaches_none : (i : ℕ) → part i (whom_in r e) ≡ []
 
 -- What is promised of any rack and any history from it: the bases and the eight places stay, the bus follows from the events, and each

@@ -4,7 +4,7 @@ use Rattle.bus.specs.Device.{gives}
 use Rattle.text.specs.Lines.{Line, ended}
 use Rattle.rack.specs.declared.Rack.{Rack}
 use Rattle.script.specs.RackFrames.{Event, rack_frame_in}
-use Rattle.script.specs.RackAnswers.{as_given, answering}
+use Rattle.script.specs.RackAnswers.{answering}
 use Rattle.racklaws.specs.Whom.{RackEvent}
 use Rattle.racklaws.specs.Promise.{rack_stepped}
 
@@ -14,7 +14,7 @@ ReadAs bytes e = rack_frame_in (ended bytes) ≡ Event e.kind e.first e.second e
 
 -- The rack takes it as the event: it gives what its step does.
 abbrev pub TakenAs : Rack → List ℕ → RackEvent → Type 0
-TakenAs r bytes e = answering.takes r (ended bytes) ≡ as_given (rack_stepped r e)
+TakenAs r bytes e = answering.takes r (ended bytes) ≡ rack_stepped r e
 
 -- The rack refuses a line, or a rest, with 1: it stays as it was, and the byte is 00.
 abbrev pub RefusesLine : Rack → Line → Type 0

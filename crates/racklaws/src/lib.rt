@@ -29,7 +29,7 @@ ghost use Rattle.racklaws.specs.Examples.{store, addresses, registers, while_it_
 /// was, after the events that reach it; and the bus follows from the events.
 pub fn each_card_is_a_chip_alone()
     ensures event { (r : Rack) → Whole r → (e : RackEvent) → Follows r (rack_stepped r e) (whom_in r e) (bus_next (bases_of r) (bus_of r.phase) e) }
-    ensures others { (r : Rack) → Whole r → (e : RackEvent) (i : ℕ) (own : Event) → whom_in r e ≡ card i own → (j : ℕ) → ¬ (j ≡ i) → chip_at (rack_stepped r e).rack j ≡ chip_at r j }
+    ensures others { (r : Rack) → Whole r → (e : RackEvent) (i : ℕ) (own : Event) → whom_in r e ≡ card i own → (j : ℕ) → ¬ (j ≡ i) → chip_at (rack_stepped r e).state j ≡ chip_at r j }
     ensures history { (r : Rack) → Whole r → (es : List RackEvent) → GoesOn r es }
 {}
 

@@ -21,7 +21,7 @@ use Rattle.restored.specs.Header.{answer_of}
 
 -- What the step of the chip that the bytes tell comes to: the image of the chip after the event,
 abbrev pub image_after : List ℕ → ℕ → ℕ → ℕ → List ℕ
-image_after l k x d = image_of (step_of (state_of l) k x d).chip
+image_after l k x d = image_of (step_of (state_of l) k x d).state
 
 -- and the number of the event, with the byte that it answers above it.
 abbrev pub number_and_byte : List ℕ → ℕ → ℕ → ℕ → ℕ

@@ -72,7 +72,7 @@ pub fn chips_that_have_an_image()
 /// same. No event leads from a chip that has an image to one that has none.
 pub fn reached_chips_come_back()
     ensures reached { (ed : Edition) (v : Levels) (es : List Event) → ComesBack (run (power_up_as ed v) es) }
-    ensures stays { (c : Chip) (e : Event) → has_image c ≡ true → ComesBack (stepped c e).chip }
+    ensures stays { (c : Chip) (e : Event) → has_image c ≡ true → ComesBack (stepped c e).state }
 {}
 
 /// Bytes are an image exactly where they tell, place by place, a chip that has one: 96 bytes, of which those that are not used are 0. That chip

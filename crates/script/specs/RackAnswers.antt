@@ -1,24 +1,20 @@
 -- What a rack answers, line by line ("A rack of cards", "Script and program"): it is one of those who answer scripts, and has several cards.
 use Rattle.std.specs.Prelude.{◌≡◌, refl, ℕ, Result, Ok, Err}
-use Rattle.bus.specs.Device.{Given, gives}
+use Rattle.bus.specs.Device.{Given}
 use Rattle.bus.specs.Cycles.{refused_in}
 use Rattle.bus.specs.declared.Pins.{Pins}
 use Rattle.rack.specs.declared.Rack.{Rack}
 use Rattle.rack.specs.declared.refusals.ViewRefusal.{ViewRefusal}
-use Rattle.rack.specs.Step.{Stepped, step_of}
+use Rattle.rack.specs.Step.{step_of}
 use Rattle.rack.specs.Views.{card_pins}
 use Rattle.rack.proofs.Stays.{cards_stay}
 use Rattle.script.specs.Answers.{Answerer, no_frame_number}
 use Rattle.text.specs.Lines.{Line}
 use Rattle.script.specs.RackFrames.{RackFrame, Event, NoFrame, rack_frame_in}
 
--- What an event gave.
-abbrev pub as_given : Stepped → Given Rack
-as_given s = gives s.rack s.number s.byte
-
 -- A frame is an event of the rack; what is no frame is refused.
 unfoldable pub acted : Rack → RackFrame → Given Rack
-acted r (Event k x y z) = as_given (step_of r k x y z)
+acted r (Event k x y z) = step_of r k x y z
 acted r NoFrame = refused_in r no_frame_number
 
 -- What the rack makes of a line.

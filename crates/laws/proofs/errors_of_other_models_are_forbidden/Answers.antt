@@ -13,7 +13,7 @@ use Rattle.laws.proofs.OtherModels.{upper_left, read_elsewhere_keeps_intr}
 use Rattle.laws.proofs.errors_of_other_models_are_forbidden.Goals as goal
 
 same_word_renews : (c : Chip) (x d : ℕ) → c.phase ≡ Writing 3 c.core.word → bit_of c.core.word 7 ≡ true
-    → Anew c.core c.core.word (step_of c 2 x d).chip.core
+    → Anew c.core c.core.word (step_of c 2 x d).state.core
 same_word_renews c = word_renews c c.core.word
 
 pub returns : goal.returns

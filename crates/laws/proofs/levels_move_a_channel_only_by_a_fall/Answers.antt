@@ -19,7 +19,7 @@ unless true on fell still = rw (still) (and-false on)
 unless false on fell still = refl
 
 only_a_fall : (c : Chip) (g : Group) (s : Side) (x d : ℕ) → lets_fall c g s x d ≡ false
-    → Keeps c g s (step_of c 5 x d).chip
+    → Keeps c g s (step_of c 5 x d).state
 only_a_fall c g s x d still =
     step_either (Keeps c g s) c 5 x d (kept refl)
     (λ ok. levels_kept c.core g s x d (unless (eqb x 2) (strobed c.core.word g s) (fallen c.core.c.outside d (line_pin g s)) still))

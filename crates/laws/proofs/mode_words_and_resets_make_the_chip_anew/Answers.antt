@@ -31,25 +31,25 @@ reset_renews : (c : Chip) (x d : ℕ) → Obeyed c 0x9b (step_of c 0 x d)
 unfolding step_of step_in number_of is_kind
 reset_renews c x d = record { bus = record { taken = refl; silent = refl; idle = refl }; core = anew c.core 0x9b }
 
-reset_drives_nothing : (c : Chip) (x d p : ℕ) → (pins_of (step_of c 0 x d).chip p).driven ≡ 0
+reset_drives_nothing : (c : Chip) (x d p : ℕ) → (pins_of (step_of c 0 x d).state p).driven ≡ 0
 unfolding step_of step_in number_of is_kind after_mode_word pins_of pins_of_port pins_of_lines drives_port output_of mode_of input_of role_of uses_of free_role upper_input lower_input bit_of value_of
 reset_drives_nothing c x d p = go (eqb p 0) (eqb p 1) (eqb p 2)
   where
     go : (a b l : Bool)
-        → (cond a (pins_of_port (step_of c 0 x d).chip.core.a (drives_port (step_of c 0 x d).chip.core A))
-        (cond b (pins_of_port (step_of c 0 x d).chip.core.b (drives_port (step_of c 0 x d).chip.core B))
-        (cond l (pins_of_lines (step_of c 0 x d).chip) (record { levels = 0; driven = 0 })))).driven ≡ 0
+        → (cond a (pins_of_port (step_of c 0 x d).state.core.a (drives_port (step_of c 0 x d).state.core A))
+        (cond b (pins_of_port (step_of c 0 x d).state.core.b (drives_port (step_of c 0 x d).state.core B))
+        (cond l (pins_of_lines (step_of c 0 x d).state) (record { levels = 0; driven = 0 })))).driven ≡ 0
     go true b l = refl
     go false true l = refl
     go false false true = refl
     go false false false = refl
 
-reset_reads_outside : (c : Chip) (x d : ℕ) (g : Group) → read_port 0x9b g (port_of (step_of c 0 x d).chip.core g) ≡ (port_of c.core g).outside
+reset_reads_outside : (c : Chip) (x d : ℕ) (g : Group) → read_port 0x9b g (port_of (step_of c 0 x d).state.core g) ≡ (port_of c.core g).outside
 unfolding step_of step_in number_of is_kind after_mode_word cleared_port read_port strobed_input output_of mode_of input_of bit_of
 reset_reads_outside c x d A = refl
 reset_reads_outside c x d B = refl
 
-all_inputs : (c : Chip) (x d : ℕ) → AllInputs c (step_of c 0 x d).chip
+all_inputs : (c : Chip) (x d : ℕ) → AllInputs c (step_of c 0 x d).state
 all_inputs c x d = record { roles = reset_roles; driven = reset_drives_nothing c x d; reads = reset_reads_outside c x d }
 
 pub returns : goal.returns

@@ -12,7 +12,7 @@ use Rattle.laws.proofs.PortC.{bits_written, driven_by_role, line_driven}
 use Rattle.laws.proofs.LatchOfC.{latch_held}
 use Rattle.laws.proofs.port_c_goes_by_plain_bits.Goals as goal
 
-write_to_lines : (c : Chip) (b x d : ℕ) → c.phase ≡ Writing 2 b → LinesWritten c.core b (step_of c 2 x d).chip.core
+write_to_lines : (c : Chip) (b x d : ℕ) → c.phase ≡ Writing 2 b → LinesWritten c.core b (step_of c 2 x d).state.core
 unfolding after_write_ends
 write_to_lines c b x d phase = rw (write_ends c 2 b x d phase) (record {
   bits = bits_written c.core.word c.core.c.latch b;

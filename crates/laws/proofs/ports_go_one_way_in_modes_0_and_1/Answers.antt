@@ -10,7 +10,7 @@ use Rattle.laws.specs.Ports.{PortWritten}
 use Rattle.laws.proofs.OneWay.{output_drives, input_undriven, write_to_input, write_to_output, output_shows, output_held, input_follows}
 use Rattle.laws.proofs.ports_go_one_way_in_modes_0_and_1.Goals as goal
 
-written : (c : Chip) (g : Group) (a b x d : ℕ) → c.phase ≡ Writing a b → own_address a g ≡ true → PortWritten c g a b (step_of c 2 x d).chip
+written : (c : Chip) (g : Group) (a b x d : ℕ) → c.phase ≡ Writing a b → own_address a g ≡ true → PortWritten c g a b (step_of c 2 x d).state
 written c g a b x d phase own = record {
   to_input = write_to_input c g a b x d phase own;
   to_output = write_to_output c g a b x d phase own;

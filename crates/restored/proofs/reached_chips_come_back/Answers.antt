@@ -18,5 +18,5 @@ back c has = record { has = has; saved = has_image_lem c has; restored = comes_b
 pub returns : goal.returns
 returns c = record {
   reached = λ ed v es. back (run (power_up_as ed v) es) (reached ed v es);
-  stays = λ c e has. back (stepped c e).chip (image_stays c e has);
+  stays = λ c e has. back (stepped c e).state (image_stays c e has);
 }
