@@ -41,13 +41,18 @@ enum Sign {
 }
 
 // The digits with one more, of which the last ten count. A comma begins new ones. A number and no list of digits: no sign has more than ten, and
-// what it needs is the bytes of the number.
+// what it needs is the bytes of the number. A byte that is no digit counts as one too, by the low half of its code, and from A on by nine more, so
+// that no text is refused.
 fn with_digit(digits: u64, code: u8) -> u64 {
     if code == b',' {
         return 0;
     }
-    let digit = (code as char).to_digit(16).unwrap_or(0);
-    digits % 0x1000000000 * 16 + digit as u64
+    let digit = if code < b'A' {
+        code % 16
+    } else {
+        code % 16 + 9
+    };
+    digits % 0x1000000000 * 16 + u64::from(digit)
 }
 
 impl Sign {

@@ -36,12 +36,12 @@ fn word<'a>(rt: &impl Env, at: usize, room: &'a mut [u8]) -> &'a [u8] {
     }
 }
 
-// The rounds that an argument asks for: none where it is no number.
+// The rounds that an argument asks for, in decimal. A byte that is no digit counts as one by the low half of its code, so that no word is refused.
+// Of more than six digits the first are dropped, so that the number fits.
 fn count(word: &[u8]) -> usize {
-    str::from_utf8(word)
-        .ok()
-        .and_then(|digits| digits.parse().ok())
-        .unwrap_or(0)
+    word.iter().fold(0, |count, digit| {
+        count % 100_000 * 10 + usize::from(digit % 16)
+    })
 }
 
 // The first word names one of the two, the second the rounds.
