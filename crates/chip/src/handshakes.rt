@@ -17,13 +17,15 @@ pub const ACK_A: u8 = 6;
 /// Summary.
 pub const LINE_B: u8 = 2;
 
-// The pins of port C on which the chip shows whether a byte is there: IBF of group A, OBF of group A, and the pin of group B, which is its IBF
-// or its OBF.
-pub(super) const IBF_A: u8 = 5;
+/// The pin of port C that is IBF of group A, where port A takes bytes in. Data sheet: Mode Definition Summary.
+pub const IBF_A: u8 = 5;
 
-pub(super) const OBF_A: u8 = 7;
+/// The pin of port C that is OBF of group A, where port A gives bytes out. Data sheet: Mode Definition Summary.
+pub const OBF_A: u8 = 7;
 
-pub(super) const FLAG_B: u8 = 1;
+/// The pin of port C that is group B's flag: its IBF where port B is an input, its OBF where it is an output. Data sheet: Mode Definition
+/// Summary.
+pub const FLAG_B: u8 = 1;
 
 // Whether the bus finds the group's port at the address.
 fn own_address(address: u8, group: Group) -> bool
@@ -35,8 +37,8 @@ fn own_address(address: u8, group: Group) -> bool
     }
 }
 
-// The pin of the channel's STB or ACK.
-pub(super) fn line_pin(group: Group, side: Side) -> u8
+/// The pin of port C that is the channel's STB or ACK, where the mode word strobes the channel. Data sheet: Mode Definition Summary.
+pub fn line_pin(group: Group, side: Side) -> u8
     ensures { result ≡ line_pin group side }
 {
     match (group, side) {
@@ -46,8 +48,8 @@ pub(super) fn line_pin(group: Group, side: Side) -> u8
     }
 }
 
-// Whether the channel's own cycle runs: a read of its port for an input, a write to it for an output.
-pub(super) fn running(phase: Phase, group: Group, side: Side) -> bool
+/// Whether the channel's own cycle runs: a read of its port for an input, a write to it for an output.
+pub fn running(phase: Phase, group: Group, side: Side) -> bool
     ensures { result ≡ running phase group side }
 {
     match (side, phase) {
@@ -58,8 +60,8 @@ pub(super) fn running(phase: Phase, group: Group, side: Side) -> bool
 }
 
 impl Enables {
-    // Whether the channel's interrupt is enabled.
-    pub(super) fn enables(&self, group: Group, side: Side) -> bool
+    /// Whether the channel's interrupt is enabled. Data sheet: Interrupt Control Functions.
+    pub fn enables(&self, group: Group, side: Side) -> bool
         ensures { result ≡ enable_of self.now group side }
     {
         match (group, side) {
@@ -70,8 +72,8 @@ impl Enables {
     }
 }
 
-// Whether the mode word strobes the channel.
-pub(super) fn strobes(word: u8, group: Group, side: Side) -> bool
+/// Whether the mode word strobes the channel. Data sheet: Mode Definition Format.
+pub fn strobes(word: u8, group: Group, side: Side) -> bool
     ensures { result ≡ strobed word group side }
 {
     match side {

@@ -29,10 +29,11 @@ pub enum Explained {
     BothHalves(Reason, Reason),
 }
 
-// What is said of a half that there is none of, and of one whose group is in mode 0, in the numbers that the reasons go on with.
-const NO_HALF: u8 = 0;
+/// What is said, in numbers, of a half that there is none of, since the port goes the other way in mode 1. The numbers of the reasons go on from here.
+pub const NO_HALF: u8 = 0;
 
-const MODE_ZERO: u8 = 1;
+/// What is said, in numbers, of either half of a group in mode 0.
+pub const MODE_ZERO: u8 = 1;
 
 /// What is said of each half, in numbers, as C has it.
 #[derive(Clone, Copy, Debug, PartialEq, Eq)]

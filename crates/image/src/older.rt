@@ -5,7 +5,7 @@ ghost use Rattle.image.specs.OlderLoaded.{phase_as};
 ghost use Rattle.image.specs.OlderGood.{cycle_fits, bytes_fit, is_older};
 ghost use Rattle.image.specs.OlderSlices.{moved_of, converted_of, converted_in};
 
-mod places;
+pub mod places;
 
 use super::{check, places as now, save};
 use bus::Phase;

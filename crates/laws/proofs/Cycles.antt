@@ -1,6 +1,6 @@
 -- The facts about cycles, of the chip of either edition: those of every device on the bus, applied to this one ("Events and numbers", "State").
 -- Rests on the bus's Facts and Numbering, and chip's Outcome.
-use Rattle.std.proofs.Common.{◌≡◌, ◌∙◌, refl, ap, true, false, ℕ, get_or}
+use Rattle.std.proofs.Common.{◌≡◌, ◌∙◌, refl, true, false, ℕ, get_or}
 use Rattle.bus.specs.Kinds.{no_kind}
 use Rattle.bus.specs.declared.Phase.{Phase}
 use Rattle.bus.specs.Refusals.{row, rows, number_of}

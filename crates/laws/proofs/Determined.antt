@@ -44,6 +44,18 @@ clear_determined c x y p q = equations_determine (refl, p) (refl, q)
 pub force_determined : Determines chip_says.channel.Channel.force.ended chip.channel.Channel.force.Reads.Learnt
 force_determined c x y p q = equations_determine (refl, p) (refl, q)
 
+pub line_pin_determined : Determines chip_says.handshakes.line_pin.ended chip.handshakes.line_pin.Reads.Learnt
+line_pin_determined c x y = equation_determines
+
+pub running_determined : Determines chip_says.handshakes.running.ended chip.handshakes.running.Reads.Learnt
+running_determined c x y = equation_determines
+
+pub enables_determined : Determines chip_says.Enables.enables.ended chip.Enables.enables.Reads.Learnt
+enables_determined c x y = equation_determines
+
+pub strobes_determined : Determines chip_says.handshakes.strobes.ended chip.handshakes.strobes.Reads.Learnt
+strobes_determined c x y = equation_determines
+
 pub edition_numbered_determined : Determines chip_says.Edition.numbered.ended chip.Edition.numbered.Reads.Learnt
 edition_numbered_determined c x y = equation_determines
 

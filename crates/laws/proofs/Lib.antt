@@ -29,6 +29,7 @@ pub mod ModeTwo
 pub mod OnePin
 pub mod PortC
 pub mod LatchOfC
+pub mod LinesByMasks
 pub mod Chart
 pub mod OtherModels
 pub mod Marked

@@ -6,6 +6,7 @@ pub mod PowerUp
 pub mod Ports
 pub mod Chart
 pub mod PortC
+pub mod StatusWord
 pub mod OnePin
 pub mod Enables
 pub mod Loads

@@ -36,6 +36,7 @@ ghost use Rattle.laws.specs.Chart.{AsCharted};
 ghost use Rattle.laws.specs.ChannelPins.{PinsUsed, PinsShown, FreePin};
 ghost use Rattle.laws.specs.Ports.{Gives, Takes, PortWritten, GivesAndTakes};
 ghost use Rattle.laws.specs.PortC.{LinesWritten, LinesHeld, driven_by, LineShown};
+ghost use Rattle.laws.specs.StatusWord.{read_by_status, pins_by_status};
 ghost use Rattle.laws.specs.OnePin.{PinPut};
 ghost use Rattle.laws.specs.Forcing.{Forced};
 ghost use Rattle.laws.specs.Enables.{moves_enables, EnablesStay};
@@ -144,6 +145,14 @@ pub fn port_c_goes_by_plain_bits()
     ensures held { (c : Chip) (k x d : ℕ) → ¬ (k ≡ 0) → LinesHeld c k x d }
     ensures drives { (c : Chip) (n : ℕ) → n < 8 → driven c n ≡ driven_by c.core.word n }
     ensures shown { (c : Chip) (n : ℕ) → n < 8 → LineShown c n }
+{}
+
+/// The status word, whole, is what a read of port C tells of the pins that handshakes have, and what those of them show that the chip drives, all but
+/// STB and ACK. A free pin tells its bit of the latch if it is an output, and else the level outside.
+#[tactic(auto, using(crate::proofs::LinesByMasks::lines_by_masks, crate::proofs::LinesByMasks::pins_by_masks))]
+pub fn the_status_word_is_what_port_c_tells()
+    ensures read { (c : Chip) → c.core.word < 256 → read_by_status c ≡ read_of c 2 }
+    ensures shown { (c : Chip) → c.core.word < 256 → pins_by_status c ≡ pins_of c 2 }
 {}
 
 /// Bit set/reset puts one pin of port C: a free output's bit in the latch, the enable of the channel whose STB or ACK is there, or the flag of
