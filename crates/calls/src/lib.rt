@@ -20,7 +20,7 @@ pub fn towanchor_power_up(image: &mut [u8]) -> u32
     ensures after { image.new ≡ power_up_image image.old }
 {
     let chip = Chip::default();
-    answer(written::start(image, &chip))
+    written::start(image, &chip)
 }
 
 /// The chip at power-up, under levels that the host names for ports A, B and C. 8 where there are more or fewer bytes than an image has.
@@ -38,7 +38,7 @@ pub fn towanchor_power_up_with_levels(
         b: levels_b,
         c: levels_c,
     };
-    answer(written::start(image, &Chip::new(Edition::Older, levels)))
+    written::start(image, &Chip::new(Edition::Older, levels))
 }
 
 /// The same of a chip of the edition that the host names, by its number in an image. 8 where there are more or fewer bytes than an image
@@ -58,7 +58,7 @@ pub fn towanchor_power_up_as(
         b: levels_b,
         c: levels_c,
     };
-    answer(written::start_as(image, edition, levels))
+    written::start_as(image, edition, levels)
 }
 
 /// An older image made the image of the same state. 8 where the bytes are no older image, or where there is not the room of an image.

@@ -4,32 +4,34 @@ ghost use Rattle.image.specs.Slices.{saved_in};
 ghost use Rattle.calls.specs.Answers.{answered};
 ghost use Rattle.calls.specs.Calls.{power_up_answer, power_up_as_answer, power_up_as_image, convert_answer, convert_image};
 
-use super::refusals::CallRefusal;
+use super::refusals::{CallRefusal, answer};
 use chip::{Chip, Edition, Levels};
 use image::older;
 use image::places::LENGTH;
 
-// A new image, whatever stood there.
+// A new image, whatever stood there. In the final number, so that nothing stands between it and the caller.
 #[tactic(auto, unfolding(image::specs::Slices::saved_in))]
-pub(super) fn start(image: &mut [u8], chip: &Chip) -> Result<u16, CallRefusal>
-    ensures value { answered result ≡ power_up_answer image.old }
+pub(super) fn start(image: &mut [u8], chip: &Chip) -> u32
+    ensures value { result ≡ power_up_answer image.old }
     ensures after { image.new ≡ saved_in image.old chip.now }
 {
     if image.len() != LENGTH {
-        return Err(CallRefusal::NoState);
+        return answer(Err(CallRefusal::NoState));
     }
     image::save::state(image, chip);
-    Ok(0)
+    answer(Ok(0))
 }
 
 // The same of a chip of the edition that has the number.
 #[tactic(auto, using(crate::proofs::Rewritten::by_edition))]
-pub(super) fn start_as(image: &mut [u8], number: u8, levels: Levels) -> Result<u16, CallRefusal>
-    ensures value { answered result ≡ power_up_as_answer image.old number }
+pub(super) fn start_as(image: &mut [u8], number: u8, levels: Levels) -> u32
+    ensures value { result ≡ power_up_as_answer image.old number }
     ensures after { image.new ≡ power_up_as_image image.old number levels.a levels.b levels.c }
 {
-    let edition = Edition::numbered(number).ok_or(CallRefusal::NoEdition)?;
-    start(image, &Chip::new(edition, levels))
+    match Edition::numbered(number) {
+        Some(edition) => start(image, &Chip::new(edition, levels)),
+        None => answer(Err(CallRefusal::NoEdition)),
+    }
 }
 
 #[tactic(auto, using(crate::proofs::Rewritten::from_older))]

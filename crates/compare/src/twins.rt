@@ -69,12 +69,17 @@ pub(super) fn counted(tally: &Tally) -> Counted {
 pub(super) fn tallies(chip: &Chip) -> Tallies {
     let Core { a, b, .. } = &chip.core;
     let channels = [
-        counted(&a.input.tally),
-        counted(&a.output.tally),
-        counted(&b.input.tally),
-        counted(&b.output.tally),
+        &a.input.tally,
+        &a.output.tally,
+        &b.input.tally,
+        &b.output.tally,
     ];
-    std::array::from_fn(|at| channels[at / PER_CHANNEL][at % PER_CHANNEL])
+    let mut all = [0; 28];
+    // Channel by channel: to ask at each of the places which channel has it would take a sixth of a whole run.
+    for (places, tally) in all.chunks_exact_mut(PER_CHANNEL).zip(channels) {
+        places.copy_from_slice(&counted(tally));
+    }
+    all
 }
 
 // How far each tally moved, which may have passed its end.

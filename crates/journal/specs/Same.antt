@@ -1,8 +1,9 @@
 -- When two chips are the same: a chip is told by the numbers of its fields, one after the other.
-use Rattle.std.specs.Prelude.{Bool, cond, List, [], ◌∷◌, ◌++◌, ℕ, eqb}
+use Rattle.std.specs.Prelude.{Bool, cond, not, ◌&&◌, ◌||◌, List, [], ◌∷◌, ◌++◌, ℕ, eqb}
 use Rattle.bits.specs.Same.{same_bytes}
 use Rattle.bus.specs.declared.Phase.{Phase}
 use Rattle.bus.specs.declared.Phase.TheVariants.{Idle, Reading, Writing}
+use Rattle.bus.specs.Refusals.{is_busy}
 use Rattle.chip.specs.declared.channel.Fill.{Fill}
 use Rattle.chip.specs.declared.channel.Fill.TheVariants.{Empty, Waiting, Fetching}
 use Rattle.chip.specs.declared.channel.Tally.{Tally}
@@ -13,6 +14,7 @@ use Rattle.chip.specs.declared.Core.{Core}
 use Rattle.chip.specs.declared.Edition.{Edition}
 use Rattle.chip.specs.declared.Edition.TheVariants.{Older, Newer}
 use Rattle.chip.specs.declared.Chip.{Chip}
+use Rattle.chip.specs.State.{power_up_word}
 use Rattle.chip.specs.Addresses.{port_a, port_b}
 use Rattle.journal.specs.declared.compact.Standing.{Standing}
 
@@ -62,3 +64,23 @@ of_group p = record { levels = p.outside; latch = p.input.latch }
 
 abbrev pub standing_at : Chip → ℕ → Standing
 standing_at c x = cond (eqb x port_a) (of_group c.core.a) (cond (eqb x port_b) (of_group c.core.b) (record { levels = c.core.c.outside; latch = 0 }))
+
+-- Both channels of a port empty, with nothing in their latches, as a reset leaves them.
+abbrev pub is_clear : Channel → Bool
+is_clear ch = eqb (of_fill ch.fill) 0 && eqb ch.latch 0
+
+abbrev pub is_cleared : Port → Bool
+is_cleared p = is_clear p.input && is_clear p.output
+
+abbrev pub none_is_on : Enables → Bool
+none_is_on e = not (e.input || e.output || e.b)
+
+-- A chip as a reset leaves it: no cycle runs, the mode word is that of power-up, no enable and no latch is set, and every channel is empty.
+abbrev pub is_at_rest : Chip → Bool
+is_at_rest c =
+    not (is_busy c.phase)
+    && eqb c.core.word power_up_word
+    && eqb c.core.c.latch 0
+    && none_is_on c.core.inte
+    && is_cleared c.core.a
+    && is_cleared c.core.b

@@ -5,14 +5,16 @@ ghost use Rattle.bus.specs.Answers.{raw, after_event, given_for};
 ghost use Rattle.bus.specs.Device.{number_in};
 ghost use Rattle.chip.specs.Step.{device};
 ghost use Rattle.journal.specs.Words.{event_in, is_frame, all_frames};
-ghost use Rattle.journal.specs.Same.{same_state, standing_at};
+ghost use Rattle.journal.specs.Same.{same_state, standing_at, is_cleared, none_is_on, is_at_rest};
 ghost use Rattle.journal.specs.Trim.{after_word, kept_from, filled_up};
 
 use super::words::Logged;
+use bus::Phase;
 use bus::devices::Device;
 use bus::events::Event;
 use bus::refusals::judge;
-use chip::{Chip, PORT_A, PORT_B};
+use chip::channel::Fill;
+use chip::{Chip, Enables, PORT_A, PORT_B, POWER_UP_WORD, Port};
 
 // The levels on a port's lines, and what stands in the latch of its input. Port C has no such latch.
 #[derive(Clone, Copy, Debug, PartialEq, Eq)]
@@ -53,9 +55,36 @@ fn levels_change(chip: &mut Chip, port: u8, levels: u8) -> bool
     standing_at(chip, port) != before
 }
 
-// Lets an event that is accepted happen to the chip, and says whether it is another one then. A cycle that begins or ends changes the bus at least,
-// so that only a reset has the whole chip copied and compared.
-#[tactic(auto, using(crate::proofs::Changing::cycle_changes, crate::proofs::Derived::agree))]
+// Whether both channels of a port are as a reset leaves them. It moves a tally only where a byte waits, so that none is asked.
+fn is_cleared(port: &Port) -> bool
+    ensures { result ≡ is_cleared port.now }
+{
+    port.input.fill == Fill::Empty
+        && port.input.latch == 0
+        && port.output.fill == Fill::Empty
+        && port.output.latch == 0
+}
+
+fn none_is_on(enables: &Enables) -> bool
+    ensures { result ≡ none_is_on enables.now }
+{
+    !(enables.input || enables.output || enables.b)
+}
+
+// Whether the chip is as a reset leaves it. To copy the whole chip and compare it would take twice the time.
+fn is_at_rest(chip: &Chip) -> bool
+    ensures { result ≡ is_at_rest chip.now }
+{
+    matches!(chip.phase, Phase::Idle)
+        && chip.core.word == POWER_UP_WORD
+        && chip.core.c.latch == 0
+        && none_is_on(&chip.core.inte)
+        && is_cleared(&chip.core.a)
+        && is_cleared(&chip.core.b)
+}
+
+// Lets an event that is accepted happen to the chip, and says whether it is another one then. A cycle that begins or ends changes the bus at least.
+#[tactic(auto, using(crate::proofs::Changing::cycle_changes, crate::proofs::AtRest::reset_told))]
 fn accept_changes(chip: &mut Chip, event: Event) -> bool
     requires { number_in device chip.old (raw event).kind (raw event).first ≡ 0 }
     ensures chip_after { chip.new ≡ after_event device event chip.old }
@@ -63,9 +92,9 @@ fn accept_changes(chip: &mut Chip, event: Event) -> bool
 {
     match event {
         Event::Reset => {
-            let before = *chip;
+            let changes = !is_at_rest(chip);
             chip.accept(event);
-            *chip != before
+            changes
         }
         Event::BeginRead(_) | Event::EndCycle | Event::BeginWrite(_, _) => {
             chip.accept(event);

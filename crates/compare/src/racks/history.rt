@@ -19,15 +19,15 @@ pub(super) struct Pair {
     pub(super) apart: Answer,
 }
 
-// Both models; the bases of their cards, by which events are drawn; and who answers at each address.
+// Both models; the bases of their cards, by which events are drawn; and who answers at each address, a long table, which is lent.
 #[derive(Drop)]
-pub(super) struct Racks {
+pub(super) struct Racks<'a> {
     pub(super) pair: Pair,
     pub(super) bases: Bases,
-    pub(super) who: Who,
+    pub(super) who: &'a Who,
 }
 
-impl Racks {
+impl Racks<'_> {
     // Counts what an event did.
     fn count(&self, counts: &mut Counts, event: Event, before: &Pair) {
         let aim = Aim {
@@ -40,7 +40,7 @@ impl Racks {
     }
 }
 
-impl Models for Racks {
+impl Models for Racks<'_> {
     type Counts = Counts;
 
     type Event = Event;
@@ -66,7 +66,7 @@ impl Models for Racks {
         let Pair { proved, apart } = &mut self.pair;
         let answer = proved.device.step_numbers(kind, first, second, third);
         proved.told(answer);
-        *apart = apart::event(before.apart.shelf, &self.who, kind, first, second, third);
+        *apart = apart::event(before.apart.shelf, self.who, kind, first, second, third);
         self.count(counts, event, &before);
     }
 
@@ -78,7 +78,7 @@ impl Models for Racks {
 }
 
 // A history of those steps, which leaves the last number that it drew.
-pub(super) fn run(counts: &mut Counts, mut racks: Racks, seed: u64, steps: Range<u64>) -> u64 {
+pub(super) fn run(counts: &mut Counts, mut racks: Racks<'_>, seed: u64, steps: Range<u64>) -> u64 {
     counts.history();
     course::run(&mut racks, counts, seed, steps)
 }

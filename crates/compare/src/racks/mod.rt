@@ -21,6 +21,7 @@ use bus::refusals;
 use counts::Counts;
 use history::{Pair, Racks};
 use rack::Rack;
+use who::Who;
 
 // The step at which long histories end: they have two rounds.
 const LONG: u64 = 600;
@@ -29,29 +30,27 @@ const LONG: u64 = 600;
 const SHORT: u64 = draws::SET_UP + 24;
 
 // Both models build a rack of the bases, one of none where that is refused, and their numbers are those of the building.
-fn built(counts: &mut Counts, bases: Bases) -> Racks {
+fn built<'a>(counts: &mut Counts, who: &'a mut Who, bases: Bases) -> Racks<'a> {
     let listed = bases.list.len().min(bases.count as usize);
     let built = Rack::new(&bases.list[..listed]);
     let number = refusals::number(&built);
     counts::build(counts, number);
-    let mut who = [who::NOBODY; 65536];
     let pair = Pair {
         proved: Stepped {
             device: built.unwrap_or_default(),
             number,
             byte: 0,
         },
-        apart: build::build(&mut who, bases),
+        apart: build::build(who, bases),
     };
     Racks { pair, bases, who }
 }
 
 // Both models are in one state, and there is no number yet.
-fn put(bases: Bases, seed: u64) -> Racks {
+fn put(who: &mut Who, bases: Bases, seed: u64) -> Racks<'_> {
     let rack = states::arbitrary(bases, seed);
     let shelf = states::twin(&rack);
-    let mut who = [who::NOBODY; 65536];
-    who::enter(&mut who, bases::in_places(bases), shelf.cards);
+    who::enter(who, bases::in_places(bases), shelf.cards);
     let pair = Pair {
         proved: Stepped::at_start(rack),
         apart: Answer {
@@ -64,17 +63,20 @@ fn put(bases: Bases, seed: u64) -> Racks {
 }
 
 fn of_good_bases(counts: &mut Counts, seed: u64) -> u64 {
-    let racks = built(counts, bases::good_list(seed));
+    let mut who = [who::NOBODY; 65536];
+    let racks = built(counts, &mut who, bases::good_list(seed));
     history::run(counts, racks, far(seed), 0..LONG)
 }
 
 fn of_any_bases(counts: &mut Counts, seed: u64) -> u64 {
-    let racks = built(counts, bases::any_list(seed));
+    let mut who = [who::NOBODY; 65536];
+    let racks = built(counts, &mut who, bases::any_list(seed));
     history::run(counts, racks, far(seed), draws::SET_UP..SHORT)
 }
 
 fn of_any_state(counts: &mut Counts, seed: u64) -> u64 {
-    let racks = put(bases::wild_list(seed), seed);
+    let mut who = [who::NOBODY; 65536];
+    let racks = put(&mut who, bases::wild_list(seed), seed);
     history::run(counts, racks, far(seed), draws::SET_UP..SHORT)
 }
 
