@@ -1,6 +1,7 @@
 pub mod Packed
 pub mod Ahead
 pub mod Exact
+pub mod Derived
 pub mod AtRest
 pub mod Changing
 pub mod Keeping

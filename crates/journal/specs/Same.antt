@@ -65,7 +65,7 @@ of_group p = record { levels = p.outside; latch = p.input.latch }
 abbrev pub standing_at : Chip → ℕ → Standing
 standing_at c x = cond (eqb x port_a) (of_group c.core.a) (cond (eqb x port_b) (of_group c.core.b) (record { levels = c.core.c.outside; latch = 0 }))
 
--- Both channels of a port empty, with nothing in their latches, as a reset leaves them.
+-- A channel as a reset leaves it, empty and with nothing in its latch; and a port, both of whose channels are so.
 abbrev pub is_clear : Channel → Bool
 is_clear ch = eqb (of_fill ch.fill) 0 && eqb ch.latch 0
 

@@ -55,7 +55,7 @@ fn levels_change(chip: &mut Chip, port: u8, levels: u8) -> bool
     standing_at(chip, port) != before
 }
 
-// Whether both channels of a port are as a reset leaves them. It moves a tally only where a byte waits, so that none is asked.
+// Whether both channels of a port are as a reset leaves them. A reset moves a tally only where a byte waits, so that none is asked.
 fn is_cleared(port: &Port) -> bool
     ensures { result ≡ is_cleared port.now }
 {
